@@ -1,0 +1,54 @@
+//! Fields at fixed places in a text of bytes, read and written in place, numbers with the highest
+//! byte first. No handle.
+#![tactic(auto)]
+
+ghost use Rattle.std.specs.Prelude.{◌≡◌, ◌+◌, ◌≤◌, ◌++◌, length, take, drop};
+ghost use Rattle.wire.specs.Pieces.{piece, number_at};
+
+use byteorder::{BigEndian, ByteOrder};
+
+/// The number in the two bytes from place `at` on.
+#[tactic(auto, unfolding(crate::specs::Pieces::number_at))]
+pub fn u16_at(bytes: &[u8], at: usize) -> u16
+    requires { at + 2 ≤ length bytes.now }
+    ensures { result ≡ number_at 2 bytes.now at }
+{
+    BigEndian::read_u16(&bytes[at..at + 2])
+}
+
+/// The number in the four bytes from place `at` on.
+#[tactic(auto, unfolding(crate::specs::Pieces::number_at))]
+pub fn u32_at(bytes: &[u8], at: usize) -> u32
+    requires { at + 4 ≤ length bytes.now }
+    ensures { result ≡ number_at 4 bytes.now at }
+{
+    BigEndian::read_u32(&bytes[at..at + 4])
+}
+
+/// The number in the eight bytes from place `at` on.
+#[tactic(auto, unfolding(crate::specs::Pieces::number_at))]
+pub fn u64_at(bytes: &[u8], at: usize) -> u64
+    requires { at + 8 ≤ length bytes.now }
+    ensures { result ≡ number_at 8 bytes.now at }
+{
+    BigEndian::read_u64(&bytes[at..at + 8])
+}
+
+/// The `N` bytes from place `at` on.
+pub fn array_at<const N: usize>(bytes: &[u8], at: usize) -> [u8; N]
+    requires { at + N ≤ length bytes.now }
+    ensures { result ≡ piece N bytes.now at }
+{
+    let mut array = [0; N];
+    array.copy_from_slice(&bytes[at..at + N]);
+    array
+}
+
+/// Writes `piece` from place `at` on. The bytes before and behind it stay.
+pub fn put(bytes: &mut [u8], at: usize, piece: &[u8])
+    requires { at + length piece.now ≤ length bytes.old }
+    ensures written { take (at + length piece.now) bytes.new ≡ take at bytes.old ++ piece.now }
+    ensures rest { drop (at + length piece.now) bytes.new ≡ drop (at + length piece.now) bytes.old }
+{
+    bytes[at..at + piece.len()].copy_from_slice(piece);
+}
