@@ -1,0 +1,17 @@
+-- When a vote is good: its replica is one of the committee, and signed the statement of its view and id
+-- (RFC 8554, section 5.4.2, for the signature).
+use Rattle.std.specs.Prelude.{◌<◌, ℕ, List}
+use Rattle.lms_tree.specs.Tree.{Verifies}
+use Rattle.blocks.specs.Committees.{n_of, key_id_at, root_at}
+use Rattle.blocks.specs.Genesis.{chain_id_of}
+use Rattle.certificates.specs.Statements.{statement_text}
+
+-- the signature verifies under the replica's key, on this view and id of the committee's chain
+abbrev pub IsSignedBy : List ℕ → ℕ → ℕ → List ℕ → List ℕ → Type 0
+IsSignedBy committee replica view id signature =
+    Verifies (key_id_at committee replica) (root_at committee replica) (statement_text (chain_id_of committee) view id) signature
+
+-- the vote is by a replica of the committee, and signed by it
+pub record IsGoodVote (committee : List ℕ) (replica view : ℕ) (id signature : List ℕ) : Type 0 where
+  pub known : replica < n_of committee
+  pub signed : IsSignedBy committee replica view id signature

@@ -1,0 +1,62 @@
+//! Votes, and when they are good.
+
+ghost use Rattle.std.specs.Prelude.{◌≡◌, ◌<◌, ◌≤◌, ◌↔◌, IsTrue, IsOk, OnOk, IfErr};
+ghost use Rattle.lms_tree.specs.Tree.{Verifies};
+ghost use Rattle.blocks.specs.Committees.{n_of};
+ghost use Rattle.certificates.specs.Votes.{IsSignedBy, IsGoodVote};
+
+use crate::statement::Statement;
+use blocks::{CommitteeView, Id};
+use lms_tree::{PublicKey, verify};
+
+/// A replica's signed vote for a block.
+#[derive(Clone, Copy, Debug)]
+pub struct SignedVote {
+    /// The number of the replica in its committee, from 0.
+    pub replica: u16,
+    /// The block's view.
+    pub view: u64,
+    /// The block's id.
+    pub id: Id,
+    /// The LMS signature of the statement, 1,452 bytes (RFC 8554, section 5.4).
+    pub signature: [u8; 1452],
+}
+
+/// Checks signatures. What is generic over it can be watched by a test; the answer is always that of
+/// RFC 8554, section 5.4.2.
+pub trait Verifier {
+    /// Whether the signature is one of the message under the key.
+    fn verify(&self, key: &PublicKey, message: &[u8], signature: &[u8]) -> bool
+        ensures { IsTrue result ↔ Verifies key.now.key_id key.now.root message.now signature.now };
+}
+
+/// Checks signatures by `lms_tree::verify`.
+#[derive(Clone, Copy, Debug, Default)]
+pub struct LmsVerifier;
+
+impl Verifier for LmsVerifier {
+    fn verify(&self, key: &PublicKey, message: &[u8], signature: &[u8]) -> bool {
+        verify(key, message, signature).is_ok()
+    }
+}
+
+/// Whether a replica of the committee signed this view and id of the committee's chain. The signature is
+/// read in place.
+pub fn is_signed_by<V: Verifier>(
+    verifier: &V,
+    committee: &CommitteeView,
+    replica: u16,
+    view: u64,
+    id: &Id,
+    signature: &[u8],
+) -> bool
+    requires { replica < n_of committee.now }
+    ensures { IsTrue result ↔ IsSignedBy committee.now replica view id.now signature.now }
+{
+    let statement = Statement {
+        chain: committee.chain(),
+        view,
+        id: *id,
+    };
+    verifier.verify(&committee.key(replica), &statement.to_bytes(), signature)
+}

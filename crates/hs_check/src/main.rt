@@ -1,0 +1,35 @@
+//! Judges one verdict under one committee: `hs_check COMMITTEE VERDICT`, or with no words two lines of
+//! hex digits on standard input. docs/hs_check.md is its manual page.
+#![tactic(auto)]
+
+mod fault;
+mod input;
+mod judge;
+mod line;
+mod program;
+#[cfg(test)]
+mod program_tests;
+#[cfg(test)]
+mod tests;
+
+use fault::Fault;
+use std::env;
+use std::process::ExitCode;
+use streams::StdSink;
+
+fn main(rt: HostRuntime) -> ExitCode {
+    let mut out = StdSink::new(rt.stdout());
+    let mut faults = StdSink::new(rt.stderr());
+    let words = match env::args(&rt) {
+        Ok(words) => words.skip(1).collect::<Vec<String>>(rt.alloc()),
+        Err(_) => {
+            Fault::Usage.tell(&mut faults);
+            return ExitCode::from(judge::FAULT);
+        }
+    };
+    let Ok(words) = words else {
+        Fault::Memory.tell(&mut faults);
+        return ExitCode::from(judge::FAULT);
+    };
+    ExitCode::from(program::run(&rt, rt.alloc(), &words, rt.stdin(), &mut out, &mut faults))
+}

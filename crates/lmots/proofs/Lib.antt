@@ -1,0 +1,5 @@
+pub mod ChainLemmas
+pub mod BlockLemmas
+pub mod JoinedLemmas
+pub mod DigestBytes
+pub mod SignedVerifies

@@ -1,0 +1,41 @@
+-- The keys of LM-OTS with LMOTS_SHA256_N32_W8 (RFC 8554, sections 3 and 4 and Appendix A), as functions
+-- on lists of bytes. `id` is a key's id of 16 bytes, `seed` its seed of 32 bytes, and q the number of
+-- one of its one-time keys. Each one-time key has 34 chains of 255 steps.
+use Rattle.std.specs.Prelude.{ℕ, zero, suc, List, [], ◌∷◌, ◌++◌, nat_le, if◌then◌else◌}
+use Rattle.byteorder.specs.Endian.{big_bytes}
+use Rattle.sha2.specs.Sha256.{sha256}
+
+-- what stands first in all that is hashed: the id, q, and the number of a chain or of a use
+unfoldable pub prefix : List ℕ → ℕ → ℕ → List ℕ
+prefix id q number = id ++ big_bytes 4 q ++ big_bytes 2 number
+
+-- f 0, f 1, up to f (n - 1), end to end
+unfoldable pub joined : (ℕ → List ℕ) → ℕ → List ℕ
+joined f zero = []
+joined f (suc n) = joined f n ++ f n
+
+-- step j from the value x, of the chain whose prefix is `head` (section 4.3)
+unfoldable pub chain_step : List ℕ → ℕ → List ℕ → List ℕ
+chain_step head j x = sha256 (head ++ j ∷ [] ++ x)
+
+-- x after the steps from, from + 1, up to until - 1 of that chain
+unfoldable pub chain_steps : List ℕ → ℕ → ℕ → List ℕ → List ℕ
+chain_steps head from zero x = x
+chain_steps head from (suc until) x =
+    if nat_le from until then chain_step head until (chain_steps head from until x) else x
+
+-- x_q[i], where chain i begins (Appendix A)
+unfoldable pub ots_private : List ℕ → List ℕ → ℕ → ℕ → List ℕ
+ots_private id seed q i = sha256 (prefix id q i ++ 0xff ∷ [] ++ seed)
+
+-- y[i], where chain i ends (section 4.3)
+unfoldable pub chain_end : List ℕ → List ℕ → ℕ → ℕ → List ℕ
+chain_end id seed q i = chain_steps (prefix id q i) 0 255 (ots_private id seed q i)
+
+-- K, the public key whose chains end in y 0, up to y 33; 0x8080 is D_PBLC (section 4.3)
+unfoldable pub key_of_ends : List ℕ → ℕ → (ℕ → List ℕ) → List ℕ
+key_of_ends id q y = sha256 (prefix id q 0x8080 ++ joined y 34)
+
+-- the public key of a seed's one-time key q (section 4.3)
+abbrev pub ots_public_key : List ℕ → List ℕ → ℕ → List ℕ
+ots_public_key id seed q = key_of_ends id q (chain_end id seed q)

@@ -1,0 +1,52 @@
+//! The keys that a seed gives.
+
+ghost use Rattle.std.specs.Prelude.{◌≡◌};
+ghost use Rattle.lmots.specs.Chains.{ots_private, chain_end, ots_public_key};
+
+use crate::chains::{Chain, chain_steps, prefix};
+use sha2::{Digest, Sha256};
+
+/// The number of chains of a one-time key.
+pub(crate) const CHAINS: u16 = 34;
+
+/// The use D_PBLC of RFC 8554.
+pub(crate) const PUBLIC_KEY_USE: u16 = 0x8080;
+
+/// What a signer keeps to itself: the id of its key, 16 bytes, and the seed of all its one-time
+/// keys, 32 bytes. It has no `Debug`, so that no seed is printed by mistake.
+#[derive(Clone, Copy)]
+pub struct PrivateSeed {
+    pub key_id: [u8; 16],
+    pub seed: [u8; 32],
+}
+
+/// Where chain `i` of the one-time key `q` begins (RFC 8554, Appendix A), or a value for another use.
+#[tactic(auto, unfolding(crate::specs::Chains::ots_private, crate::specs::Chains::chain_step))]
+pub(crate) fn ots_private(secret: &PrivateSeed, q: u32, i: u16) -> [u8; 32]
+    ensures { result ≡ ots_private secret.now.key_id secret.now.seed q i }
+{
+    let mut chain = Chain::new(&prefix(&secret.key_id, q, i), &secret.seed);
+    chain.step(0xff);
+    chain.value()
+}
+
+#[tactic(auto, unfolding(crate::specs::Chains::chain_end))]
+fn chain_end(secret: &PrivateSeed, q: u32, i: u16) -> [u8; 32]
+    ensures { result ≡ chain_end secret.now.key_id secret.now.seed q i }
+{
+    let start = ots_private(secret, q, i);
+    chain_steps(&prefix(&secret.key_id, q, i), 0, 255, &start)
+}
+
+/// The public key of the one-time key `q`, 32 bytes (RFC 8554, section 4.3, algorithm 1).
+#[tactic(auto, using(crate::proofs::ChainLemmas::joined_none, crate::proofs::ChainLemmas::joined_more), unfolding(crate::specs::Chains::key_of_ends))]
+pub fn ots_public(secret: &PrivateSeed, q: u32) -> [u8; 32]
+    ensures { result ≡ ots_public_key secret.now.key_id secret.now.seed q }
+{
+    let mut hasher = Sha256::new();
+    hasher.update(prefix(&secret.key_id, q, PUBLIC_KEY_USE));
+    for i in 0..CHAINS {
+        hasher.update(chain_end(secret, q, i));
+    }
+    hasher.finalize()
+}

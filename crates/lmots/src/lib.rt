@@ -1,0 +1,11 @@
+//! One-time signatures: LM-OTS of RFC 8554 with SHA-256, 32-byte hashes and 8-bit coefficients
+//! (LMOTS_SHA256_N32_W8, type 4). No handle.
+#![tactic(auto)]
+
+mod chains;
+mod keys;
+mod signatures;
+
+pub use chains::prefix;
+pub use keys::{PrivateSeed, ots_public};
+pub use signatures::{OTS_SIGNATURE_LEN, OTS_TYPE, OtsRefusal, ots_candidate, ots_sign};

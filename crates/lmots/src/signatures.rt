@@ -1,0 +1,174 @@
+//! One-time signatures and the keys that they lead to.
+
+ghost use Rattle.std.specs.Prelude.{◌≡◌, ◌<◌, ◌↔◌, length, IsOk, IfOk, IfErr};
+ghost use Rattle.lmots.specs.Chains.{ots_public_key};
+ghost use Rattle.lmots.specs.Refusals.{number, IsOtsRefusal};
+ghost use Rattle.lmots.specs.Signatures.{message_hash, checksum, coefficients, randomizer, signed_value, ots_signature, IsOtsSignature, continued, candidate_key};
+
+use crate::chains::{chain_steps, prefix};
+use crate::keys::{CHAINS, PUBLIC_KEY_USE, PrivateSeed, ots_private};
+use sha2::{Digest, Sha256};
+use wire::{array_at, put, u32_at};
+
+/// The length of a one-time signature, in bytes.
+pub const OTS_SIGNATURE_LEN: usize = 1124;
+
+/// Where the randomizer stands in a one-time signature.
+const RANDOMIZER_AT: usize = 4;
+
+/// Where the values of the chains begin.
+const VALUES_AT: usize = 36;
+
+/// The type LMOTS_SHA256_N32_W8 of RFC 8554.
+pub const OTS_TYPE: u32 = 4;
+
+/// The use D_MESG of RFC 8554.
+const MESSAGE_USE: u16 = 0x8181;
+
+/// The number under which a seed gives the randomizer. No chain and no use has it.
+const RANDOMIZER_NUMBER: u16 = 0xfffd;
+
+#[tactic(auto, unfolding(crate::specs::Signatures::message_hash))]
+fn message_hash(key_id: &[u8; 16], q: u32, randomizer: &[u8; 32], message: &[u8]) -> [u8; 32]
+    ensures { result ≡ message_hash key_id.now q randomizer.now message.now }
+{
+    let mut hasher = Sha256::new();
+    hasher.update(prefix(key_id, q, MESSAGE_USE));
+    hasher.update(randomizer);
+    hasher.update(message);
+    hasher.finalize()
+}
+
+#[tactic(auto, unfolding(crate::specs::Signatures::checksum))]
+fn checksum(hash: &[u8; 32]) -> u16
+    ensures { result ≡ checksum hash.now }
+{
+    let mut steps_left = 0;
+    for byte in hash {
+        steps_left += 255 - u16::from(*byte);
+    }
+    steps_left
+}
+
+#[tactic(auto, using(wire::proofs::Numbers::filled), unfolding(crate::specs::Signatures::coefficients))]
+fn coefficients(hash: &[u8; 32]) -> [u8; 34]
+    ensures { result ≡ coefficients hash.now }
+{
+    let mut all = [0; 34];
+    put(&mut all, 0, hash);
+    put(&mut all, 32, &checksum(hash).to_be_bytes());
+    all
+}
+
+#[tactic(auto, unfolding(crate::specs::Signatures::signed_value))]
+fn signed_value(secret: &PrivateSeed, q: u32, coefficients: &[u8; 34], i: u16) -> [u8; 32]
+    requires { i < 34 }
+    ensures { result ≡ signed_value secret.now.key_id secret.now.seed q coefficients.now i }
+{
+    let start = ots_private(secret, q, i);
+    chain_steps(
+        &prefix(&secret.key_id, q, i),
+        0,
+        coefficients[i as usize],
+        &start,
+    )
+}
+
+/// The signature of a message under the one-time key `q`: the type at 0, the randomizer at 4 and a
+/// value of each chain from 36 on (RFC 8554, section 4.5, algorithm 3). A one-time key may sign one
+/// message only.
+#[tactic(auto, using(crate::proofs::ChainLemmas::joined_none, crate::proofs::ChainLemmas::joined_more), unfolding(crate::specs::Signatures::ots_signature, crate::specs::Signatures::randomizer))]
+pub fn ots_sign(secret: &PrivateSeed, q: u32, message: &[u8]) -> [u8; OTS_SIGNATURE_LEN]
+    ensures exact { result ≡ ots_signature secret.now.key_id secret.now.seed q message.now }
+    ensures well_formed { IsOtsSignature result }
+    ensures verifies { candidate_key secret.now.key_id q message.now result
+        ≡ ots_public_key secret.now.key_id secret.now.seed q }
+{
+    let randomizer = ots_private(secret, q, RANDOMIZER_NUMBER);
+    let coefficients = coefficients(&message_hash(&secret.key_id, q, &randomizer, message));
+    let mut signature = [0; OTS_SIGNATURE_LEN];
+    put(&mut signature, 0, &OTS_TYPE.to_be_bytes());
+    put(&mut signature, RANDOMIZER_AT, &randomizer);
+    for i in 0..CHAINS {
+        let value = signed_value(secret, q, &coefficients, i);
+        put(&mut signature, VALUES_AT + 32 * i as usize, &value);
+    }
+    signature
+}
+
+#[tactic(auto, unfolding(crate::specs::Signatures::continued))]
+fn continued(
+    key_id: &[u8; 16],
+    q: u32,
+    coefficients: &[u8; 34],
+    signature: &[u8],
+    i: u16,
+) -> [u8; 32]
+    requires chain { i < 34 }
+    requires long { length signature.now ≡ 1124 }
+    ensures { result ≡ continued key_id.now q coefficients.now signature.now i }
+{
+    let value = array_at(signature, VALUES_AT + 32 * i as usize);
+    chain_steps(&prefix(key_id, q, i), coefficients[i as usize], 255, &value)
+}
+
+/// Why bytes are no one-time signature.
+#[derive(Clone, Copy, PartialEq, Eq, Debug)]
+pub enum OtsRefusal {
+    /// There are not 1,124 bytes.
+    Length = 1,
+    /// The type at 0 is not 4.
+    OtsType = 2,
+}
+
+impl OtsRefusal {
+    /// The number of the refusal.
+    pub fn number(self) -> u8
+        ensures { result ≡ number self }
+    {
+        self as u8
+    }
+}
+
+/// The one-time public key that a signature of a message leads to (RFC 8554, section 4.6, algorithm
+/// 4b). Whoever compares it with the signer's key has checked the signature. Refused in this order:
+/// Length, OtsType.
+#[tactic(auto, using(crate::proofs::ChainLemmas::joined_none, crate::proofs::ChainLemmas::joined_more), unfolding(crate::specs::Signatures::candidate_key, crate::specs::Chains::key_of_ends))]
+pub fn ots_candidate(
+    key_id: &[u8; 16],
+    q: u32,
+    message: &[u8],
+    signature: &[u8],
+) -> Result<[u8; 32], OtsRefusal>
+    ensures ok { IfOk result (λ key. key ≡ candidate_key key_id.now q message.now signature.now) }
+    ensures exact { IsOk result ↔ IsOtsSignature signature.now }
+    ensures first_refusal { IfErr result (λ refusal. IsOtsRefusal refusal signature.now) }
+{
+    if signature.len() != OTS_SIGNATURE_LEN {
+        return Err(OtsRefusal::Length);
+    }
+    if u32_at(signature, 0) != OTS_TYPE {
+        return Err(OtsRefusal::OtsType);
+    }
+    let randomizer = array_at(signature, RANDOMIZER_AT);
+    let coefficients = coefficients(&message_hash(key_id, q, &randomizer, message));
+    let mut hasher = Sha256::new();
+    hasher.update(prefix(key_id, q, PUBLIC_KEY_USE));
+    for i in 0..CHAINS {
+        hasher.update(continued(key_id, q, &coefficients, signature, i));
+    }
+    Ok(hasher.finalize())
+}
+
+#[cfg(test)]
+mod tests {
+    use super::*;
+
+    #[test]
+    fn checksum_extremes(rt: HostRuntime) {
+        let none_stepped = coefficients(&[0x00; 32]);
+        assert_eq!(rt; (none_stepped[32], none_stepped[33]), (0x1f, 0xe0));
+        let all_stepped = coefficients(&[0xff; 32]);
+        assert_eq!(rt; (all_stepped[32], all_stepped[33]), (0x00, 0x00));
+    }
+}

@@ -1,0 +1,4 @@
+pub mod NodeLemmas
+pub mod PathLemmas
+pub mod KeyLemmas
+pub mod SignedVerifies

@@ -1,0 +1,27 @@
+-- Why a signature is refused.
+use Rattle.std.specs.Prelude.{◌≡◌, ◌≢◌, ℕ, ◌<◌, ◌≤◌, List, length}
+use Rattle.wire.specs.Pieces.{number_at}
+use Rattle.lms_tree.specs.declared.verification.SigRefusal.{SigRefusal}
+use Rattle.lms_tree.specs.declared.verification.SigRefusal.TheVariants.{Length, Index, OtsType, TreeType, Root}
+use Rattle.lms_tree.specs.Tree.{root_from_path}
+
+-- the number of a refusal
+abbrev pub number : SigRefusal → ℕ
+number Length = 1
+number Index = 2
+number OtsType = 3
+number TreeType = 4
+number Root = 5
+
+-- the bytes pass the tests before this one, and fail this one
+abbrev pub IsSigRefusal : SigRefusal → List ℕ → List ℕ → List ℕ → List ℕ → Type 0
+IsSigRefusal Length id root message signature = length signature ≢ 1452
+IsSigRefusal Index id root message signature = (length signature ≡ 1452) × (1024 ≤ number_at 4 signature 0)
+IsSigRefusal OtsType id root message signature =
+    (length signature ≡ 1452) × (number_at 4 signature 0 < 1024) × (number_at 4 signature 4 ≢ 4)
+IsSigRefusal TreeType id root message signature =
+    (length signature ≡ 1452) × (number_at 4 signature 0 < 1024) × (number_at 4 signature 4 ≡ 4)
+    × (number_at 4 signature 1128 ≢ 6)
+IsSigRefusal Root id root message signature =
+    (length signature ≡ 1452) × (number_at 4 signature 0 < 1024) × (number_at 4 signature 4 ≡ 4)
+    × (number_at 4 signature 1128 ≡ 6) × (root_from_path id message signature ≢ root)

@@ -1,0 +1,33 @@
+//! Signatures under one public key by a tree of 1,024 one-time keys: LMS of RFC 8554 with SHA-256
+//! (LMS_SHA256_M32_H10, type 6, over LMOTS_SHA256_N32_W8, type 4). No handle.
+#![tactic(auto)]
+
+mod nodes;
+mod public_key;
+mod signing_tree;
+mod verification;
+
+pub use public_key::{KeyRefusal, PUBLIC_KEY_LEN, PublicKey};
+pub use signing_tree::SigningTree;
+pub use verification::{SigRefusal, verify};
+
+/// The length of a signature, in bytes.
+pub const SIGNATURE_LEN: usize = 1452;
+
+/// Where the one-time signature stands in a signature.
+pub(crate) const OTS_AT: usize = 4;
+
+/// Where the type of the tree stands in a signature.
+pub(crate) const TREE_TYPE_AT: usize = 1128;
+
+/// Where the path begins in a signature.
+pub(crate) const PATH_AT: usize = 1132;
+
+/// The number of leaves, and so of one-time keys, of a tree.
+pub const LEAVES: u32 = 1024;
+
+/// The number of levels from the leaves to the root.
+pub(crate) const HEIGHT: usize = 10;
+
+/// The type LMS_SHA256_M32_H10 of RFC 8554.
+pub const TREE_TYPE: u32 = 6;

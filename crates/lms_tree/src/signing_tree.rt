@@ -1,0 +1,114 @@
+//! A seed's tree, from which its owner signs.
+
+ghost use Rattle.std.specs.Prelude.{◌≡◌, ◌<◌, length, IfOk};
+ghost use Rattle.lms_tree.specs.Tree.{IsFilled, lms_signature, path_node, tree_root, Verifies};
+
+use crate::nodes::{inner_hash, leaf_hash, sibling};
+use crate::public_key::PublicKey;
+use crate::{HEIGHT, LEAVES, OTS_AT, PATH_AT, SIGNATURE_LEN, TREE_TYPE, TREE_TYPE_AT};
+use lmots::{PrivateSeed, ots_public, ots_sign};
+use std::alloc::{AllocError, Global};
+use std::marker::Model;
+use wire::put;
+
+const NODES: usize = 2048;
+
+/// A private seed with the hashes of all nodes of its tree. A contract sees the seed: the hashes are
+/// always those of its tree.
+#[derive(Drop)]
+pub struct SigningTree {
+    secret: PrivateSeed,
+    // The hash of node `r` stands at the place `r`. The place 0 is not used.
+    nodes: Vec<[u8; 32]>,
+}
+
+impl Model for SigningTree {
+    ghost use Rattle.lmots.specs.declared.keys.PrivateSeed.{PrivateSeed};
+    ghost use Rattle.lms_tree.specs.Tree.{IsTree};
+
+    ghost Value = { PrivateSeed };
+
+    ghost view = { λ tree. tree.secret };
+
+    ghost invariant = { λ tree. IsTree tree.secret.key_id tree.secret.seed tree.nodes.items };
+}
+
+impl SigningTree {
+    /// The tree of a seed, on the heap in 65,536 bytes. It computes all 1,024 one-time keys, some nine
+    /// million hashes. AllocError comes where that memory is refused.
+    pub fn generate(alloc: Global, secret: PrivateSeed) -> Result<SigningTree, AllocError>
+        ensures { IfOk result (λ tree. tree ≡ secret) }
+    {
+        let mut nodes = vec![in alloc; [0; 32]; NODES]?;
+        fill_leaves(&secret, &mut nodes);
+        fill_inner(&secret, &mut nodes);
+        Ok(SigningTree { secret, nodes })
+    }
+
+    /// The public key of the tree.
+    pub fn public_key(&self) -> PublicKey
+        ensures key_id { result.key_id ≡ self.now.key_id }
+        ensures root { result.root ≡ tree_root self.now.key_id self.now.seed }
+    {
+        PublicKey {
+            key_id: self.secret.key_id,
+            root: self.nodes[1],
+        }
+    }
+
+    // The hash that a signature with leaf `q` shows at a level.
+    #[tactic(auto, using(crate::proofs::SignedVerifies::sibling_in_tree), unfolding(crate::specs::Tree::path_node))]
+    fn path_node(&self, q: u32, level: usize) -> [u8; 32]
+        requires leaf { q < 1024 }
+        requires level { level < 10 }
+        ensures { result ≡ path_node self.now.key_id self.now.seed q level }
+    {
+        self.nodes[sibling((LEAVES + q) as usize >> level)]
+    }
+
+    /// The signature of a message with leaf `q`, 1,452 bytes: `q` at 0, the one-time signature at 4,
+    /// the tree's type at 1128 and the path from 1132 on (RFC 8554, section 5.4.1). A leaf may sign
+    /// one message only.
+    #[tactic(auto, using(lmots::proofs::ChainLemmas::joined_none, lmots::proofs::ChainLemmas::joined_more))]
+    pub fn sign_at(&self, q: u32, message: &[u8]) -> [u8; SIGNATURE_LEN]
+        requires { q < 1024 }
+        ensures exact { result ≡ lms_signature self.now.key_id self.now.seed q message.now }
+        ensures verifies { Verifies self.now.key_id (tree_root self.now.key_id self.now.seed) message.now result }
+    {
+        let mut signature = [0; SIGNATURE_LEN];
+        put(&mut signature, 0, &q.to_be_bytes());
+        put(&mut signature, OTS_AT, &ots_sign(&self.secret, q, message));
+        put(&mut signature, TREE_TYPE_AT, &TREE_TYPE.to_be_bytes());
+        for level in 0..HEIGHT {
+            put(
+                &mut signature,
+                PATH_AT + 32 * level,
+                &self.path_node(q, level),
+            );
+        }
+        signature
+    }
+}
+
+// Fills in the leaves, over the seed's one-time keys.
+fn fill_leaves(secret: &PrivateSeed, nodes: &mut [[u8; 32]])
+    requires { length nodes.old ≡ 2048 }
+    ensures { IsFilled secret.now.key_id secret.now.seed 1024 nodes.new }
+{
+    for q in 0..LEAVES {
+        let key = ots_public(secret, q);
+        nodes[(LEAVES + q) as usize] = leaf_hash(&secret.key_id, LEAVES + q, &key);
+    }
+}
+
+// Fills in the nodes above the leaves, each after its children.
+fn fill_inner(secret: &PrivateSeed, nodes: &mut [[u8; 32]])
+    requires long { length nodes.old ≡ 2048 }
+    requires leaves { IsFilled secret.now.key_id secret.now.seed 1024 nodes.old }
+    ensures { IsFilled secret.now.key_id secret.now.seed 1 nodes.new }
+{
+    for r in (1..LEAVES).rev() {
+        let left = 2 * r as usize;
+        nodes[r as usize] = inner_hash(&secret.key_id, r, &nodes[left], &nodes[left + 1]);
+    }
+}

@@ -1,0 +1,9 @@
+//! Tests of one-time and tree signatures against stored ones of other programs. No handle.
+#![tactic(auto)]
+
+#[cfg(test)]
+mod one_time_tests;
+#[cfg(test)]
+mod tree_tests;
+#[cfg(test)]
+mod vectors;

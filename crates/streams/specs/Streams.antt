@@ -1,0 +1,34 @@
+-- What a sink was given, what a feed has left, and how their failures are counted.
+use Rattle.std.specs.Prelude.{◌≡◌, ◌≤◌, ◌<◌, ◌+◌, ◌-◌, ◌^◌, ◌++◌, [], ℕ, List, Option, Some, IfSome, Result, OnOk, OnErr, length, min, take, drop}
+
+-- the sink was given these bytes, where it tells what it was given
+abbrev pub Wrote : Option (List ℕ) → Option (List ℕ) → List ℕ → Type 0
+Wrote before after bytes = IfSome before (λ text. after ≡ Some (text ++ bytes))
+
+-- it was given the first of these bytes, up to some place
+abbrev pub WrotePart : Option (List ℕ) → Option (List ℕ) → List ℕ → Type 0
+WrotePart before after bytes = IfSome before (λ text. (n : ℕ) × (after ≡ Some (text ++ take n bytes)))
+
+-- the feed gave the first n bytes of what it had left, where it tells, and none only at its end
+pub record Gave (n room : ℕ) (filled rest left : List ℕ) : Type 0 where
+  pub bytes : take n filled ≡ take n rest
+  pub available : n ≤ length rest
+  pub left_behind : left ≡ drop n rest
+  pub at_end : n ≡ 0 → 0 < room → rest ≡ []
+
+abbrev pub Read : Option (List ℕ) → Option (List ℕ) → ℕ → List ℕ → Type 0
+Read before after n filled = IfSome before (λ rest. (left : List ℕ) × (after ≡ Some left) × Gave n (length filled) filled rest left)
+
+-- a failure is counted, up to the last number of 64 bits
+abbrev pub one_more : ℕ → ℕ
+one_more failures = min (failures + 1) (2 ^ 64 - 1)
+
+-- a call that fails is counted, and no other
+pub record Counts {T E : Type 0} (before after : ℕ) (outcome : Result T E) : Type 0 where
+  pub kept : OnOk outcome (after ≡ before)
+  pub risen : OnErr outcome (after ≡ one_more before)
+
+-- bytes in memory: those that a sink was given, or those that a feed has left
+pub record Memory : Type 0 where
+  pub bytes : List ℕ
+  pub failures : ℕ

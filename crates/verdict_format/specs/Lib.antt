@@ -1,0 +1,11 @@
+pub use Rattle.blocks.specs.Headers
+pub use Rattle.blocks.specs.HeaderReading
+pub use Rattle.blocks.specs.Chains
+pub use Rattle.blocks.specs.Genesis
+pub use Rattle.blocks.specs.Replica
+pub use Rattle.blocks.specs.Rules
+pub use Rattle.certificates.specs.Votes
+pub mod Verdicts
+pub mod Proofs
+pub mod VerdictReading
+pub mod RuleNumbers

@@ -1,0 +1,32 @@
+-- Why bytes are no verdict: the tests of a reader, in their order.
+use Rattle.std.specs.Prelude.{◌≡◌, ◌≤◌, ℕ, List, [], ◌∷◌, length, codes}
+use Rattle.wire.specs.Pieces.{piece}
+use Rattle.wire.specs.Refusals.{AllPassed, IsFirst}
+use Rattle.verdict_format.specs.declared.verdict.VerdictRefusal.{VerdictRefusal}
+use Rattle.verdict_format.specs.declared.verdict.VerdictRefusal.TheVariants.{Short, Magic, Kind, Length}
+use Rattle.verdict_format.specs.Verdicts.{kind_in, verdict_length}
+
+-- what each refusal tests
+abbrev pub HasForm : List ℕ → VerdictRefusal → Type 0
+HasForm bytes Short = 39 ≤ length bytes
+HasForm bytes Magic = piece 4 bytes 0 ≡ codes "HSX1"
+HasForm bytes Kind = kind_in bytes ≡ 1
+HasForm bytes Length = length bytes ≡ verdict_length (kind_in bytes)
+
+-- the number that docs/REFUSALS.md gives a refusal
+abbrev pub verdict_refusal_number : VerdictRefusal → ℕ
+verdict_refusal_number Short = 1
+verdict_refusal_number Magic = 2
+verdict_refusal_number Kind = 3
+verdict_refusal_number Length = 4
+
+abbrev pub form_order : List VerdictRefusal
+form_order = Short ∷ Magic ∷ Kind ∷ Length ∷ []
+
+-- the verdict can be read; those of lock violations can not, yet
+abbrev pub IsReadable : List ℕ → Type 0
+IsReadable bytes = AllPassed (HasForm bytes) form_order
+
+-- it can not, by the first test that it does not pass
+abbrev pub IsFormRefusal : List ℕ → VerdictRefusal → Type 0
+IsFormRefusal bytes refusal = IsFirst verdict_refusal_number (HasForm bytes) form_order refusal

@@ -1,0 +1,65 @@
+-- The text of a verdict, as docs/FORMATS.md, "Verdict", lays it out: what stands where in it.
+use Rattle.std.specs.Prelude.{◌≡◌, ◌⊎◌, ◌+◌, ◌==◌, ℕ, List, length, slice_index, codes, Option, Some, None, Result, Ok, Err, if◌then◌else◌}
+use Rattle.wire.specs.Pieces.{piece, number_at}
+use Rattle.blocks.specs.Headers.{Header}
+use Rattle.blocks.specs.HeaderReading.{header_in}
+use Rattle.blocks.specs.Replica.{Ballot}
+
+-- ---- what each verdict says
+
+-- the chain that the votes are on
+abbrev pub chain_in : List ℕ → List ℕ
+chain_in bytes = piece 32 bytes 4
+
+-- the accused replica
+abbrev pub replica_in : List ℕ → ℕ
+replica_in bytes = number_at 2 bytes 36
+
+-- the rule that it broke: 1 for a double vote, 2 for a lock violation
+abbrev pub kind_in : List ℕ → ℕ
+kind_in bytes = slice_index bytes 38
+
+-- its two votes; of a lock violation the first is the earlier, of a double vote either is
+abbrev pub earlier_in : List ℕ → Ballot
+earlier_in bytes = record { view = number_at 8 bytes 39; id = piece 32 bytes 47 }
+
+abbrev pub later_in : List ℕ → Ballot
+later_in bytes = record { view = number_at 8 bytes 1531; id = piece 32 bytes 1539 }
+
+-- and their signatures
+unfoldable pub earlier_signature_in : List ℕ → List ℕ
+earlier_signature_in bytes = piece 1452 bytes 79
+
+unfoldable pub later_signature_in : List ℕ → List ℕ
+later_signature_in bytes = piece 1452 bytes 1571
+
+-- ---- what a verdict of a lock violation says besides
+
+-- the header of the earlier vote's block, that of its parent, and that of the later vote's block
+pub record VotedHeaders : Type 0 where
+  pub earlier : Header
+  pub parent : Header
+  pub later : Header
+
+-- three headers that were read, if each was
+abbrev pub all_read : {R : Type 0} → Result Header R → Result Header R → Result Header R → Option VotedHeaders
+all_read (Ok e) (Ok p) (Ok w) = Some (record { earlier = e; parent = p; later = w })
+all_read (Ok e) (Ok p) (Err r) = None
+all_read (Ok e) (Err r) w = None
+all_read (Err r) p w = None
+
+-- the headers that stand behind the votes, if they are readable
+unfoldable pub headers_in : List ℕ → Option VotedHeaders
+headers_in bytes = all_read (header_in (piece 84 bytes 3023)) (header_in (piece 84 bytes 3107)) (header_in (piece 84 bytes 3191))
+
+-- ---- verdicts
+
+-- a verdict has headers where it is of a lock violation
+abbrev pub verdict_length : ℕ → ℕ
+verdict_length kind = 3023 + (if kind == 2 then 252 else 0)
+
+-- these bytes have the form of a verdict
+pub record IsVerdict (bytes : List ℕ) : Type 0 where
+  pub magic : piece 4 bytes 0 ≡ codes "HSX1"
+  pub kind : (kind_in bytes ≡ 1) ⊎ (kind_in bytes ≡ 2)
+  pub long : length bytes ≡ verdict_length (kind_in bytes)
