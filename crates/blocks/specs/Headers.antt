@@ -37,7 +37,7 @@ pub record NamesParent (b p : Header) : Type 0 where
   pub id : b.parent ≡ header_id p
   pub view : b.parent_view ≡ p.view
 
--- where chains end: view 0, on no view above
+-- where chains end: both views are 0
 pub record IsGenesis (g : Header) : Type 0 where
   pub view : g.view ≡ 0
   pub parent_view : g.parent_view ≡ 0

@@ -147,7 +147,7 @@ pub record RaiseIsStored (committee : List ℕ) : Type 0 where
 -- ---- votes on both sides of a fork
 
 -- a vote for A3, whose parent A2 stands on A1, and a later vote for W4 on genesis violate the lock; with
--- a later vote for F5 on A1, the parents' parents are as old as each other, and no rule is broken
+-- a later vote for F5 on A1, whose parent is as old as the parent of A2, no rule is broken
 pub record CrossesAFork (committee : List ℕ) : Type 0 where
   pub violation : IsLockViolation (ballot_on (a3 committee)) (ballot_on (w4 committee)) (a3 committee) (a2 committee) (w4 committee)
   pub none : IsLockViolation (ballot_on (a3 committee)) (ballot_on (f5 committee)) (a3 committee) (a2 committee) (f5 committee) → ⊥

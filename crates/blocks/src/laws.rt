@@ -64,7 +64,8 @@ pub fn a_raise_without_a_vote_is_stored()
     ensures { ARaiseWithoutAVoteIsStored }
 {}
 
-/// There are votes that violate a lock: one on each side of a fork. Parents of one age do not.
+/// There are votes that violate a lock: one on each side of a fork. A later block on a parent that is no
+/// older than the parent of the earlier block's parent is none.
 pub fn a_vote_across_a_fork_violates_the_lock()
     ensures { AVoteAcrossAForkViolatesTheLock }
 {}

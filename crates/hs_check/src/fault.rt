@@ -3,7 +3,7 @@
 use blocks::CommitteeRefusal;
 use std::fmt;
 use std::fmt::{Display, Formatter, Write};
-use streams::{Sink, write_all};
+use streams::{Sink, SinkText};
 
 /// Why there is no judgement, or not the whole line of it. Each has exit status 2.
 #[derive(Clone, Copy, Debug)]
@@ -39,15 +39,5 @@ impl Fault<'_> {
     /// Writes the fault's line. What a failing sink does not take is lost: there is nowhere else to say it.
     pub fn tell<E: Sink>(&self, faults: &mut E) {
         let _ = writeln!(SinkText(faults), "{self}");
-    }
-}
-
-// Formats texts straight into a sink, with no memory of its own.
-#[derive(Drop)]
-struct SinkText<'a, W: Sink>(&'a mut W);
-
-impl<W: Sink> Write for SinkText<'_, W> {
-    fn write_str(&mut self, text: &str) -> fmt::Result {
-        write_all(self.0, text.as_bytes()).map_err(|_| fmt::Error)
     }
 }

@@ -1,6 +1,7 @@
 //! The two texts that the program judges, from files or from standard input.
 
-ghost use Rattle.std.specs.Prelude.{◌≡◌, ◌++◌, ◌∷◌, ℕ, List, IfNone, IfSome};
+ghost use Rattle.std.specs.IoError.{error_kind};
+ghost use Rattle.std.specs.Prelude.{◌≡◌, ◌≢◌, ◌++◌, ◌∷◌, ℕ, List, IfNone, IfSome};
 ghost use Rattle.std.specs.List.{Contains};
 ghost use Rattle.hs_check.specs.Lines.{AreTwoLines};
 
@@ -72,10 +73,12 @@ fn read_file<'a, F: Files<File = File>>(
 }
 
 // Want of memory is a fault of its own.
-fn unless_memory<'a>(error: &Error, otherwise: Fault<'a>) -> Fault<'a> {
+pub(crate) fn unless_memory<'a>(error: &Error, fault: Fault<'a>) -> Fault<'a>
+    ensures memory { error_kind error.now ≡ ErrorKind.OutOfMemory → result ≡ Fault.Memory }
+{
     match error.kind() {
         ErrorKind::OutOfMemory => Fault::Memory,
-        _ => otherwise,
+        _ => fault,
     }
 }
 

@@ -21,7 +21,7 @@ pub const ACCEPTED: u8 = 0;
 /// The verdict was refused.
 pub const REFUSED: u8 = 1;
 
-/// There was nothing to judge, or no word of the judgement could be written.
+/// There was nothing to judge, or not the whole line could be written.
 pub const FAULT: u8 = 2;
 
 /// Judges a verdict under a committee, both as bytes, and writes one line. Answers `ACCEPTED` or

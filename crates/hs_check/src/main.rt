@@ -13,6 +13,7 @@ mod program_tests;
 mod tests;
 
 use fault::Fault;
+use input::unless_memory;
 use std::env;
 use std::process::ExitCode;
 use streams::StdSink;
@@ -22,8 +23,8 @@ fn main(rt: HostRuntime) -> ExitCode {
     let mut faults = StdSink::new(rt.stderr());
     let words = match env::args(&rt) {
         Ok(words) => words.skip(1).collect::<Vec<String>>(rt.alloc()),
-        Err(_) => {
-            Fault::Usage.tell(&mut faults);
+        Err(error) => {
+            unless_memory(&error, Fault::Usage).tell(&mut faults);
             return ExitCode::from(judge::FAULT);
         }
     };

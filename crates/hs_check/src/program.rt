@@ -1,5 +1,10 @@
 //! The program over handed-in words and streams, so that tests run it whole.
 
+ghost use Rattle.std.specs.Prelude.{◌≡◌, Err};
+ghost use Rattle.blocks.specs.Committees.{IsCommittee};
+ghost use Rattle.blocks.specs.CommitteeReading.{committee_in};
+ghost use Rattle.blocks.specs.declared.committee.CommitteeRefusal.{CommitteeRefusal as RefusalValue};
+
 use crate::fault::Fault;
 use crate::input::Texts;
 use crate::judge::{FAULT, run_check};
@@ -47,7 +52,10 @@ fn judge<'a, F: Files<File = File>, R: Read + Drop, W: Sink>(
 }
 
 // Why there was no judgement. To judge takes no memory, so with a readable committee a write failed.
-fn why<'a>(committee: &[u8]) -> Fault<'a> {
+fn why<'a>(committee: &[u8]) -> Fault<'a>
+    ensures readable { IsCommittee committee.now → result ≡ Fault.Output }
+    ensures unreadable { (r : RefusalValue) → committee_in committee.now ≡ Err r → result ≡ Fault.Committee r }
+{
     match CommitteeView::parse(committee) {
         Ok(_) => Fault::Output,
         Err(refusal) => Fault::Committee(refusal),

@@ -41,21 +41,24 @@ fn outcome_of<F: fs::Files<File = fs::File>>(
 #[test]
 fn two_files(rt: HostRuntime) -> Result<(), Fail> {
     let alloc = rt.alloc();
+    let _ = fs::remove_dir_all(&rt, "two");
+    fs::create_dir(&rt, "two")?;
     fs::write(
         &rt,
-        "committee.hsc",
+        "two/committee.hsc",
         hex::decode(alloc, verdicts::committee())?,
     )?;
     fs::write(
         &rt,
-        "verdict.hsx",
+        "two/verdict.hsx",
         hex::decode(alloc, verdicts::double_vote())?,
     )?;
-    let words = ["committee.hsc", "verdict.hsx"];
+    let words = ["two/committee.hsc", "two/verdict.hsx"];
     let ran = outcome_of(&rt, alloc, &words, b"", MemorySink::new(alloc))?;
     assert_eq!(rt; ran.status, 0);
     assert_eq!(rt; ran.out.bytes(), ACCEPTED.as_bytes());
     assert_eq!(rt; ran.faults.bytes(), b"".as_slice());
+    fs::remove_dir_all(&rt, "two")?;
     Ok(())
 }
 
@@ -71,6 +74,24 @@ fn two_lines_of_hex(rt: HostRuntime) -> Result<(), Fail> {
         assert_eq!(rt; ran.out.bytes(), ACCEPTED.as_bytes());
         assert_eq!(rt; ran.faults.bytes(), b"".as_slice());
     }
+    Ok(())
+}
+
+#[test]
+fn hex_of_either_case_up_to_the_limit(rt: HostRuntime) -> Result<(), Fail> {
+    let alloc = rt.alloc();
+    let (committee, verdict) = (verdicts::committee(), verdicts::double_vote());
+    let upper = committee.to_ascii_uppercase(alloc)?;
+    let lines = format!(in alloc; "{upper}\n{verdict}\n")?;
+    let ran = outcome_of(&rt, alloc, &[], lines.as_bytes(), MemorySink::new(alloc))?;
+    assert_eq!(rt; ran.out.bytes(), ACCEPTED.as_bytes());
+    // A verdict that is far too long, in a text of just as many bytes as are read.
+    let longest = "0".repeat(alloc, 65_070)?;
+    let lines = format!(in alloc; "{committee}\n{longest}\n")?;
+    assert_eq!(rt; lines.len(), 65_536);
+    let ran = outcome_of(&rt, alloc, &[], lines.as_bytes(), MemorySink::new(alloc))?;
+    assert_eq!(rt; ran.status, 1);
+    assert_eq!(rt; ran.out.bytes(), b"refused 2 Magic\n".as_slice());
     Ok(())
 }
 
@@ -100,21 +121,37 @@ fn wrong_words_are_a_fault(rt: HostRuntime) -> Result<(), Fail> {
 #[test]
 fn a_missing_file_is_a_fault(rt: HostRuntime) -> Result<(), Fail> {
     let alloc = rt.alloc();
-    fs::write(&rt, "there.hsc", hex::decode(alloc, verdicts::committee())?)?;
+    let _ = fs::remove_dir_all(&rt, "one");
+    fs::create_dir(&rt, "one")?;
+    fs::write(&rt, "one/no_committee.hsc", b"none")?;
+    fs::write(
+        &rt,
+        "one/there.hsc",
+        hex::decode(alloc, verdicts::committee())?,
+    )?;
     for (words, want) in [
         (
-            ["missing.hsc", "there.hsc"],
-            b"fault file missing.hsc\n".as_slice(),
+            ["one/missing.hsc", "one/there.hsc"],
+            b"fault file one/missing.hsc\n".as_slice(),
         ),
         (
-            ["there.hsc", "missing.hsx"],
-            b"fault file missing.hsx\n".as_slice(),
+            ["one/missing.hsc", "one/missing.hsx"],
+            b"fault file one/missing.hsc\n".as_slice(),
+        ),
+        (
+            ["one/no_committee.hsc", "one/missing.hsx"],
+            b"fault file one/missing.hsx\n".as_slice(),
+        ),
+        (
+            ["one/there.hsc", "one/missing.hsx"],
+            b"fault file one/missing.hsx\n".as_slice(),
         ),
     ] {
         let ran = outcome_of(&rt, alloc, &words, b"", MemorySink::new(alloc))?;
         assert_eq!(rt; ran.status, 2);
         assert_eq!(rt; ran.faults.bytes(), want);
     }
+    fs::remove_dir_all(&rt, "one")?;
     Ok(())
 }
 

@@ -5,9 +5,9 @@ use Rattle.lmots.specs.declared.signatures.OtsRefusal.{OtsRefusal}
 use Rattle.lmots.specs.declared.signatures.OtsRefusal.TheVariants.{Length, OtsType}
 
 -- the number of a refusal
-abbrev pub number : OtsRefusal → ℕ
-number Length = 1
-number OtsType = 2
+abbrev pub ots_refusal_number : OtsRefusal → ℕ
+ots_refusal_number Length = 1
+ots_refusal_number OtsType = 2
 
 -- the bytes pass the tests before this one, and fail this one
 abbrev pub IsOtsRefusal : OtsRefusal → List ℕ → Type 0

@@ -2,7 +2,7 @@
 
 ghost use Rattle.std.specs.Prelude.{◌≡◌, ◌<◌, ◌↔◌, length, IsOk, IfOk, IfErr};
 ghost use Rattle.lmots.specs.Chains.{ots_public_key};
-ghost use Rattle.lmots.specs.Refusals.{number, IsOtsRefusal};
+ghost use Rattle.lmots.specs.Refusals.{ots_refusal_number, IsOtsRefusal};
 ghost use Rattle.lmots.specs.Signatures.{message_hash, checksum, coefficients, randomizer, signed_value, ots_signature, IsOtsSignature, continued, candidate_key};
 
 use crate::chains::{chain_steps, prefix};
@@ -124,7 +124,7 @@ pub enum OtsRefusal {
 impl OtsRefusal {
     /// The number of the refusal.
     pub fn number(self) -> u8
-        ensures { result ≡ number self }
+        ensures { result ≡ ots_refusal_number self }
     {
         self as u8
     }

@@ -11,10 +11,10 @@ pub record IsPublicKey (bytes : List ℕ) : Type 0 where
   pub ots_type : number_at 4 bytes 4 ≡ 4
 
 -- the number of a refusal
-abbrev pub number : KeyRefusal → ℕ
-number Length = 1
-number TreeType = 2
-number OtsType = 3
+abbrev pub key_refusal_number : KeyRefusal → ℕ
+key_refusal_number Length = 1
+key_refusal_number TreeType = 2
+key_refusal_number OtsType = 3
 
 -- the bytes pass the tests before this one, and fail this one
 abbrev pub IsKeyRefusal : KeyRefusal → List ℕ → Type 0

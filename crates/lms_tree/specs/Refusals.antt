@@ -6,12 +6,12 @@ use Rattle.lms_tree.specs.declared.verification.SigRefusal.TheVariants.{Length, 
 use Rattle.lms_tree.specs.Tree.{root_from_path}
 
 -- the number of a refusal
-abbrev pub number : SigRefusal → ℕ
-number Length = 1
-number Index = 2
-number OtsType = 3
-number TreeType = 4
-number Root = 5
+abbrev pub sig_refusal_number : SigRefusal → ℕ
+sig_refusal_number Length = 1
+sig_refusal_number Index = 2
+sig_refusal_number OtsType = 3
+sig_refusal_number TreeType = 4
+sig_refusal_number Root = 5
 
 -- the bytes pass the tests before this one, and fail this one
 abbrev pub IsSigRefusal : SigRefusal → List ℕ → List ℕ → List ℕ → List ℕ → Type 0

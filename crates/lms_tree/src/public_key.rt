@@ -1,7 +1,7 @@
 //! Public keys and their 56 bytes.
 
 ghost use Rattle.std.specs.Prelude.{◌≡◌, ◌↔◌, List, ℕ, length, IsOk, IfOk, IfErr};
-ghost use Rattle.lms_tree.specs.Keys.{number, IsKeyRefusal, IsPublicKey};
+ghost use Rattle.lms_tree.specs.Keys.{key_refusal_number, IsKeyRefusal, IsPublicKey};
 ghost use Rattle.lms_tree.specs.Tree.{key_text};
 
 use crate::TREE_TYPE;
@@ -33,7 +33,7 @@ pub enum KeyRefusal {
 impl KeyRefusal {
     /// The number of the refusal.
     pub fn number(self) -> u8
-        ensures { result ≡ number self }
+        ensures { result ≡ key_refusal_number self }
     {
         self as u8
     }

@@ -3,7 +3,7 @@
 ghost use Rattle.std.specs.Prelude.{◌≡◌, ◌≢◌, ◌↔◌, length, IsOk, IfErr, IfNone, IfSome};
 ghost use Rattle.wire.specs.Pieces.{number_at};
 ghost use Rattle.lmots.specs.Signatures.{candidate_key};
-ghost use Rattle.lms_tree.specs.Refusals.{number, IsSigRefusal};
+ghost use Rattle.lms_tree.specs.Refusals.{sig_refusal_number, IsSigRefusal};
 ghost use Rattle.lms_tree.specs.Tree.{climbed, ots_in, path_in, Verifies};
 
 use crate::nodes::{leaf_hash, parent_hash};
@@ -30,7 +30,7 @@ pub enum SigRefusal {
 impl SigRefusal {
     /// The number of the refusal.
     pub fn number(self) -> u8
-        ensures { result ≡ number self }
+        ensures { result ≡ sig_refusal_number self }
     {
         self as u8
     }

@@ -1,5 +1,5 @@
 -- What a sink was given, what a feed has left, and how their failures are counted.
-use Rattle.std.specs.Prelude.{◌≡◌, ◌≤◌, ◌<◌, ◌+◌, ◌-◌, ◌^◌, ◌++◌, [], ℕ, List, Option, Some, IfSome, Result, OnOk, OnErr, length, min, take, drop}
+use Rattle.std.specs.Prelude.{Bool, ◌≡◌, ◌≤◌, ◌<◌, ◌+◌, ◌-◌, ◌^◌, ◌++◌, [], ℕ, List, Option, Some, IfSome, Result, OnOk, OnErr, length, min, take, drop}
 
 -- the sink was given these bytes, where it tells what it was given
 abbrev pub Wrote : Option (List ℕ) → Option (List ℕ) → List ℕ → Type 0
@@ -28,7 +28,13 @@ pub record Counts {T E : Type 0} (before after : ℕ) (outcome : Result T E) : T
   pub kept : OnOk outcome (after ≡ before)
   pub risen : OnErr outcome (after ≡ one_more before)
 
--- bytes in memory: those that a sink was given, or those that a feed has left
+-- bytes in memory: those that a sink was given, or those that a feed has left; and the fuse that is set
 pub record Memory : Type 0 where
   pub bytes : List ℕ
+  pub failures : ℕ
+  pub fuse : Option (ℕ × Bool)
+
+-- the same of a stream of the process, whose bytes are known only where the stream tells them
+pub record Stream : Type 0 where
+  pub bytes : Option (List ℕ)
   pub failures : ℕ

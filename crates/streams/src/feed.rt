@@ -1,6 +1,7 @@
 //! Where bytes come from.
 
 ghost use Rattle.std.specs.Prelude.{◌≡◌, ◌≤◌, ℕ, List, Option, IfOk, OnErr, length};
+ghost use Rattle.std.specs.Io.KnownBytes.{Keeps};
 ghost use Rattle.streams.specs.Streams.{Read, Counts};
 
 use crate::sink::Fault;
@@ -17,7 +18,7 @@ pub trait Feed: Drop {
     fn read(&mut self, buffer: &mut [u8]) -> Result<usize, Fault>
         ensures within { IfOk result (λ n. n ≤ length buffer.new) }
         ensures ok { IfOk result (λ n. Read (rest self.old) (rest self.new) n buffer.new) }
-        ensures err { OnErr result (rest self.new ≡ rest self.old) }
+        ensures err { OnErr result (Keeps (rest self.old) (rest self.new)) }
         ensures counted { Counts (failed self.old) (failed self.new) result };
 
     /// How many reads failed; a u64 that stands still at its last value.

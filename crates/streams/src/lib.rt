@@ -9,6 +9,9 @@ mod memory_sink;
 mod sink;
 mod std_feed;
 mod std_sink;
+#[cfg(test)]
+mod tests;
+mod text;
 
 pub use feed::Feed;
 pub use memory_feed::MemoryFeed;
@@ -16,3 +19,4 @@ pub use memory_sink::MemorySink;
 pub use sink::{Fault, Sink, write_all};
 pub use std_feed::StdFeed;
 pub use std_sink::StdSink;
+pub use text::SinkText;

@@ -1,6 +1,6 @@
 //! A feed over memory.
 
-ghost use Rattle.std.specs.Prelude.{◌≡◌, Some};
+ghost use Rattle.std.specs.Prelude.{◌≡◌, None, Some};
 
 use crate::feed::Feed;
 use crate::fuse::Fuse;
@@ -24,7 +24,7 @@ impl Model for MemoryFeed {
 
     ghost Value = { Memory };
 
-    ghost view = { λ f. record { bytes = drop f.given f.held.items; failures = f.failed } };
+    ghost view = { λ f. record { bytes = drop f.given f.held.items; failures = f.failed; fuse = f.fuse } };
 
     ghost invariant = { λ f. f.given ≤ length f.held.items };
 }
@@ -34,18 +34,21 @@ impl MemoryFeed {
     pub fn new(bytes: Vec<u8>) -> MemoryFeed
         ensures bytes { result.bytes ≡ bytes.items }
         ensures failures { result.failures ≡ 0 }
+        ensures fuse { result.fuse ≡ None }
     {
         MemoryFeed {
             held: bytes,
             given: 0,
-            fuse: Fuse::default(),
+            fuse: Fuse::none(),
             failed: 0,
         }
     }
 
     /// The next `pass` reads succeed, the one behind them fails, and with `forever` all later ones too.
     pub fn fuse(&mut self, pass: u32, forever: bool)
-        ensures { self.new ≡ self.old }
+        ensures fuse { self.new.fuse ≡ Some (pass, forever) }
+        ensures bytes { self.new.bytes ≡ self.old.bytes }
+        ensures failures { self.new.failures ≡ self.old.failures }
     {
         self.fuse = Fuse::set(pass, forever);
     }

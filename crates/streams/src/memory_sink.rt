@@ -1,6 +1,6 @@
 //! A sink over memory.
 
-ghost use Rattle.std.specs.Prelude.{◌≡◌, [], Some};
+ghost use Rattle.std.specs.Prelude.{◌≡◌, [], None, Some};
 
 use crate::fuse::Fuse;
 use crate::sink::{Fault, Sink};
@@ -21,7 +21,7 @@ impl Model for MemorySink {
 
     ghost Value = { Memory };
 
-    ghost view = { λ s. record { bytes = s.given.items; failures = s.failed } };
+    ghost view = { λ s. record { bytes = s.given.items; failures = s.failed; fuse = s.fuse } };
 }
 
 impl MemorySink {
@@ -29,10 +29,11 @@ impl MemorySink {
     pub fn new(alloc: Global) -> MemorySink
         ensures bytes { result.bytes ≡ [] }
         ensures failures { result.failures ≡ 0 }
+        ensures fuse { result.fuse ≡ None }
     {
         MemorySink {
             given: Vec::new(alloc),
-            fuse: Fuse::default(),
+            fuse: Fuse::none(),
             failed: 0,
         }
     }
@@ -46,7 +47,9 @@ impl MemorySink {
 
     /// The next `pass` writes succeed, the one behind them fails, and with `forever` all later ones too.
     pub fn fuse(&mut self, pass: u32, forever: bool)
-        ensures { self.new ≡ self.old }
+        ensures fuse { self.new.fuse ≡ Some (pass, forever) }
+        ensures bytes { self.new.bytes ≡ self.old.bytes }
+        ensures failures { self.new.failures ≡ self.old.failures }
     {
         self.fuse = Fuse::set(pass, forever);
     }

@@ -1,6 +1,7 @@
 //! Where bytes go.
 
 ghost use Rattle.std.specs.Prelude.{◌≡◌, ◌≤◌, ◌<◌, ℕ, List, Option, IfOk, OnOk, OnErr, length, take};
+ghost use Rattle.std.specs.Io.KnownBytes.{Keeps};
 ghost use Rattle.streams.specs.Streams.{Wrote, WrotePart, Counts};
 
 /// A write that failed. The sink has counted it.
@@ -19,7 +20,7 @@ pub trait Sink: Drop {
     fn write(&mut self, bytes: &[u8]) -> Result<usize, Fault>
         ensures taken { IfOk result (λ n. (n ≤ length bytes.now) × (0 < length bytes.now → 0 < n)) }
         ensures ok { IfOk result (λ n. Wrote (text self.old) (text self.new) (take n bytes.now)) }
-        ensures err { OnErr result (text self.new ≡ text self.old) }
+        ensures err { OnErr result (Keeps (text self.old) (text self.new)) }
         ensures counted { Counts (failed self.old) (failed self.new) result };
 
     /// How many writes failed; a u64 that stands still at its last value.

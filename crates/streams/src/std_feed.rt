@@ -1,14 +1,14 @@
 //! A feed over a stream of the process.
 
-ghost use Rattle.std.specs.Prelude.{◌≡◌, None};
+ghost use Rattle.std.specs.Prelude.{◌≡◌};
 
 use crate::feed::Feed;
 use crate::sink::Fault;
 use std::io::Read;
 use std::marker::Model;
 
-/// Hands bytes on from a stream, such as standard input. It tells nothing of what the stream has left, so
-/// a contract sees its failures alone.
+/// Hands bytes on from a stream, such as standard input. A contract sees what the stream tells of the bytes
+/// that it has left, which standard input does not, and the failures.
 #[derive(Drop)]
 pub struct StdFeed<R: Read + Drop> {
     stream: R,
@@ -16,26 +16,27 @@ pub struct StdFeed<R: Read + Drop> {
 }
 
 impl<R: Read + Drop> Model for StdFeed<R> {
-    ghost use Rattle.std.specs.Prelude.{ℕ};
+    ghost use Rattle.streams.specs.Streams.{Stream};
 
-    ghost Value = { ℕ };
+    ghost Value = { Stream };
 
-    ghost view = { λ f. f.failed };
+    ghost view = { λ f. record { bytes = R.remaining f.stream; failures = f.failed } };
 }
 
 impl<R: Read + Drop> StdFeed<R> {
     /// A feed over the stream, with no failures.
     pub fn new(stream: R) -> StdFeed<R>
-        ensures { result ≡ 0 }
+        ensures bytes { result.bytes ≡ R.remaining stream }
+        ensures failures { result.failures ≡ 0 }
     {
         StdFeed { stream, failed: 0 }
     }
 }
 
 impl<R: Read + Drop> Feed for StdFeed<R> {
-    ghost rest = { λ _. None };
+    ghost rest = { λ f. f.bytes };
 
-    ghost failed = { λ f. f };
+    ghost failed = { λ f. f.failures };
 
     fn read(&mut self, buffer: &mut [u8]) -> Result<usize, Fault> {
         match self.stream.read(buffer) {

@@ -1,13 +1,14 @@
 //! A sink over a stream of the process.
 
-ghost use Rattle.std.specs.Prelude.{◌≡◌, None};
+ghost use Rattle.std.specs.Prelude.{◌≡◌};
 
 use crate::sink::{Fault, Sink};
 use std::io::Write;
 use std::marker::Model;
 
-/// Hands bytes on to a stream, such as standard output. It tells nothing of what the stream holds, so a
-/// contract sees its failures alone.
+/// Hands bytes on to a stream, such as standard output, and counts a write that takes none of them as a
+/// failure. A contract sees what the stream tells of its bytes, which standard output does not, and the
+/// failures.
 #[derive(Drop)]
 pub struct StdSink<W: Write + Drop> {
     stream: W,
@@ -15,26 +16,27 @@ pub struct StdSink<W: Write + Drop> {
 }
 
 impl<W: Write + Drop> Model for StdSink<W> {
-    ghost use Rattle.std.specs.Prelude.{ℕ};
+    ghost use Rattle.streams.specs.Streams.{Stream};
 
-    ghost Value = { ℕ };
+    ghost Value = { Stream };
 
-    ghost view = { λ s. s.failed };
+    ghost view = { λ s. record { bytes = W.contents s.stream; failures = s.failed } };
 }
 
 impl<W: Write + Drop> StdSink<W> {
     /// A sink over the stream, with no failures.
     pub fn new(stream: W) -> StdSink<W>
-        ensures { result ≡ 0 }
+        ensures bytes { result.bytes ≡ W.contents stream }
+        ensures failures { result.failures ≡ 0 }
     {
         StdSink { stream, failed: 0 }
     }
 }
 
 impl<W: Write + Drop> Sink for StdSink<W> {
-    ghost text = { λ _. None };
+    ghost text = { λ s. s.bytes };
 
-    ghost failed = { λ s. s };
+    ghost failed = { λ s. s.failures };
 
     fn write(&mut self, bytes: &[u8]) -> Result<usize, Fault> {
         match self.stream.write(bytes) {

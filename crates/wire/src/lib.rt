@@ -1,5 +1,5 @@
 //! Fields at fixed places in a text of bytes, read and written in place, numbers with the highest
-//! byte first. No handle.
+//! byte first; and in `specs/` the words for refusals in their order. No handle.
 #![tactic(auto)]
 
 ghost use Rattle.std.specs.Prelude.{◌≡◌, ◌+◌, ◌≤◌, ◌++◌, length, take, drop};

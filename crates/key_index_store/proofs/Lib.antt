@@ -1,0 +1,3 @@
+pub mod Bounds
+pub mod Recovered
+pub mod Reservations

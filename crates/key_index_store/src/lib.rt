@@ -1,0 +1,11 @@
+//! One-time key indices 0 to 1023, each handed out at most once, also over crashes. No handle.
+#![tactic(auto)]
+
+mod error;
+mod store;
+
+pub use error::IndexError;
+pub use store::IndexStore;
+
+#[cfg(test)]
+mod tests;

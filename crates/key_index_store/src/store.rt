@@ -1,0 +1,251 @@
+//! The indices of a key.
+ghost use Rattle.std.specs.Prelude.{◌≡◌, ◌≢◌, ◌<◌, ◌≤◌, ◌+◌, ◌-◌, ◌*◌, ◌%◌, [], ℕ, List, IsTrue, true, false, if◌then◌else◌, IfSome, IsSome, ◌↔◌, option_map, length, IfOk, IfErr, OnErr, OnOk, IsErrOf};
+ghost use Rattle.stable_log.specs.Disk.{HasFailed};
+ghost use Rattle.stable_log.specs.Crash.{LeavesOnly, Unwritten};
+ghost use Rattle.stable_log.specs.Image.{empty_journal};
+ghost use Rattle.key_index_store.specs.Boundary.{reservation, reservations, IsBoundary, IsBoundedBy, LeavesBoundary};
+ghost use Rattle.key_index_store.specs.Refusals.{IsCreateRefusal, IsRecoverRefusal, MayGive, IsNextRefusal, IsReserveFault, IsReadFault};
+
+use crate::IndexError;
+use stable_log::{Disk, Journal};
+use std::alloc::Global;
+use std::marker::Model;
+
+const INDICES: u32 = 1024;
+
+const INDICES_PER_RESERVATION: u32 = 16;
+
+const RESERVATIONS: u32 = INDICES / INDICES_PER_RESERVATION;
+
+/// The indices 0 to 1023 of a key, on a disk. An index is given once: before it is, a reservation of 16 indices that
+/// covers it is durable, and recovery skips what was reserved.
+///
+/// The disk holds a journal whose entry k, from 0 to 63, is the big-endian u32 16(k+1): all indices below it are
+/// taken.
+///
+/// Contracts see the disk, the mark below which lies every index given or skipped, and whether the store is stopped.
+#[derive(Drop)]
+pub struct IndexStore<D: Disk> {
+    journal: Journal<D>,
+    // the least index that was not given
+    next: u32,
+    // how many reservations are stored
+    count: u32,
+}
+
+impl<D: Disk> Model for IndexStore<D> {
+    ghost use Rattle.key_index_store.specs.State.{IndexState};
+    ghost use Rattle.key_index_store.specs.Boundary.{IsStore};
+
+    ghost Value = { IndexState D };
+
+    ghost view = { λ s. record { disk = s.journal.disk; mark = s.next; stopped = s.journal.stopped } };
+
+    ghost invariant = { λ s. IsStore (D.bytes s.journal.disk) (D.images s.journal.disk) s.journal.payloads s.next s.count };
+}
+
+// What entry k of the journal holds.
+fn reservation_text(k: u32) -> [u8; 4]
+    requires { k < 64 }
+    ensures { result ≡ reservation k }
+{
+    (INDICES_PER_RESERVATION * (k + 1)).to_be_bytes()
+}
+
+fn is_reservation(entry: &[u8], k: u32) -> bool
+    requires { k < 64 }
+    ensures { IsTrue result ↔ (entry.now ≡ reservation k) }
+{
+    entry == reservation_text(k).as_slice()
+}
+
+// Stores that 16 indices more are taken.
+fn reserve<D: Disk>(journal: &mut Journal<D>, count: u32) -> Result<(), IndexError>
+    requires running { journal.old.stopped ≡ false }
+    requires limit { count < 64 }
+    requires counted { length journal.old.payloads ≡ count }
+    requires listed { IfSome (D.bytes journal.old.disk) (λ _.
+        journal.old.payloads ≡ reservations count) }
+    ensures listed { OnOk result (IfSome (D.bytes journal.old.disk) (λ _.
+        journal.new.payloads ≡ reservations (count + 1))) }
+    ensures counted { OnOk result (length journal.new.payloads ≡ count + 1) }
+    ensures running { OnOk result (journal.new.stopped ≡ false) }
+    ensures durable { OnOk result (IfSome (D.bytes journal.old.disk) (λ _.
+        LeavesBoundary (D.images journal.new.disk) (16 * (count + 1)))) }
+    ensures no_failure { OnOk result (D.failed journal.new.disk ≡ D.failed journal.old.disk) }
+    ensures tells { IsSome (D.bytes journal.new.disk) ↔ IsSome (D.bytes journal.old.disk) }
+    ensures bounded { IfSome (D.bytes journal.old.disk) (λ _.
+        LeavesBoundary (D.images journal.new.disk) (16 * count)) }
+    ensures any_moment { IfSome (D.bytes journal.old.disk) (λ _.
+        LeavesOnly D.moment D.images_since journal.old.disk journal.new.disk (IsBoundedBy
+        (16 * count))) }
+    ensures first_refusal { IfErr result IsReserveFault }
+    ensures device { IsErrOf result IndexError.Device → (journal.new.payloads ≡ journal.old.payloads)
+        × (journal.new.stopped ≡ true) }
+    ensures err { IfErr result (λ e. e ≢ IndexError.Device → journal.new ≡ journal.old) }
+    ensures cause { IsErrOf result IndexError.Device →
+        HasFailed (D.failed journal.old.disk) (D.failed journal.new.disk) }
+{
+    journal.append(&reservation_text(count))?;
+    Ok(())
+}
+
+// How many reservations a journal has, where it has nothing else.
+fn read_reservations<D: Disk>(alloc: Global, journal: &mut Journal<D>) -> Result<u32, IndexError>
+    requires { journal.old.stopped ≡ false }
+    ensures ok { IfOk result (λ n. IfSome (D.bytes journal.old.disk) (λ _.
+        journal.old.payloads ≡ reservations n)) }
+    ensures counted { IfOk result (λ n. (length journal.old.payloads ≡ n) × (n ≤ 64)) }
+    ensures same { (journal.new.payloads ≡ journal.old.payloads) × (journal.new.stopped ≡ false)
+        × Unwritten D.bytes D.images D.moment D.images_since journal.old.disk journal.new.disk }
+    ensures no_failure { OnOk result (D.failed journal.new.disk ≡ D.failed journal.old.disk) }
+    ensures first_refusal { IfErr result (IsReadFault (D.bytes journal.old.disk) journal.old.payloads) }
+    ensures cause { IsErrOf result IndexError.Device →
+        HasFailed (D.failed journal.old.disk) (D.failed journal.new.disk) }
+{
+    if journal.count() > RESERVATIONS as usize {
+        return Err(IndexError::BadEntry);
+    }
+    let count = journal.count() as u32;
+    let mut entry = Vec::new(alloc);
+    for k in 0..count {
+        journal.entry(k as usize, &mut entry)?;
+        if !is_reservation(&entry, k) {
+            return Err(IndexError::BadEntry);
+        }
+    }
+    Ok(count)
+}
+
+impl<D: Disk> IndexStore<D> {
+    /// Makes an empty disk a store that has given nothing. A refusal hands the disk back; one that was not empty is
+    /// not written to. In this order: `Device`, `BadEntry`.
+    pub fn create(alloc: Global, disk: D) -> Result<IndexStore<D>, (IndexError, D)>
+        ensures ok { IfOk result (λ s. (s.mark ≡ 0) × (s.stopped ≡ false)) }
+        ensures exact { OnOk result (IfSome (D.bytes disk) (λ bytes. bytes ≡ [])) }
+        ensures told { IfOk result (λ s. D.bytes s.disk ≡ option_map (λ _. empty_journal) (D.bytes disk)) }
+        ensures bounded { IfOk result (λ s. IfSome (D.bytes disk) (λ _.
+            LeavesBoundary (D.images s.disk) s.mark)) }
+        ensures no_failure { IfOk result (λ s. D.failed s.disk ≡ D.failed disk) }
+
+        ensures first_refusal { IfErr result (λ e. IsCreateRefusal (D.bytes disk) e.0) }
+        ensures err { IfErr result (λ e. IfSome (D.bytes disk) (λ bytes. bytes ≢ [] →
+            Unwritten D.bytes D.images D.moment D.images_since disk e.1)) }
+        ensures tells { IfErr result (λ e. IsSome (D.bytes e.1) ↔ IsSome (D.bytes disk)) }
+        ensures cause { IfErr result (λ e. e.0 ≡ IndexError.Device →
+            HasFailed (D.failed disk) (D.failed e.1)) }
+    {
+        match Journal::create(alloc, disk) {
+            Ok(journal) => Ok(IndexStore {
+                journal,
+                next: 0,
+                count: 0,
+            }),
+            Err((refusal, disk)) => Err((IndexError::from(refusal), disk)),
+        }
+    }
+
+    /// Reads a store that a crash or a failed call may have left, and goes on at the stored boundary, 0 where nothing
+    /// is stored. It writes nothing. A refusal hands the disk back. In this order: `Memory`, `Device`, `BadEntry`.
+    pub fn recover(alloc: Global, disk: D) -> Result<IndexStore<D>, (IndexError, D)>
+        ensures ok { IfOk result (λ s. IfSome (D.bytes disk) (λ bytes. IsBoundary s.mark bytes)) }
+
+        // No index is given again: each mark that the image bounds is at most the new one.
+        ensures not_again { IfOk result (λ s. IfSome (D.bytes disk) (λ bytes. (mark : ℕ) →
+            IsBoundedBy mark bytes → mark ≤ s.mark)) }
+
+        ensures running { IfOk result (λ s. s.stopped ≡ false) }
+        ensures bounded { IfOk result (λ s. IfSome (D.bytes disk) (λ _.
+            LeavesBoundary (D.images s.disk) s.mark)) }
+        ensures same { IfOk result (λ s. Unwritten D.bytes D.images D.moment D.images_since disk s.disk) }
+        ensures no_failure { IfOk result (λ s. D.failed s.disk ≡ D.failed disk) }
+
+        ensures first_refusal { IfErr result (λ e. IsRecoverRefusal (D.bytes disk) e.0) }
+        ensures err { IfErr result (λ e. Unwritten D.bytes D.images D.moment D.images_since disk e.1) }
+        ensures cause { IfErr result (λ e. e.0 ≡ IndexError.Device →
+            HasFailed (D.failed disk) (D.failed e.1)) }
+    {
+        let mut journal = match Journal::recover(alloc, disk) {
+            Ok(journal) => journal,
+            Err((refusal, disk)) => return Err((IndexError::from(refusal), disk)),
+        };
+        match read_reservations(alloc, &mut journal) {
+            Ok(count) => Ok(IndexStore {
+                journal,
+                next: INDICES_PER_RESERVATION * count,
+                count,
+            }),
+            Err(e) => Err((e, journal.into_disk())),
+        }
+    }
+
+    /// Gives the least index that was neither given nor skipped, and first reserves 16 more where all reserved ones
+    /// are given. After `Device` the store is stopped: take the disk out and recover it. No refusal uses up an index,
+    /// and any but `Device` changes nothing. In this order: `Memory`, `Stopped`, `Spent`, `Device`.
+    pub fn next(&mut self) -> Result<u32, IndexError>
+        ensures ok { IfOk result (λ n. (n ≡ self.old.mark) × (self.new.mark ≡ self.old.mark + 1)) }
+        ensures exact { OnOk result (MayGive self.old) }
+        ensures running { OnOk result (self.new.stopped ≡ false) }
+        ensures bounded { IfSome (D.bytes self.old.disk) (λ _.
+            LeavesBoundary (D.images self.new.disk) self.new.mark) }
+        ensures no_failure { OnOk result (D.failed self.new.disk ≡ D.failed self.old.disk) }
+        ensures tells { IsSome (D.bytes self.new.disk) ↔ IsSome (D.bytes self.old.disk) }
+        ensures same { self.old.mark % 16 ≢ 0 → self.new.disk ≡ self.old.disk }
+
+        // A crash at any moment of the call leaves a boundary that is at least the mark from before it.
+        ensures any_moment { IfSome (D.bytes self.old.disk) (λ _.
+            LeavesOnly D.moment D.images_since self.old.disk self.new.disk
+            (IsBoundedBy self.old.mark)) }
+
+        ensures first_refusal { IfErr result (IsNextRefusal self.old) }
+        ensures device { IsErrOf result IndexError.Device → (self.new.mark ≡ self.old.mark)
+            × (self.new.stopped ≡ true) }
+        ensures err { IfErr result (λ e. e ≢ IndexError.Device → self.new ≡ self.old) }
+        ensures cause { IsErrOf result IndexError.Device →
+            HasFailed (D.failed self.old.disk) (D.failed self.new.disk) }
+    {
+        if self.journal.stopped() {
+            return Err(IndexError::Stopped);
+        }
+        if self.next >= INDICES {
+            return Err(IndexError::Spent);
+        }
+        if self.next >= INDICES_PER_RESERVATION * self.count {
+            // The boundary is on the disk before an index below it is given.
+            reserve(&mut self.journal, self.count)?;
+            self.count += 1;
+        }
+        self.next += 1;
+        Ok(self.next - 1)
+    }
+
+    /// How many indices `next` can still give, 0 where the store is stopped.
+    pub fn left(&self) -> u32
+        ensures { result ≡ (if self.now.stopped then 0 else 1024 - self.now.mark) }
+    {
+        if self.journal.stopped() {
+            0
+        } else {
+            INDICES - self.next
+        }
+    }
+
+    /// Whether the disk failed in a `next`.
+    pub fn stopped(&self) -> bool
+        ensures { result ≡ self.now.stopped }
+    {
+        self.journal.stopped()
+    }
+
+    /// The disk, as it is.
+    pub fn into_disk(self) -> D
+        ensures { result ≡ self.disk }
+    {
+        let IndexStore {
+            journal,
+            next: _,
+            count: _,
+        } = self;
+        journal.into_disk()
+    }
+}

@@ -1,0 +1,9 @@
+pub mod Append
+pub mod Crash
+pub mod Memory
+pub mod Moments
+pub mod OneList
+pub mod Places
+pub mod ReadingLemmas
+pub mod Told
+pub mod Written

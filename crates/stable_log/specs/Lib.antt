@@ -1,0 +1,9 @@
+pub mod Crash
+pub mod Disk
+pub mod Fuse
+pub mod Image
+pub mod Memory
+pub mod MemoryLaws
+pub mod Places
+pub mod Refusals
+pub mod State

@@ -1,0 +1,19 @@
+//! An append-only journal whose entries survive a crash at any moment, over a disk that may fail. No handle.
+#![tactic(auto)]
+
+mod calls;
+mod disk;
+mod error;
+mod file_disk;
+mod journal;
+mod memory_disk;
+mod reading;
+
+pub use disk::{Disk, Fault};
+pub use error::JournalError;
+pub use file_disk::FileDisk;
+pub use journal::Journal;
+pub use memory_disk::{Choice, MemoryDisk};
+
+#[cfg(test)]
+mod tests;
