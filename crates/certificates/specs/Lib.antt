@@ -3,3 +3,9 @@ pub use Rattle.blocks.specs.Genesis
 pub use Rattle.blocks.specs.Headers
 pub mod Statements
 pub mod Votes
+pub mod VoteChecks
+pub mod Certificates
+pub mod CertificateReading
+pub mod GoodCertificates
+pub mod BlockChecks
+pub mod Assembling

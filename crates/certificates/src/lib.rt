@@ -1,9 +1,16 @@
 //! Votes, and the certificates that they make. No handle.
 #![tactic(auto)]
 
+mod assembling;
+mod certificate;
+mod checked_block;
+mod quorum;
 mod statement;
 mod vote;
 
+pub use assembling::{AssembleRefusal, assemble};
 pub use blocks::CommitteeView;
+pub use certificate::{Certificate, CertificateRefusal};
+pub use checked_block::{BlockRefusal, CheckedBlock, check_block};
 pub use statement::{STATEMENT_LEN, Statement, statements_have_one_spelling};
-pub use vote::{LmsVerifier, SignedVote, Verifier, is_signed_by};
+pub use vote::{LmsVerifier, SignedVote, Verifier, VoteRefusal, check_vote, is_signed_by};

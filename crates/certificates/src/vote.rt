@@ -3,6 +3,7 @@
 ghost use Rattle.std.specs.Prelude.{◌≡◌, ◌<◌, ◌≤◌, ◌↔◌, IsTrue, IsOk, OnOk, IfErr};
 ghost use Rattle.lms_tree.specs.Tree.{Verifies};
 ghost use Rattle.blocks.specs.Committees.{n_of};
+ghost use Rattle.certificates.specs.VoteChecks.{IsVoteRefusal, vote_refusal_number};
 ghost use Rattle.certificates.specs.Votes.{IsSignedBy, IsGoodVote};
 
 use crate::statement::Statement;
@@ -20,6 +21,24 @@ pub struct SignedVote {
     pub id: Id,
     /// The LMS signature of the statement, 1,452 bytes (RFC 8554, section 5.4).
     pub signature: [u8; 1452],
+}
+
+/// Why a vote is refused, in the order of the tests.
+#[derive(Clone, Copy, Debug, PartialEq, Eq)]
+pub enum VoteRefusal {
+    /// The committee has no such replica.
+    UnknownReplica = 1,
+    /// The signature is not the replica's on the vote's view and id, in the committee's chain.
+    Signature = 2,
+}
+
+impl VoteRefusal {
+    /// The number of the refusal, which never changes.
+    pub fn number(self) -> u8
+        ensures { result ≡ vote_refusal_number self }
+    {
+        self as u8
+    }
 }
 
 /// Checks signatures. What is generic over it can be watched by a test; the answer is always that of
@@ -59,4 +78,26 @@ pub fn is_signed_by<V: Verifier>(
         id: *id,
     };
     verifier.verify(&committee.key(replica), &statement.to_bytes(), signature)
+}
+
+/// Checks that a vote is good: its replica is one of the committee, and signed the vote's view and id in
+/// the committee's chain. Refused in this order: UnknownReplica, Signature.
+pub fn check_vote(committee: &CommitteeView, vote: &SignedVote) -> Result<(), VoteRefusal>
+    ensures exact { IsOk result ↔ IsGoodVote committee.now vote.now.replica vote.now.view vote.now.id vote.now.signature }
+    ensures first_refusal { IfErr result (IsVoteRefusal committee.now vote.now) }
+{
+    if vote.replica >= committee.n() {
+        return Err(VoteRefusal::UnknownReplica);
+    }
+    if !is_signed_by(
+        &LmsVerifier,
+        committee,
+        vote.replica,
+        vote.view,
+        &vote.id,
+        &vote.signature,
+    ) {
+        return Err(VoteRefusal::Signature);
+    }
+    Ok(())
 }

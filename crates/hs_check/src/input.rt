@@ -75,6 +75,7 @@ fn read_file<'a, F: Files<File = File>>(
 // Want of memory is a fault of its own.
 pub(crate) fn unless_memory<'a>(error: &Error, fault: Fault<'a>) -> Fault<'a>
     ensures memory { error_kind error.now ≡ ErrorKind.OutOfMemory → result ≡ Fault.Memory }
+    ensures other { error_kind error.now ≢ ErrorKind.OutOfMemory → result ≡ fault.entry }
 {
     match error.kind() {
         ErrorKind::OutOfMemory => Fault::Memory,

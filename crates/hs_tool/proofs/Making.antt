@@ -1,7 +1,7 @@
 -- Files that are made one after the other.
-use Rattle.std.proofs.Common.{◌≡◌, ◌≤◌, ℕ, zero, suc, List, [], ◌∷◌, ◌++◌, Option, Some, None, IfSome, Result, Ok, Err, refl, sym, ap, subst, ◌∙◌, append_assoc, length, take}
+use Rattle.std.proofs.Common.{◌≡◌, ℕ, List, [], ◌++◌, Option, Some, None, Result, Ok, Err, sym, ap, subst, ◌∙◌, append_assoc, take}
 use Rattle.std.specs.Prelude.{OnErr}
-use Rattle.std.proofs.lemmas.List.{append-nil, take_all, take_at}
+use Rattle.std.proofs.lemmas.List.{append-nil}
 use Rattle.hs_tool.specs.KeyFiles.{FolderFile, Made, MadePart}
 
 -- nothing was made yet

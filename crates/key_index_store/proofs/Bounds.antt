@@ -1,5 +1,6 @@
 -- Boundaries of images.
 use Rattle.std.proofs.Common.{◌≡◌, inl, inr, ⊎_elim, ℕ, ◌+◌, ◌*◌, ◌≤◌, ◌<◌, List, [], ◌∷◌, ◌++◌, Option, Some, None, IfSome, refl, sym, ◌∙◌, subst, arith}
+pub use Rattle.stable_log.proofs.Told.{some_if, if_some}
 use Rattle.stable_log.specs.Crash.{LeavesOnly}
 use Rattle.stable_log.specs.Image.{StandsFor, IsBeforeOrAfter, LeavesList}
 use Rattle.key_index_store.specs.Boundary.{reservation, reservations, IsBoundedBy, LeavesBoundary}
@@ -47,10 +48,3 @@ module _ {D : Type 0} (moment : D → ℕ) (images_since : D → ℕ → List �
 pub some_lower : {X : Type 0} (o : Option X) (images : List ℕ → Type 0) (low high : ℕ) → low ≤ high → IfSome o (λ _. LeavesBoundary images high) → IfSome o (λ _. LeavesBoundary images low)
 some_lower None images low high le bounded = tt
 some_lower (Some x) images low high le bounded = λ image left. lower low high image le (bounded image left)
-
-pub some_if : {X : Type 0} (o : Option X) (P : X → Type 0) → ((x : X) → o ≡ Some x → P x) → IfSome o P
-some_if None P all = tt
-some_if (Some x) P all = all x refl
-
-pub if_some : {X : Type 0} (o : Option X) (P : X → Type 0) (x : X) → IfSome o P → o ≡ Some x → P x
-if_some {X = X} o P x holds is = let at : IfSome (Some x) P = subst (λ (v : Option X). IfSome v P) is holds in at

@@ -8,6 +8,14 @@ use Rattle.key_index_store.specs.declared.error.IndexError.TheVariants.{Memory, 
 use Rattle.stable_log.specs.declared.error.JournalError.{JournalError}
 use Rattle.stable_log.specs.declared.error.JournalError.TheVariants as journal
 
+-- the number that docs/REFUSALS.md gives a refusal
+abbrev pub index_error_number : IndexError → ℕ
+index_error_number Memory = 1
+index_error_number Device = 2
+index_error_number Spent = 3
+index_error_number Stopped = 4
+index_error_number BadEntry = 5
+
 -- what a refusal of the journal means to the store
 abbrev pub index_error : JournalError → IndexError
 index_error journal.Memory = Memory

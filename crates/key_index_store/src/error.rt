@@ -1,6 +1,6 @@
 //! Why an index store refuses.
 ghost use Rattle.std.specs.Prelude.{◌≡◌};
-ghost use Rattle.key_index_store.specs.Refusals.{index_error};
+ghost use Rattle.key_index_store.specs.Refusals.{index_error, index_error_number};
 
 use stable_log::JournalError;
 
@@ -17,6 +17,15 @@ pub enum IndexError {
     Stopped = 4,
     /// `create`: the disk is not empty. `recover`: it holds no journal of reservations.
     BadEntry = 5,
+}
+
+impl IndexError {
+    /// The number of the refusal, which never changes.
+    pub fn number(self) -> u8
+        ensures { result ≡ index_error_number self }
+    {
+        self as u8
+    }
 }
 
 impl From<JournalError> for IndexError {

@@ -102,6 +102,8 @@ fn read_reservations<D: Disk>(alloc: Global, journal: &mut Journal<D>) -> Result
     ensures first_refusal { IfErr result (IsReadFault (D.bytes journal.old.disk) journal.old.payloads) }
     ensures cause { IsErrOf result IndexError.Device →
         HasFailed (D.failed journal.old.disk) (D.failed journal.new.disk) }
+    ensures kept { IfErr result (λ e. e ≢ IndexError.Device →
+        D.failed journal.new.disk ≡ D.failed journal.old.disk) }
 {
     if journal.count() > RESERVATIONS as usize {
         return Err(IndexError::BadEntry);
@@ -134,6 +136,7 @@ impl<D: Disk> IndexStore<D> {
         ensures tells { IfErr result (λ e. IsSome (D.bytes e.1) ↔ IsSome (D.bytes disk)) }
         ensures cause { IfErr result (λ e. e.0 ≡ IndexError.Device →
             HasFailed (D.failed disk) (D.failed e.1)) }
+        ensures kept { IfErr result (λ e. e.0 ≢ IndexError.Device → D.failed e.1 ≡ D.failed disk) }
     {
         match Journal::create(alloc, disk) {
             Ok(journal) => Ok(IndexStore {
@@ -164,6 +167,7 @@ impl<D: Disk> IndexStore<D> {
         ensures err { IfErr result (λ e. Unwritten D.bytes D.images D.moment D.images_since disk e.1) }
         ensures cause { IfErr result (λ e. e.0 ≡ IndexError.Device →
             HasFailed (D.failed disk) (D.failed e.1)) }
+        ensures kept { IfErr result (λ e. e.0 ≢ IndexError.Device → D.failed e.1 ≡ D.failed disk) }
     {
         let mut journal = match Journal::recover(alloc, disk) {
             Ok(journal) => journal,

@@ -6,6 +6,17 @@ use Rattle.stable_log.specs.State.{JournalState}
 use Rattle.stable_log.specs.declared.error.JournalError.{JournalError}
 use Rattle.stable_log.specs.declared.error.JournalError.TheVariants.{Memory, Device, NotAJournal, Damaged, Full, TooLong, Stopped, NoSuchEntry}
 
+-- the number that docs/REFUSALS.md gives a refusal
+abbrev pub journal_error_number : JournalError → ℕ
+journal_error_number Memory = 1
+journal_error_number Device = 2
+journal_error_number NotAJournal = 3
+journal_error_number Damaged = 4
+journal_error_number Full = 5
+journal_error_number TooLong = 6
+journal_error_number Stopped = 7
+journal_error_number NoSuchEntry = 8
+
 -- no list stands for the bytes, though their head is a journal's
 abbrev pub IsDamaged : List ℕ → Type 0
 IsDamaged bytes = (take 8 bytes ≡ magic) × ((payloads : List (List ℕ)) → StandsFor bytes payloads → ⊥)

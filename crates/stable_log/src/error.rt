@@ -1,5 +1,6 @@
 //! Why a journal refuses.
 ghost use Rattle.std.specs.Prelude.{◌≡◌};
+ghost use Rattle.stable_log.specs.Refusals.{journal_error_number};
 ghost use Rattle.stable_log.specs.declared.error.JournalError.TheVariants.{Memory, Device};
 
 use crate::Fault;
@@ -24,6 +25,15 @@ pub enum JournalError {
     Stopped = 7,
     /// There is no entry of this number.
     NoSuchEntry = 8,
+}
+
+impl JournalError {
+    /// The number of the refusal, which never changes.
+    pub fn number(self) -> u8
+        ensures { result ≡ journal_error_number self }
+    {
+        self as u8
+    }
 }
 
 impl From<AllocError> for JournalError {

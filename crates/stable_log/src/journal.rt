@@ -1,7 +1,7 @@
 //! A list of payloads on a disk.
 ghost use Rattle.std.specs.Prelude.{◌≡◌, ◌≢◌, ◌<◌, ◌≤◌, ◌+◌, ◌++◌, ◌∷◌, [], ℕ, List, true, false, Some, IfSome, IsSome, ◌↔◌, option_map, length, slice_get, IfOk, IfErr, OnErr, OnOk, IsErrOf};
 ghost use Rattle.stable_log.specs.Disk.{HasFailed};
-ghost use Rattle.stable_log.specs.Crash.{Only, LeavesOnly, Unwritten};
+ghost use Rattle.stable_log.specs.Crash.{Only, LeavesOnly, Unwritten, Torn, Follows};
 ghost use Rattle.stable_log.specs.Image.{empty_journal, staged_text, StandsFor, IsBeforeOrAfter, LeavesList};
 ghost use Rattle.stable_log.specs.Refusals.{IsCreateRefusal, IsRecoverRefusal, MayAppend, IsAppendRefusal, MayRead, IsEntryRefusal};
 
@@ -69,8 +69,10 @@ impl<D: Disk> Journal<D> {
         ensures err { IfErr result (λ e. IfSome (D.bytes disk) (λ bytes. bytes ≢ [] →
             Unwritten D.bytes D.images D.moment D.images_since disk e.1)) }
         ensures tells { IfErr result (λ e. IsSome (D.bytes e.1) ↔ IsSome (D.bytes disk)) }
+        ensures torn { IfErr result (λ e. Follows (Torn 0 9) (D.images disk) (D.images e.1)) }
         ensures cause { IfErr result (λ e. e.0 ≡ JournalError.Device →
             HasFailed (D.failed disk) (D.failed e.1)) }
+        ensures kept { IfErr result (λ e. e.0 ≢ JournalError.Device → D.failed e.1 ≡ D.failed disk) }
     {
         let mut disk = disk;
         match disk.len() {
@@ -108,6 +110,7 @@ impl<D: Disk> Journal<D> {
         ensures err { IfErr result (λ e. Unwritten D.bytes D.images D.moment D.images_since disk e.1) }
         ensures cause { IfErr result (λ e. e.0 ≡ JournalError.Device →
             HasFailed (D.failed disk) (D.failed e.1)) }
+        ensures kept { IfErr result (λ e. e.0 ≢ JournalError.Device → D.failed e.1 ≡ D.failed disk) }
     {
         let mut disk = disk;
         match read_journal(alloc, &mut disk) {

@@ -1,5 +1,5 @@
 //! A disk in memory, for tests. It keeps its first bytes and each call since, from which its crash images follow.
-ghost use Rattle.std.specs.Prelude.{◌≡◌, ◌≤◌, ◌+◌, ◌-◌, ◌^◌, min, ℕ, Some, None, IfOk, IfSome, OnOk, OnErr, List, length, take, drop, [], ◌∷◌, ◌++◌};
+ghost use Rattle.std.specs.Prelude.{◌≡◌, ◌≤◌, ◌+◌, ◌-◌, ◌^◌, min, ℕ, Some, None, IfOk, IfSome, OnOk, OnErr, List, length, take, drop, [], ◌∷◌, ◌++◌, replicate};
 ghost use Rattle.stable_log.specs.Disk.{written, risen, Counts};
 ghost use Rattle.stable_log.specs.Crash.{Torn, Only, Unwritten};
 ghost use Rattle.stable_log.specs.Memory.{state_of, IsImageOf, WasImage};
@@ -31,7 +31,7 @@ pub enum Choice {
     New,
     /// Each byte is this one.
     Fill(u8),
-    /// The first half new, the rest as before, past the old end 0.
+    /// The first half new, rounded down, the rest as before, past the old end 0.
     Half,
 }
 
@@ -74,6 +74,7 @@ fn patch(
 ) -> Result<Vec<u8>, AllocError>
     ensures len { IfOk result (λ v. length v.items ≡ length piece.now) }
     ensures new { choice ≡ Choice.New → IfOk result (λ v. v.items ≡ piece.now) }
+    ensures fill { (b : ℕ) → choice ≡ Choice.Fill b → IfOk result (λ v. v.items ≡ replicate (length piece.now) b) }
 {
     match choice {
         Choice::Old | Choice::New => piece.to_vec(alloc),

@@ -42,6 +42,7 @@ fn read_entry<D: Disk>(disk: &mut D, size: u64, gate_at: u64) -> Result<Option<P
     ensures first_refusal { IfErr result (IsEntryFault (D.bytes disk.old) size gate_at) }
     ensures cause { IsErrOf result JournalError.Device →
         HasFailed (D.failed disk.old) (D.failed disk.new) }
+    ensures kept { IfErr result (λ e. e ≢ JournalError.Device → D.failed disk.new ≡ D.failed disk.old) }
 {
     if gate_at >= size {
         return Err(JournalError::Damaged);
@@ -82,6 +83,7 @@ fn read_entries<D: Disk>(
     ensures first_refusal { IfErr result (IsEntriesFault (D.bytes disk.old)) }
     ensures cause { IsErrOf result JournalError.Device →
         HasFailed (D.failed disk.old) (D.failed disk.new) }
+    ensures kept { IfErr result (λ e. e ≢ JournalError.Device → D.failed disk.new ≡ D.failed disk.old) }
 {
     let mut places = Vec::new(alloc);
     let mut gate_at = 8;
@@ -117,6 +119,7 @@ pub(crate) fn read_journal<D: Disk>(
     ensures first_refusal { IfErr result (IsRecoverRefusal (D.bytes disk.old)) }
     ensures cause { IsErrOf result JournalError.Device →
         HasFailed (D.failed disk.old) (D.failed disk.new) }
+    ensures kept { IfErr result (λ e. e ≢ JournalError.Device → D.failed disk.new ≡ D.failed disk.old) }
 {
     let size = settle(disk)?;
     if size < 8 {

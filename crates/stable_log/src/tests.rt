@@ -240,11 +240,28 @@ fn each_choice_of_a_crash(rt: HostRuntime) -> Result<(), Fail> {
         disk.crash(Choice::Fill(b'7'))?.bytes(),
         b"777777".as_slice()
     );
+    assert_eq!(rt; disk.crash(Choice::Fill(0))?.bytes(), [0; 6].as_slice());
     assert_eq!(rt; disk.crash(Choice::Half)?.bytes(), b"UVWd\0\0".as_slice());
     assert_eq!(rt; disk.sync(), Ok(()));
     for choice in CHOICES.iter() {
         assert_eq!(rt; disk.crash(*choice)?.bytes(), b"UVWXYZ".as_slice());
     }
+    Ok(())
+}
+
+#[test]
+fn half_of_a_range_is_rounded_down(rt: HostRuntime) -> Result<(), Fail> {
+    let alloc = rt.alloc();
+    let mut disk = disk_of(alloc, b"abcdefgh")?;
+    assert_eq!(rt; disk.write_at(0, b"X"), Ok(()));
+    assert_eq!(rt; disk.bytes().len(), 8);
+    assert_eq!(rt; disk.write_at(2, b"12345"), Ok(()));
+    assert_eq!(rt; disk.crash(Choice::Half)?.bytes(), b"ab12efgh".as_slice());
+    assert_eq!(rt;
+        disk.crash(Choice::Fill(b'7'))?.bytes(),
+        b"7b77777h".as_slice()
+    );
+    assert_eq!(rt; disk.crash(Choice::Old)?.bytes(), b"abcdefgh".as_slice());
     Ok(())
 }
 
@@ -301,6 +318,18 @@ fn a_file_is_read_back(rt: HostRuntime) -> Result<(), Fail> {
     assert_eq!(rt; disk.failures(), 1);
     drop(disk);
     fs::remove_file(&rt, path)?;
+    Ok(())
+}
+
+#[test]
+fn a_sync_that_fails_is_counted(rt: HostRuntime) -> Result<(), Fail> {
+    let file = OpenOptions::new()
+        .read(true)
+        .write(true)
+        .open(&rt, "/dev/null")?;
+    let mut disk = FileDisk::new(file);
+    assert_eq!(rt; disk.sync(), Err(Fault));
+    assert_eq!(rt; disk.failures(), 1);
     Ok(())
 }
 

@@ -7,5 +7,6 @@ pub use Rattle.blocks.specs.Rules
 pub use Rattle.certificates.specs.Votes
 pub mod Verdicts
 pub mod Proofs
+pub mod VerdictText
 pub mod VerdictReading
 pub mod RuleNumbers

@@ -1,8 +1,10 @@
 //! Verdicts, read in place.
 
-ghost use Rattle.std.specs.Prelude.{◌≡◌, IfOk, IfErr};
+ghost use Rattle.std.specs.Prelude.{◌≡◌, Ok, IfOk, IfErr, OnOk};
 ghost use Rattle.verdict_format.specs.Verdicts.{chain_in, replica_in, kind_in, earlier_in, later_in, earlier_signature_in, later_signature_in};
 ghost use Rattle.verdict_format.specs.RuleNumbers.{rule_number};
+ghost use Rattle.verdict_format.specs.VerdictText.{IsVerdictOf, parts_in};
+ghost use Rattle.verdict_format.specs.declared.parts.VerdictParts.{VerdictParts};
 ghost use Rattle.verdict_format.specs.VerdictReading.{IsReadable, IsFormRefusal, verdict_refusal_number};
 
 use blocks::Id;
@@ -82,9 +84,20 @@ impl<'a> Model for VerdictView<'a> {
 }
 
 impl<'a> VerdictView<'a> {
-    /// The verdict that the bytes spell. Nothing is copied, and no signature is checked.
+    /// The verdict that the bytes spell: `HSX1`, the chain id (32 bytes at 4), the accused replica (2 at
+    /// 36), the kind (1 at 38), and two votes (at 39 and 1,531), each a view (8), an id (32) and a
+    /// signature (1,452), numbers with the highest byte first. Nothing is copied, and no signature is
+    /// checked. Refused in this order: Short, Magic, Kind, Length.
     pub fn parse(bytes: &'a [u8]) -> Result<VerdictView<'a>, VerdictRefusal>
         ensures ok { IfOk result (λ v. (v ≡ bytes.now) × IsReadable bytes.now) }
+
+        // What is read is spelled so.
+        ensures found { OnOk result (IsVerdictOf bytes.now (parts_in bytes.now)) }
+
+        // What is spelled so is read, with the same parts.
+        ensures only { (v : VerdictParts) → IsVerdictOf bytes.now v → (result ≡ Ok bytes.now) × (parts_in bytes.now ≡ v) }
+
+        // The first test that fails refuses.
         ensures first_refusal { IfErr result (IsFormRefusal bytes.now) }
     {
         if bytes.len() < HEAD_LEN {

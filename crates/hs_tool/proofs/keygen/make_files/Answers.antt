@@ -1,4 +1,4 @@
-use Rattle.std.proofs.Common.{◌≡◌, ◌++◌, ◌∷◌, [], ℕ, List, Option, codes, refl, subst, take}
+use Rattle.std.proofs.Common.{◌≡◌, ◌++◌, ◌∷◌, [], ℕ, List, Option, codes, subst, take}
 use Rattle.stable_log.specs.Image.{empty_journal}
 use Rattle.hs_tool.specs.KeyFiles.{FolderFile, Made, replica_files}
 use Rattle.hs_tool.proofs.Making.{made_more, made_part, on_err}

@@ -1,0 +1,118 @@
+-- Votes that are put together, and votes that can not be.
+use Rattle.std.proofs.Common.{◌≡◌, ◌≢◌, ◌↔◌, ℕ, zero, suc, ◌+◌, ◌-◌, ◌<◌, ◌≤◌, true, false, List, [], ◌∷◌, length, get_or, refl, sym, ap, subst, ◌∙◌, arith}
+use Rattle.std.specs.Prelude.{map}
+use Rattle.std.specs.List.{All, AllPairs}
+use Rattle.std.specs.List.Sorted.{IsNonDecreasingBy, IsPermutation}
+use Rattle.std.proofs.lemmas.List.{get_or-map, length-map}
+use Rattle.std.proofs.lemmas.List.Elements.{All-map}
+use Rattle.std.proofs.lemmas.List.Sorted.{All-permutation, IsPermutation-sym, length_permutation}
+use Rattle.certificates.specs.declared.certificate.Endorsement.{Endorsement}
+use Rattle.certificates.specs.declared.vote.SignedVote.{SignedVote}
+use Rattle.certificates.specs.Certificates.{IsBefore, IsEndorsement}
+use Rattle.certificates.specs.CertificateReading.{is_rising}
+use Rattle.certificates.specs.Assembling.{AgreeOnBlock, AreByDifferent, IsVoteFor, endorsement_of}
+use Rattle.certificates.proofs.Permuted.{AllPairs-permutation}
+use Rattle.certificates.proofs.Rising.{rising_means, rising_where}
+
+-- ---- one view and id
+
+pub agree_from : (votes : List SignedVote) (view : ℕ) (id : List ℕ) → All (IsVoteFor view id) votes → AgreeOnBlock votes
+agree_from votes view id all i j d before below =
+    let a = all i d (omega arith) in
+    let b = all j d below in
+    record { same_view = b.same_view ∙ sym a.same_view; same_id = b.same_id ∙ sym a.same_id }
+
+for_first : (votes : List SignedVote) (d : SignedVote) → AgreeOnBlock votes → All (IsVoteFor (get_or votes 0 d).view (get_or votes 0 d).id) votes
+for_first [] d agree k e below = absurd (omega arith)
+for_first (v ∷ vs) d agree zero e below = record { same_view = refl; same_id = refl }
+for_first (v ∷ vs) d agree (suc k) e below = agree 0 (suc k) e (omega arith) below
+
+-- votes that are not all for the first one's block are for different ones
+pub mixed_from : (votes : List SignedVote) (first d : SignedVote) → first ≡ get_or votes 0 d → (All (IsVoteFor first.view first.id) votes → ⊥) → AgreeOnBlock votes → ⊥
+mixed_from votes first d is fails agree =
+    fails (subst (λ (v : SignedVote). All (IsVoteFor v.view v.id) votes) (sym is) (for_first votes d agree))
+
+-- ---- different replicas
+
+-- two entries are by different replicas
+abbrev Differ : Endorsement → Endorsement → Type 0
+Differ d e = d.replica ≢ e.replica
+
+flip : (d e : Endorsement) → Differ d e → Differ e d
+flip d e differ same = differ (sym same)
+
+abbrev vote_from : Endorsement → SignedVote
+vote_from e = record { replica = e.replica; view = 0; id = []; signature = e.signature }
+
+differ_kept : (votes : List SignedVote) → AreByDifferent votes → AllPairs Differ (map endorsement_of votes)
+differ_kept votes different i j d before below =
+    let n = length-map votes endorsement_of in
+    rw (get_or-map endorsement_of votes i (vote_from d) d (omega arith), get_or-map endorsement_of votes j (vote_from d) d (omega arith))
+    (different i j (vote_from d) before (omega arith))
+
+differ_back : (votes : List SignedVote) → AllPairs Differ (map endorsement_of votes) → AreByDifferent votes
+differ_back votes different i j d before below =
+    let n = length-map votes endorsement_of in
+    let e = endorsement_of d in
+    let i_is = ap (λ (x : Endorsement). x.replica) (get_or-map endorsement_of votes i d e (omega arith)) in
+    let j_is = ap (λ (x : Endorsement). x.replica) (get_or-map endorsement_of votes j d e below) in
+    λ same. different i j e before (omega arith) (i_is ∙ same ∙ sym j_is)
+
+-- entries of a sorted list by different replicas rise
+rise_if_differ : (es : List Endorsement) → IsNonDecreasingBy (λ e. e.replica) es → AllPairs Differ es → AllPairs IsBefore es
+rise_if_differ es sorted differ i j d before below =
+    let le = sorted i j d (omega arith) below in
+    let ne = differ i j d before below in
+    omega arith
+
+differ_if_rise : (es : List Endorsement) → AllPairs IsBefore es → AllPairs Differ es
+differ_if_rise es rising i j d before below = let lt = rising i j d before below in λ same. absurd (omega arith)
+
+-- sorted votes that do not rise have two by one replica
+pub double_from : (votes : List SignedVote) (made es : List Endorsement) → made ≡ map endorsement_of votes → IsPermutation made es
+    → IsNonDecreasingBy (λ e. e.replica) es → is_rising es ≡ false → AreByDifferent votes → ⊥
+double_from votes made es is same sorted not_rising different =
+    let differ = AllPairs-permutation Differ flip made es same (subst (AllPairs Differ) (sym is) (differ_kept votes different)) in
+    let rising = rising_where es (rise_if_differ es sorted differ) in
+    absurd cc
+
+-- votes that rise are by different replicas
+pub different_from : (votes : List SignedVote) (made es : List Endorsement) → made ≡ map endorsement_of votes → IsPermutation made es
+    → is_rising es ≡ true → AreByDifferent votes
+different_from votes made es is same rising =
+    differ_back votes (subst (AllPairs Differ) is (AllPairs-permutation Differ flip es made (IsPermutation-sym made es same) (differ_if_rise es (rising_means es rising))))
+
+-- ---- as many entries as a certificate may have
+
+few_enough : (n least : ℕ) (es : List Endorsement) → All (λ e. e.replica < n) es → All (λ e. least ≤ e.replica) es → AllPairs IsBefore es → length es ≤ n - least
+few_enough n least [] known from rising = omega arith
+few_enough n least (e ∷ es) known from rising =
+    let here = known 0 e (omega arith) in
+    let low = from 0 e (omega arith) in
+    let rest : length es ≤ n - (e.replica + 1) =
+    few_enough n (e.replica + 1) es (λ k d below. known (suc k) d (omega arith))
+    (λ k d below. omega (arith, rising 0 (suc k) d (omega arith) (omega arith))) (λ i j d before below. rising (suc i) (suc j) d (omega arith) (omega arith)) in
+    omega arith
+
+-- what the tests let through
+pub record Passed (view : ℕ) (es : List Endorsement) : Type 0 where
+  pub each : All IsEndorsement es
+  pub rising : AllPairs IsBefore es
+  pub most : length es ≤ 31
+  pub none : (length es ≡ 0) ↔ (view ≡ 0)
+
+pub passed : (n view : ℕ) (votes : List SignedVote) (made es : List Endorsement) → n ≤ 31 → All (λ v. v.replica < n) votes
+    → 1 ≤ view → 1 ≤ length votes → made ≡ map endorsement_of votes → IsPermutation made es → All IsEndorsement made
+    → is_rising es ≡ true → Passed view es
+passed n view votes made es most known above some is same each rising =
+    let rises = rising_means es rising in
+    let known_made : All (λ e. e.replica < n) made =
+    subst (All (λ (e : Endorsement). e.replica < n)) (sym is) (All-map (λ (e : Endorsement). e.replica < n) endorsement_of votes known) in
+    let few = few_enough n 0 es (All-permutation (λ (e : Endorsement). e.replica < n) made es same known_made) (λ k d below. omega arith) rises in
+    let count : length es ≡ length votes = length_permutation made es same ∙ ap (λ (xs : List Endorsement). length xs) is ∙ length-map votes endorsement_of in
+    record {
+      each = All-permutation IsEndorsement made es same each;
+      rising = rises;
+      most = omega arith;
+      none = (λ e. absurd (omega arith), λ e. absurd (omega arith));
+    }

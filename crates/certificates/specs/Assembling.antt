@@ -1,0 +1,56 @@
+-- A certificate that is put together from votes, and why votes make none.
+use Rattle.std.specs.Prelude.{◌≡◌, ◌≢◌, ◌<◌, ◌≤◌, ◌+◌, ◌*◌, ℕ, List, length, map, ⊤}
+use Rattle.std.specs.List.{All, AllPairs}
+use Rattle.std.specs.List.Sorted.{IsPermutation}
+use Rattle.blocks.specs.Committees.{f_of}
+use Rattle.certificates.specs.declared.certificate.Endorsement.{Endorsement}
+use Rattle.certificates.specs.declared.vote.SignedVote.{SignedVote}
+use Rattle.certificates.specs.declared.assembling.AssembleRefusal.{AssembleRefusal}
+use Rattle.certificates.specs.declared.assembling.AssembleRefusal.TheVariants.{Memory, Mixed, TooFew, Double}
+use Rattle.certificates.specs.Certificates.{Certificate, IsBefore}
+
+-- the vote is for this view and id
+pub record IsVoteFor (view : ℕ) (id : List ℕ) (v : SignedVote) : Type 0 where
+  pub same_view : v.view ≡ view
+  pub same_id : v.id ≡ id
+
+-- the votes are for one view and id
+abbrev pub AgreeOnBlock : List SignedVote → Type 0
+AgreeOnBlock votes = AllPairs (λ v w. IsVoteFor v.view v.id w) votes
+
+-- no two votes are by one replica
+abbrev pub AreByDifferent : List SignedVote → Type 0
+AreByDifferent votes = AllPairs (λ v w. v.replica ≢ w.replica) votes
+
+-- what a certificate keeps of a vote beside its own view and id
+abbrev pub endorsement_of : SignedVote → Endorsement
+endorsement_of v = record { replica = v.replica; signature = v.signature }
+
+-- the certificate has these votes and no others, sorted by replica, on their view and id
+pub record IsAssembled (votes : List SignedVote) (c : Certificate) : Type 0 where
+  pub on_block : All (IsVoteFor c.view c.id) votes
+  pub same_votes : IsPermutation (map endorsement_of votes) c.entries
+  pub rising : AllPairs IsBefore c.entries
+
+-- ---- refusals
+
+-- the votes pass the tests before this one, and fail this one; memory may be refused at any time
+abbrev pub IsAssembleRefusal : AssembleRefusal → List ℕ → List SignedVote → Type 0
+IsAssembleRefusal Memory committee votes = ⊤
+IsAssembleRefusal Mixed committee votes = AgreeOnBlock votes → ⊥
+IsAssembleRefusal TooFew committee votes = AgreeOnBlock votes × (length votes < 2 * f_of committee + 1)
+IsAssembleRefusal Double committee votes =
+    AgreeOnBlock votes × (2 * f_of committee + 1 ≤ length votes) × (AreByDifferent votes → ⊥)
+
+-- the votes pass each test
+pub record AreAssemblable (committee : List ℕ) (votes : List SignedVote) : Type 0 where
+  pub agree : AgreeOnBlock votes
+  pub enough : 2 * f_of committee + 1 ≤ length votes
+  pub different : AreByDifferent votes
+
+-- the number that docs/REFUSALS.md gives a refusal
+abbrev pub assemble_refusal_number : AssembleRefusal → ℕ
+assemble_refusal_number Memory = 1
+assemble_refusal_number Mixed = 2
+assemble_refusal_number TooFew = 3
+assemble_refusal_number Double = 4

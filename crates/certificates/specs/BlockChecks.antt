@@ -1,0 +1,68 @@
+-- When a block's certificate is good and on the block's parent, and why a block is refused.
+use Rattle.std.specs.Prelude.{◌≡◌, ◌⊎◌, ◌<◌, ◌≤◌, ◌+◌, ◌*◌, ℕ, List, length, take}
+use Rattle.std.specs.List.{All}
+use Rattle.blocks.specs.Committees.{f_of, n_of}
+use Rattle.blocks.specs.Headers.{Header}
+use Rattle.certificates.specs.declared.certificate.Endorsement.{Endorsement}
+use Rattle.certificates.specs.declared.checked_block.BlockRefusal.{BlockRefusal}
+use Rattle.certificates.specs.declared.checked_block.BlockRefusal.TheVariants.{WrongBlock, Count, UnknownReplica, Signature}
+use Rattle.certificates.specs.Certificates.{Certificate, entry_of}
+use Rattle.certificates.specs.GoodCertificates.{IsGoodCertificate, IsOnGenesis}
+use Rattle.certificates.specs.Votes.{IsSignedBy}
+
+-- the header's view is above 0, and the certificate is on the parent that it names, by id and view
+pub record IsOnParent (h : Header) (c : Certificate) : Type 0 where
+  pub above : 0 < h.view
+  pub view : h.parent_view ≡ c.view
+  pub id : h.parent ≡ c.id
+
+-- the certificate is good, and on the header's parent
+pub record IsChecked (committee : List ℕ) (h : Header) (c : Certificate) : Type 0 where
+  pub parent : IsOnParent h c
+  pub good : IsGoodCertificate committee c
+
+-- a block with the certificate of its parent, and the committee that it was checked under
+pub record CheckedBlock : Type 0 where
+  pub committee : List ℕ
+  pub header : Header
+  pub certificate : Certificate
+
+-- ---- refusals
+
+-- 2f + 1 to n entries
+pub record IsBetween (committee : List ℕ) (c : Certificate) : Type 0 where
+  pub least : 2 * f_of committee + 1 ≤ length c.entries
+  pub most : length c.entries ≤ n_of committee
+
+-- as many entries as a good certificate has
+abbrev pub HasCount : List ℕ → Certificate → Type 0
+HasCount committee c = IsBetween committee c ⊎ IsOnGenesis committee c
+
+-- each entry is by a replica of the committee
+abbrev pub AreKnown : List ℕ → Certificate → Type 0
+AreKnown committee c = All (λ e. e.replica < n_of committee) c.entries
+
+-- an entry is signed by its replica
+abbrev pub IsSignedEntry : List ℕ → Certificate → Endorsement → Type 0
+IsSignedEntry committee c e = IsSignedBy committee e.replica c.view c.id e.signature
+
+-- entry k is the least that is not signed by its replica
+pub record IsFirstUnsigned (committee : List ℕ) (c : Certificate) (k : ℕ) : Type 0 where
+  pub place : k < length c.entries
+  pub before : All (IsSignedEntry committee c) (take k c.entries)
+  pub unsigned : IsSignedEntry committee c (entry_of c k) → ⊥
+
+-- the block passes the tests before this one, and fails this one
+abbrev pub IsBlockRefusal : BlockRefusal → List ℕ → Header → Certificate → Type 0
+IsBlockRefusal WrongBlock committee h c = IsOnParent h c → ⊥
+IsBlockRefusal Count committee h c = IsOnParent h c × (HasCount committee c → ⊥)
+IsBlockRefusal UnknownReplica committee h c = IsOnParent h c × HasCount committee c × (AreKnown committee c → ⊥)
+IsBlockRefusal (Signature k) committee h c =
+    IsOnParent h c × HasCount committee c × AreKnown committee c × IsFirstUnsigned committee c k
+
+-- the number that docs/REFUSALS.md gives a refusal
+abbrev pub block_refusal_number : BlockRefusal → ℕ
+block_refusal_number WrongBlock = 1
+block_refusal_number Count = 2
+block_refusal_number UnknownReplica = 3
+block_refusal_number (Signature k) = 4

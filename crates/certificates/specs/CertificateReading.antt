@@ -1,0 +1,58 @@
+-- Reading a certificate from left to right, with the first refusal that is met.
+use Rattle.std.specs.Prelude.{◌==◌, ◌&&◌, ◌+◌, ◌*◌, ◌++◌, ℕ, zero, suc, Bool, true, List, [], ◌∷◌, length, nat_le, nat_lt, Result, Ok, if◌then◌else◌}
+use Rattle.wire.specs.Pieces.{piece, number_at}
+use Rattle.wire.specs.Refusals.{need}
+use Rattle.certificates.specs.declared.certificate.Endorsement.{Endorsement}
+use Rattle.certificates.specs.declared.certificate.CertificateRefusal.{CertificateRefusal}
+use Rattle.certificates.specs.declared.certificate.CertificateRefusal.TheVariants.{Memory, Length, Order, Count}
+use Rattle.certificates.specs.Certificates.{Certificate}
+
+-- ---- the parts of a certificate at their places
+
+-- how many entries it names
+abbrev pub count_in : List ℕ → ℕ
+count_in bytes = number_at 2 bytes 40
+
+unfoldable pub entry_at : List ℕ → ℕ → Endorsement
+entry_at bytes k = record { replica = number_at 2 bytes (42 + 1454 * k); signature = piece 1452 bytes (44 + 1454 * k) }
+
+-- the first n entries
+unfoldable pub entries_in : List ℕ → ℕ → List Endorsement
+entries_in bytes zero = []
+entries_in bytes (suc n) = entries_in bytes n ++ entry_at bytes n ∷ []
+
+abbrev pub certificate_at : List ℕ → Certificate
+certificate_at bytes = record { view = number_at 8 bytes 0; id = piece 32 bytes 8; entries = entries_in bytes (count_in bytes) }
+
+-- ---- its tests
+
+-- whether the bytes are as many as the number of entries asks for
+abbrev pub is_whole : List ℕ → Bool
+is_whole bytes = nat_le 42 (length bytes) && (length bytes == 42 + 1454 * count_in bytes)
+
+-- whether each replica is at least `least`, and above the one before it
+abbrev pub rises_from : ℕ → List Endorsement → Bool
+rises_from least [] = true
+rises_from least (e ∷ es) = nat_le least e.replica && rises_from (e.replica + 1) es
+
+abbrev pub is_rising : List Endorsement → Bool
+is_rising es = rises_from 0 es
+
+-- whether there are 1 to 31 entries, or none in view 0
+abbrev pub has_count : ℕ → ℕ → Bool
+has_count view count = if view == 0 then count == 0 else (nat_lt 0 count && nat_le count 31)
+
+-- the certificate that the bytes spell, or why they spell none
+unfoldable pub certificate_in : List ℕ → Result Certificate CertificateRefusal
+certificate_in bytes =
+    need (is_whole bytes) Length (
+    need (is_rising (entries_in bytes (count_in bytes))) Order (
+    need (has_count (number_at 8 bytes 0) (count_in bytes)) Count (
+    Ok (certificate_at bytes))))
+
+-- the number that docs/REFUSALS.md gives a refusal
+abbrev pub certificate_refusal_number : CertificateRefusal → ℕ
+certificate_refusal_number Memory = 1
+certificate_refusal_number Length = 2
+certificate_refusal_number Order = 3
+certificate_refusal_number Count = 4

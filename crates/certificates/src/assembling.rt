@@ -1,0 +1,120 @@
+//! Certificates that are put together from votes.
+
+ghost use Rattle.std.specs.Prelude.{◌≡◌, ◌+◌, ◌*◌, ◌<◌, ◌≤◌, ◌↔◌, IsTrue, IfErr, IfOk, IsOk, OnOk, map};
+ghost use Rattle.std.specs.List.{All};
+ghost use Rattle.std.specs.List.Sorted.{IsNonDecreasingBy, IsPermutation};
+ghost use Rattle.blocks.specs.Committees.{n_of};
+ghost use Rattle.certificates.specs.Assembling.{AreAssemblable, IsAssembleRefusal, IsAssembled, IsVoteFor, assemble_refusal_number, endorsement_of};
+ghost use Rattle.certificates.specs.Certificates.{IsEndorsement};
+ghost use Rattle.certificates.specs.declared.assembling.AssembleRefusal.TheVariants.{Memory};
+
+use crate::certificate::{Certificate, Endorsement, is_rising};
+use crate::quorum::quorum;
+use crate::vote::SignedVote;
+use blocks::{CommitteeView, Id};
+use std::alloc::{AllocError, AllocFailed, Global};
+
+/// Why votes make no certificate, in the order of the tests.
+#[derive(Clone, Copy, Debug, PartialEq, Eq)]
+pub enum AssembleRefusal {
+    /// Memory was refused.
+    Memory = 1,
+    /// Two votes are for different views or ids.
+    Mixed = 2,
+    /// There are fewer than 2f + 1 votes.
+    TooFew = 3,
+    /// Two votes are by one replica.
+    Double = 4,
+}
+
+impl AssembleRefusal {
+    /// The number of the refusal, which never changes.
+    pub fn number(self) -> u8
+        ensures { result ≡ assemble_refusal_number self }
+    {
+        self as u8
+    }
+}
+
+impl From<AllocError> for AssembleRefusal {
+    ghost from_gives = { λ _ refusal. refusal ≡ Memory };
+
+    fn from(_refused: AllocError) -> AssembleRefusal {
+        AssembleRefusal::Memory
+    }
+}
+
+impl<T: Drop> From<AllocFailed<T>> for AssembleRefusal {
+    ghost from_gives = { λ _ refusal. refusal ≡ Memory };
+
+    fn from(_refused: AllocFailed<T>) -> AssembleRefusal {
+        AssembleRefusal::Memory
+    }
+}
+
+// Whether each vote is for this view and id.
+fn are_for(votes: &[SignedVote], view: u64, id: &Id) -> bool
+    ensures { IsTrue result ↔ All (IsVoteFor view id.now) votes.now }
+{
+    votes.iter().all(|v| v.view == view && v.id == *id)
+}
+
+// An entry of a certificate.
+fn endorsement(replica: u16, signature: [u8; 1452]) -> Endorsement
+    ensures value { result ≡ record { replica = replica; signature = signature } }
+    ensures fits { IsEndorsement result }
+{
+    Endorsement { replica, signature }
+}
+
+// What a certificate keeps of these votes, in their order.
+fn endorsements_of(alloc: Global, votes: &[SignedVote]) -> Result<Vec<Endorsement>, AssembleRefusal>
+    ensures ok { IfOk result (λ entries. entries.items ≡ map endorsement_of votes.now) }
+    ensures fits { IfOk result (λ entries. All IsEndorsement entries.items) }
+    ensures err { IfErr result (λ refusal. refusal ≡ AssembleRefusal.Memory) }
+{
+    let mut entries = Vec::new(alloc);
+    for vote in votes {
+        entries.push(endorsement(vote.replica, vote.signature))?;
+    }
+    Ok(entries)
+}
+
+// Sorts entries by replica.
+fn sort_by_replica(entries: &mut Vec<Endorsement>)
+    ensures same { IsPermutation entries.old.items entries.new.items }
+    ensures sorted { IsNonDecreasingBy (λ e. e.replica) entries.new.items }
+{
+    entries.sort_unstable_by_key(|e| e.replica);
+}
+
+/// The certificate of these votes, sorted by replica. No signature is checked: `check_block` does that.
+/// Refused in this order: Memory, where memory was refused, Mixed, TooFew, Double.
+pub fn assemble(
+    alloc: Global,
+    committee: &CommitteeView,
+    votes: &[SignedVote],
+) -> Result<Certificate, AssembleRefusal>
+    requires known { All (λ v. v.replica < n_of committee.now) votes.now }
+    requires after_genesis { All (λ v. 1 ≤ v.view) votes.now }
+    // The certificate has just these votes, and they pass each test.
+    ensures ok { IfOk result (IsAssembled votes.now) }
+    ensures passes { OnOk result (AreAssemblable committee.now votes.now) }
+    ensures first_refusal { IfErr result (λ refusal. IsAssembleRefusal refusal committee.now votes.now) }
+{
+    let Some(first) = votes.first() else {
+        return Err(AssembleRefusal::TooFew);
+    };
+    if !are_for(votes, first.view, &first.id) {
+        return Err(AssembleRefusal::Mixed);
+    }
+    if votes.len() < quorum(committee) {
+        return Err(AssembleRefusal::TooFew);
+    }
+    let mut entries = endorsements_of(alloc, votes)?;
+    sort_by_replica(&mut entries);
+    if !is_rising(&entries) {
+        return Err(AssembleRefusal::Double);
+    }
+    Ok(Certificate::of(first.view, first.id, entries))
+}

@@ -1,0 +1,276 @@
+//! Certificates.
+
+ghost use Rattle.std.specs.Prelude.{◌≡◌, ◌≢◌, ◌+◌, ◌*◌, ◌<◌, ◌≤◌, ◌↔◌, ◌++◌, Ok, Err, IfOk, IfErr, OnOk, length};
+ghost use Rattle.std.specs.List.{All, AllPairs, flat_map};
+ghost use Rattle.certificates.specs.CertificateReading.{certificate_in, certificate_refusal_number, entries_in, entry_at, has_count, is_rising};
+ghost use Rattle.certificates.specs.Certificates.{Certificate as CertificateValue, IsBefore, IsCertificate, IsEndorsement, certificate_text, entry_of, entry_text, vote_of};
+ghost use Rattle.certificates.specs.declared.certificate.CertificateRefusal.TheVariants.{Memory};
+
+use crate::vote::SignedVote;
+use blocks::Id;
+use std::alloc::{AllocError, AllocFailed, Global};
+use std::marker::Model;
+use wire::{array_at, u16_at, u64_at};
+
+/// The length in bytes of what stands before the entries: the view, the id and the count.
+const HEAD_LEN: usize = 42;
+
+/// The length of an entry in bytes.
+const ENTRY_LEN: usize = 1454;
+
+/// The greatest number of entries.
+const MOST_ENTRIES: u16 = 31;
+
+/// A replica and its signature, in a certificate.
+#[derive(Clone, Copy, Debug)]
+pub struct Endorsement {
+    /// The number of the replica in its committee, from 0.
+    pub replica: u16,
+    /// Its LMS signature of the statement (RFC 8554, section 5.4).
+    pub signature: [u8; 1452],
+}
+
+/// Signatures of replicas on one view and id, by rising replica: 1 to 31 of them, or none in view 0. Made
+/// by `Certificate::read` and `assemble` alone. No signature is checked before `check_block`.
+#[derive(Drop)]
+pub struct Certificate {
+    view: u64,
+    id: Id,
+    entries: Vec<Endorsement>,
+}
+
+impl Model for Certificate {
+    ghost use Rattle.certificates.specs.Certificates.{Certificate as CertificateValue, IsCertificate};
+
+    ghost Value = { CertificateValue };
+
+    ghost view = { λ c. record { view = c.view; id = c.id; entries = c.entries.items } };
+
+    ghost invariant = { λ c. IsCertificate (record { view = c.view; id = c.id; entries = c.entries.items }) };
+}
+
+/// Why bytes are no certificate, in the order of the tests.
+#[derive(Clone, Copy, Debug, PartialEq, Eq)]
+pub enum CertificateRefusal {
+    /// Memory was refused.
+    Memory = 1,
+    /// There are fewer than 42 bytes, or not 42 and 1,454 for each entry.
+    Length = 2,
+    /// The numbers of the replicas do not rise.
+    Order = 3,
+    /// There are more than 31 entries, or none with a view above 0, or some with view 0.
+    Count = 4,
+}
+
+impl CertificateRefusal {
+    /// The number of the refusal, which never changes.
+    pub fn number(self) -> u8
+        ensures { result ≡ certificate_refusal_number self }
+    {
+        self as u8
+    }
+}
+
+impl From<AllocError> for CertificateRefusal {
+    ghost from_gives = { λ _ refusal. refusal ≡ Memory };
+
+    fn from(_refused: AllocError) -> CertificateRefusal {
+        CertificateRefusal::Memory
+    }
+}
+
+impl<T: Drop> From<AllocFailed<T>> for CertificateRefusal {
+    ghost from_gives = { λ _ refusal. refusal ≡ Memory };
+
+    fn from(_refused: AllocFailed<T>) -> CertificateRefusal {
+        CertificateRefusal::Memory
+    }
+}
+
+// Entry k at its place.
+#[tactic(auto, unfolding(crate::specs::CertificateReading::entry_at))]
+fn entry_at(bytes: &[u8], k: u16) -> Endorsement
+    requires { 1496 + 1454 * k ≤ length bytes.now }
+    ensures { result ≡ entry_at bytes.now k }
+{
+    let at = HEAD_LEN + ENTRY_LEN * k as usize;
+    Endorsement {
+        replica: u16_at(bytes, at),
+        signature: array_at(bytes, at + 2),
+    }
+}
+
+// The first entries, `count` of them.
+#[tactic(auto, using(crate::proofs::Entries::entries_none, crate::proofs::Entries::entries_more))]
+fn entries_in(
+    alloc: Global,
+    bytes: &[u8],
+    count: u16,
+) -> Result<Vec<Endorsement>, CertificateRefusal>
+    requires { length bytes.now ≡ 42 + 1454 * count }
+    ensures ok { IfOk result (λ entries. entries.items ≡ entries_in bytes.now count) }
+    ensures err { IfErr result (λ refusal. refusal ≡ CertificateRefusal.Memory) }
+{
+    let mut entries = Vec::new(alloc);
+    for k in 0..count {
+        entries.push(entry_at(bytes, k))?;
+    }
+    Ok(entries)
+}
+
+// Whether the numbers of the replicas rise.
+pub(crate) fn is_rising(entries: &[Endorsement]) -> bool
+    ensures { result ≡ is_rising entries.now }
+{
+    let mut least = 0;
+    for e in entries {
+        let replica = e.replica as u32;
+        if replica < least {
+            return false;
+        }
+        least = replica + 1;
+    }
+    true
+}
+
+// Whether a certificate of this view may have so many entries.
+fn has_count(view: u64, count: u16) -> bool
+    ensures { result ≡ has_count view count }
+{
+    if view == 0 {
+        count == 0
+    } else {
+        0 < count && count <= MOST_ENTRIES
+    }
+}
+
+// Adds an entry to the text.
+fn put_entry(text: &mut Vec<u8>, e: &Endorsement) -> Result<(), AllocError>
+    ensures { OnOk result (text.new.items ≡ text.old.items ++ entry_text e.now) }
+{
+    text.extend_from_slice(&e.replica.to_be_bytes())?;
+    text.extend_from_slice(&e.signature)?;
+    Ok(())
+}
+
+// Adds each entry to the text.
+fn put_entries(text: &mut Vec<u8>, entries: &[Endorsement]) -> Result<(), AllocError>
+    ensures { OnOk result (text.new.items ≡ text.old.items ++ flat_map entry_text entries.now) }
+{
+    for e in entries {
+        put_entry(text, e)?;
+    }
+    Ok(())
+}
+
+impl Certificate {
+    // The certificate of these parts.
+    pub(crate) fn of(view: u64, id: Id, entries: Vec<Endorsement>) -> Certificate
+        requires each { All IsEndorsement entries.items }
+        requires rising { AllPairs IsBefore entries.items }
+        requires most { length entries.items ≤ 31 }
+        requires none { (length entries.items ≡ 0) ↔ (view ≡ 0) }
+        ensures { result ≡ record { view = view; id = id; entries = entries.items } }
+    {
+        Certificate { view, id, entries }
+    }
+
+    /// The certificate that the bytes spell: the view (8 bytes at 0), the id (32 at 8), the number of
+    /// entries (2 at 40), and for each entry the number of its replica (2) and its signature (1,452),
+    /// numbers with the highest byte first. Refused in this order: Memory, where memory was refused,
+    /// Length, Order, Count.
+    pub fn read(alloc: Global, bytes: &[u8]) -> Result<Certificate, CertificateRefusal>
+        // What is read is spelled so.
+        ensures found { IfOk result (λ c. IsCertificate c × (bytes.now ≡ certificate_text c)) }
+
+        // What is spelled so is read, unless memory is refused.
+        ensures only { (c : CertificateValue) → IsCertificate c → bytes.now ≡ certificate_text c → result ≢ Err CertificateRefusal.Memory → result ≡ Ok c }
+
+        // The first test that fails refuses, unless memory is refused.
+        ensures first_refusal { result ≢ Err CertificateRefusal.Memory → result ≡ certificate_in bytes.now }
+    {
+        Certificate::read_all(alloc, bytes)
+    }
+
+    #[tactic(auto, unfolding(crate::specs::CertificateReading::certificate_in))]
+    fn read_all(alloc: Global, bytes: &[u8]) -> Result<Certificate, CertificateRefusal>
+        ensures { result ≢ Err CertificateRefusal.Memory → result ≡ certificate_in bytes.now }
+    {
+        if bytes.len() < HEAD_LEN
+            || bytes.len() != HEAD_LEN + ENTRY_LEN * u16_at(bytes, 40) as usize
+        {
+            return Err(CertificateRefusal::Length);
+        }
+        let view = u64_at(bytes, 0);
+        let count = u16_at(bytes, 40);
+        let entries = entries_in(alloc, bytes, count)?;
+        if !is_rising(&entries) {
+            return Err(CertificateRefusal::Order);
+        }
+        if !has_count(view, count) {
+            return Err(CertificateRefusal::Count);
+        }
+        Ok(Certificate {
+            view,
+            id: array_at(bytes, 8),
+            entries,
+        })
+    }
+
+    /// The bytes of the certificate, 42 and 1,454 for each entry.
+    #[tactic(auto, unfolding(crate::specs::Certificates::certificate_text))]
+    pub fn write(&self, alloc: Global) -> Result<Vec<u8>, AllocError>
+        ensures text { IfOk result (λ text. text.items ≡ certificate_text self.now) }
+        ensures is_certificate { IsCertificate self.now }
+    {
+        let mut text = Vec::new(alloc);
+        text.extend_from_slice(&self.view.to_be_bytes())?;
+        text.extend_from_slice(&self.id)?;
+        text.extend_from_slice(&(self.entries.len() as u16).to_be_bytes())?;
+        put_entries(&mut text, &self.entries)?;
+        Ok(text)
+    }
+
+    /// The view of the block that the votes are for.
+    pub fn view(&self) -> u64
+        ensures { result ≡ self.now.view }
+    {
+        self.view
+    }
+
+    /// The id of that block.
+    pub fn id(&self) -> &Id
+        ensures { result.now ≡ self.now.id }
+    {
+        &self.id
+    }
+
+    /// The number of votes, 0 to 31.
+    pub fn count(&self) -> usize
+        ensures value { result ≡ length self.now.entries }
+        ensures is_certificate { IsCertificate self.now }
+    {
+        self.entries.len()
+    }
+
+    /// Vote `k`, counted from 0.
+    pub fn vote(&self, k: usize) -> SignedVote
+        requires { k < length self.now.entries }
+        ensures { result ≡ vote_of self.now (entry_of self.now k) }
+    {
+        let entry = &self.entries[k];
+        SignedVote {
+            replica: entry.replica,
+            view: self.view,
+            id: self.id,
+            signature: entry.signature,
+        }
+    }
+
+    // The votes as they are kept.
+    pub(crate) fn entries(&self) -> &[Endorsement]
+        ensures { result.now ≡ self.now.entries }
+    {
+        &self.entries
+    }
+}

@@ -1,0 +1,11 @@
+//! Tests of certificates, blocks and verdicts against stored ones of another program. No handle.
+#![tactic(auto)]
+
+#[cfg(test)]
+mod block_tests;
+#[cfg(test)]
+mod certificate_tests;
+#[cfg(test)]
+mod stored;
+#[cfg(test)]
+mod verdict_tests;

@@ -1,0 +1,70 @@
+-- The bytes of a verdict, as docs/FORMATS.md, "Verdict", lays them out, and the parts that bytes spell.
+use Rattle.std.specs.Prelude.{◌≡◌, ◌<◌, ◌^◌, ◌++◌, ℕ, List, [], ◌∷◌, length, codes, Option, Some, None, IfSome, IsNone}
+use Rattle.byteorder.specs.Endian.{big_bytes}
+use Rattle.blocks.specs.Headers.{IsHeader, header_text}
+use Rattle.verdict_format.specs.declared.parts.BoundVote.{BoundVote}
+use Rattle.verdict_format.specs.declared.parts.VerdictParts.{VerdictParts}
+use Rattle.verdict_format.specs.Verdicts.{VotedHeaders, chain_in, replica_in, earlier_in, later_in, earlier_signature_in, later_signature_in, headers_in}
+
+-- ---- which verdicts there are
+
+-- a vote that has bytes
+pub record IsBoundVote (v : BoundVote) : Type 0 where
+  pub view : v.view < 2 ^ 64
+  pub id : length v.id ≡ 32
+  pub signature : length v.signature ≡ 1452
+
+-- headers that have bytes
+pub record AreHeaders (h : VotedHeaders) : Type 0 where
+  pub earlier : IsHeader h.earlier
+  pub parent : IsHeader h.parent
+  pub later : IsHeader h.later
+
+-- parts that have bytes
+pub record AreParts (v : VerdictParts) : Type 0 where
+  pub chain : length v.chain ≡ 32
+  pub replica : v.replica < 2 ^ 16
+  pub earlier : IsBoundVote v.earlier
+  pub later : IsBoundVote v.later
+  pub headers : IfSome v.headers AreHeaders
+
+-- ---- the bytes of a verdict
+
+-- a vote's view, id and signature
+abbrev pub bound_text : BoundVote → List ℕ
+bound_text v = big_bytes 8 v.view ++ (v.id ++ v.signature)
+
+-- the headers one after the other, if there are any
+abbrev pub headers_text : Option VotedHeaders → List ℕ
+headers_text None = []
+headers_text (Some h) = header_text h.earlier ++ (header_text h.parent ++ header_text h.later)
+
+-- the rule that was broken: a lock violation is shown by headers, a double vote is not
+abbrev pub kind_of : Option VotedHeaders → ℕ
+kind_of None = 1
+kind_of (Some h) = 2
+
+-- "HSX1", the chain, the replica, and the rule that it broke
+unfoldable pub head_text : VerdictParts → List ℕ
+head_text v = codes "HSX1" ++ (v.chain ++ (big_bytes 2 v.replica ++ kind_of v.headers ∷ []))
+
+-- the head, the two votes, and the headers
+unfoldable pub verdict_text : VerdictParts → List ℕ
+verdict_text v = head_text v ++ (bound_text v.earlier ++ (bound_text v.later ++ headers_text v.headers))
+
+-- the bytes are those of a double vote with these parts
+pub record IsVerdictOf (bytes : List ℕ) (v : VerdictParts) : Type 0 where
+  pub parts : AreParts v
+  pub no_headers : IsNone v.headers
+  pub text : bytes ≡ verdict_text v
+
+-- ---- the parts of a verdict at their places
+
+abbrev pub parts_in : List ℕ → VerdictParts
+parts_in bytes = record {
+  chain = chain_in bytes;
+  replica = replica_in bytes;
+  earlier = record { view = (earlier_in bytes).view; id = (earlier_in bytes).id; signature = earlier_signature_in bytes };
+  later = record { view = (later_in bytes).view; id = (later_in bytes).id; signature = later_signature_in bytes };
+  headers = headers_in bytes;
+}
