@@ -34,9 +34,9 @@ pub record IsAssembled (votes : List SignedVote) (c : Certificate) : Type 0 wher
 
 -- ---- refusals
 
--- the votes pass the tests before this one, and fail this one; memory may be refused at any time
+-- the votes pass the tests before this one, and fail this one; memory is asked for behind the first two
 abbrev pub IsAssembleRefusal : AssembleRefusal → List ℕ → List SignedVote → Type 0
-IsAssembleRefusal Memory committee votes = ⊤
+IsAssembleRefusal Memory committee votes = AgreeOnBlock votes × (2 * f_of committee + 1 ≤ length votes)
 IsAssembleRefusal Mixed committee votes = AgreeOnBlock votes → ⊥
 IsAssembleRefusal TooFew committee votes = AgreeOnBlock votes × (length votes < 2 * f_of committee + 1)
 IsAssembleRefusal Double committee votes =

@@ -38,7 +38,7 @@ rises_from least (e ∷ es) = nat_le least e.replica && rises_from (e.replica + 
 abbrev pub is_rising : List Endorsement → Bool
 is_rising es = rises_from 0 es
 
--- whether there are 1 to 31 entries, or none in view 0
+-- whether there are 1 to 31 entries in a view above 0, or none in view 0
 abbrev pub has_count : ℕ → ℕ → Bool
 has_count view count = if view == 0 then count == 0 else (nat_lt 0 count && nat_le count 31)
 

@@ -1,8 +1,8 @@
 //! Certificates.
 
-ghost use Rattle.std.specs.Prelude.{◌≡◌, ◌≢◌, ◌+◌, ◌*◌, ◌<◌, ◌≤◌, ◌↔◌, ◌++◌, Ok, Err, IfOk, IfErr, OnOk, length};
+ghost use Rattle.std.specs.Prelude.{◌≡◌, ◌≢◌, ◌+◌, ◌*◌, ◌<◌, ◌≤◌, ◌↔◌, ◌++◌, true, Ok, Err, IfOk, IfErr, OnOk, length};
 ghost use Rattle.std.specs.List.{All, AllPairs, flat_map};
-ghost use Rattle.certificates.specs.CertificateReading.{certificate_in, certificate_refusal_number, entries_in, entry_at, has_count, is_rising};
+ghost use Rattle.certificates.specs.CertificateReading.{certificate_in, certificate_refusal_number, entries_in, entry_at, has_count, is_rising, is_whole};
 ghost use Rattle.certificates.specs.Certificates.{Certificate as CertificateValue, IsBefore, IsCertificate, IsEndorsement, certificate_text, entry_of, entry_text, vote_of};
 ghost use Rattle.certificates.specs.declared.certificate.CertificateRefusal.TheVariants.{Memory};
 
@@ -30,7 +30,7 @@ pub struct Endorsement {
     pub signature: [u8; 1452],
 }
 
-/// Signatures of replicas on one view and id, by rising replica: 1 to 31 of them, or none in view 0. Made
+/// Signatures of replicas on one view and id, by rising replica: 1 to 31 of them in a view above 0, none in view 0. Made
 /// by `Certificate::read` and `assemble` alone. No signature is checked before `check_block`.
 #[derive(Drop)]
 pub struct Certificate {
@@ -188,13 +188,15 @@ impl Certificate {
 
         // The first test that fails refuses, unless memory is refused.
         ensures first_refusal { result ≢ Err CertificateRefusal.Memory → result ≡ certificate_in bytes.now }
+        ensures memory { result ≡ Err CertificateRefusal.Memory → is_whole bytes.now ≡ true }
     {
         Certificate::read_all(alloc, bytes)
     }
 
     #[tactic(auto, unfolding(crate::specs::CertificateReading::certificate_in))]
     fn read_all(alloc: Global, bytes: &[u8]) -> Result<Certificate, CertificateRefusal>
-        ensures { result ≢ Err CertificateRefusal.Memory → result ≡ certificate_in bytes.now }
+        ensures value { result ≢ Err CertificateRefusal.Memory → result ≡ certificate_in bytes.now }
+        ensures memory { result ≡ Err CertificateRefusal.Memory → is_whole bytes.now ≡ true }
     {
         if bytes.len() < HEAD_LEN
             || bytes.len() != HEAD_LEN + ENTRY_LEN * u16_at(bytes, 40) as usize

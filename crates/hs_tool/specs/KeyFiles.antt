@@ -3,20 +3,23 @@ use Rattle.std.specs.Prelude.{◌≡◌, ℕ, List, [], ◌∷◌, ◌++◌, Opt
 use Rattle.stable_log.specs.Image.{empty_journal}
 use Rattle.hex.specs.Hex.{encode_lower}
 use Rattle.lms_tree.specs.Tree.{key_text, tree_root}
+use Rattle.hs_tool.specs.declared.folder.Readers.{Readers}
+use Rattle.hs_tool.specs.declared.folder.Readers.TheVariants.{Owner, All}
 
 -- a file of a folder
 pub record FolderFile : Type 0 where
   pub name : List ℕ
   pub bytes : List ℕ
+  pub readers : Readers
 
 -- what a replica starts from, in the order in which it is made: the secret key, the public key, and two
 -- journals with no entries, of the indices that were taken and of what the replica stored
 abbrev pub replica_files : List ℕ → List ℕ → List ℕ → List FolderFile
 replica_files id seed public_key =
-    record { name = codes "key.seed"; bytes = id ++ seed }
-    ∷ record { name = codes "key.pub"; bytes = public_key }
-    ∷ record { name = codes "index.hsj"; bytes = empty_journal }
-    ∷ record { name = codes "log.hsj"; bytes = empty_journal }
+    record { name = codes "key.seed"; bytes = id ++ seed; readers = Owner }
+    ∷ record { name = codes "key.pub"; bytes = public_key; readers = All }
+    ∷ record { name = codes "index.hsj"; bytes = empty_journal; readers = All }
+    ∷ record { name = codes "log.hsj"; bytes = empty_journal; readers = All }
     ∷ []
 
 -- the files of a seed's key

@@ -25,6 +25,7 @@ pub fn committee<'a, F: Files<File = File>, W: Sink>(
     for key in keys {
         texts.push(read_key(rt, alloc, key)?)?;
     }
+    // There are 3f + 1 of them; the writer asks for that bound.
     if texts.len() > 65_535 {
         return Err(Fault::Usage);
     }
@@ -33,11 +34,11 @@ pub fn committee<'a, F: Files<File = File>, W: Sink>(
         Ok(committee) => committee.chain(),
         Err(refusal) => return Err(Fault::Committee(refusal)),
     };
+    let digits = hex::encode(alloc, &chain[..])?;
+    let line = format!(in alloc; "chain {digits}\n")?;
     if let Err(error) = fs::write(rt, path, &bytes) {
         return Err(Fault::unless_memory(&error, Fault::File(Place::Path(path))));
     }
-    let digits = hex::encode(alloc, &chain[..])?;
-    let line = format!(in alloc; "chain {digits}\n")?;
     write_all(out, line.as_bytes()).map_err(|_| Fault::Output)
 }
 

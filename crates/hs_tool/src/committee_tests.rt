@@ -37,6 +37,11 @@ fn committee_of_four(rt: HostRuntime) -> Result<(), Fail> {
     );
     let want = hex::decode(alloc, verdicts::committee())?;
     assert_eq!(rt; fs::read(&rt, "four/out.hsc")?.as_slice(), want.as_slice());
+    let mut out = MemorySink::new(alloc);
+    out.fuse(0, true);
+    let done = outcome_of(&rt, alloc, &words, out)?;
+    assert_eq!(rt; done.status, 2);
+    assert_eq!(rt; done.faults.bytes(), b"fault output\n".as_slice());
     fs::remove_dir_all(&rt, "four")?;
     Ok(())
 }
@@ -77,7 +82,6 @@ fn key_file_of_another_length(rt: HostRuntime) -> Result<(), Fail> {
     let alloc = rt.alloc();
     new_folder(&rt, "length")?;
     fs::write(&rt, "length/0.pub", hex::decode(alloc, keys::key_0())?)?;
-    fs::write(&rt, "length/1.pub", b"short")?;
     let words = [
         "committee",
         "1",
@@ -87,12 +91,15 @@ fn key_file_of_another_length(rt: HostRuntime) -> Result<(), Fail> {
         "length/2.pub",
         "length/3.pub",
     ];
-    let done = outcome_of(&rt, alloc, &words, MemorySink::new(alloc))?;
-    assert_eq!(rt; done.status, 2);
-    assert_eq!(rt;
-        done.faults.bytes(),
-        b"fault file length/1.pub\n".as_slice()
-    );
+    for bytes in [b"short".as_slice(), [0; 57].as_slice()] {
+        fs::write(&rt, "length/1.pub", bytes)?;
+        let done = outcome_of(&rt, alloc, &words, MemorySink::new(alloc))?;
+        assert_eq!(rt; done.status, 2);
+        assert_eq!(rt;
+            done.faults.bytes(),
+            b"fault file length/1.pub\n".as_slice()
+        );
+    }
     fs::remove_dir_all(&rt, "length")?;
     Ok(())
 }

@@ -32,15 +32,15 @@ pub enum Store {
 pub trait Folder: Drop {
     ghost files: { Self → Option (List FolderFile) };
 
-    /// Makes a new file. Where it fails, and where there is a file of this name already, the folder got
-    /// none, and what was there stays.
+    /// Makes a new file. Where there is a file of this name already that is a failure, and what was there
+    /// stays. Where the disk fails, a system may leave the new file empty or in part.
     fn create(&mut self, name: &str, bytes: &[u8], readers: Readers) -> io::Result<()>
-        ensures ok { OnOk result (Made (files self.old) (files self.new) (record { name = name.now; bytes = bytes.now } ∷ [])) }
+        ensures ok { OnOk result (Made (files self.old) (files self.new) (record { name = name.now; bytes = bytes.now; readers = readers } ∷ [])) }
         ensures err { OnErr result (files self.new ≡ files self.old) };
 
     /// Makes a new file that is an empty journal, or an empty store of key indices, which is one.
     fn create_store(&mut self, name: &str, store: Store) -> io::Result<()>
-        ensures ok { OnOk result (Made (files self.old) (files self.new) (record { name = name.now; bytes = empty_journal } ∷ [])) }
+        ensures ok { OnOk result (Made (files self.old) (files self.new) (record { name = name.now; bytes = empty_journal; readers = Readers.All } ∷ [])) }
         ensures err { OnErr result (files self.new ≡ files self.old) };
 }
 

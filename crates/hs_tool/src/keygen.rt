@@ -96,7 +96,7 @@ fn make<'a, D: Folder>(
     bytes: &[u8],
     readers: Readers,
 ) -> Result<(), Fault<'a>>
-    ensures ok { OnOk result (Made (D.files folder.old) (D.files folder.new) (record { name = name.now; bytes = bytes.now } ∷ [])) }
+    ensures ok { OnOk result (Made (D.files folder.old) (D.files folder.new) (record { name = name.now; bytes = bytes.now; readers = readers } ∷ [])) }
     ensures err { OnErr result (D.files folder.new ≡ D.files folder.old) }
 {
     match folder.create(name, bytes, readers) {
@@ -115,7 +115,7 @@ fn make_store<'a, D: Folder>(
     name: &'a str,
     store: Store,
 ) -> Result<(), Fault<'a>>
-    ensures ok { OnOk result (Made (D.files folder.old) (D.files folder.new) (record { name = name.now; bytes = empty_journal } ∷ [])) }
+    ensures ok { OnOk result (Made (D.files folder.old) (D.files folder.new) (record { name = name.now; bytes = empty_journal; readers = Readers.All } ∷ [])) }
     ensures err { OnErr result (D.files folder.new ≡ D.files folder.old) }
 {
     match folder.create_store(name, store) {

@@ -4,6 +4,7 @@ use crate::tool::run_tool;
 use fixtures::keys;
 use std::alloc::Global;
 use std::fs;
+use std::os::unix::fs::PermissionsExt;
 use std::process::Abort;
 use std::test::Fail;
 use streams::{MemoryFeed, MemorySink};
@@ -106,6 +107,10 @@ fn keygen_makes_four_files_and_prints_the_key(rt: HostRuntime) -> Result<(), Fai
     assert_eq!(rt;
         fs::read(&rt, "made/key.pub")?.as_slice(),
         hex::decode(alloc, key)?.as_slice()
+    );
+    assert_eq!(rt;
+        fs::metadata(&rt, "made/key.seed")?.permissions().mode() & 0o777,
+        0o600
     );
     for path in ["made/index.hsj", "made/log.hsj"] {
         assert_eq!(rt;

@@ -5,7 +5,7 @@ use Rattle.std.proofs.lemmas.List.Elements.{All-head, All-tail}
 use Rattle.std.specs.List.{flat_map}
 use Rattle.byteorder.specs.Endian.{big_bytes, big_number}
 use Rattle.byteorder.specs.Numbers.{big_number-reads_back}
-use Rattle.stable_log.specs.Image.{magic, entry_text, IsPayload, StandsFor}
+use Rattle.stable_log.specs.Image.{magic, entry_text, AnImageStandsForOneList, IsPayload, StandsFor}
 use Rattle.stable_log.specs.Places.{Holds, IsBrokenAt, IsClosedAt, IsRead, payloads_at}
 use Rattle.stable_log.specs.declared.reading.Place.{Place}
 use Rattle.stable_log.proofs.Places.{length-payloads_at}
@@ -110,3 +110,15 @@ pub no_long_list : (bs : List ℕ) (places : List Place) (end : ℕ) → IsRead 
 no_long_list bs places end read many list s =
     let on = read_front bs places end list read s in
     absurd (omega (arith, s.few, many, ap length on.1, length-append (payloads_at (Some bs) places) on.0, length-payloads_at (Some bs) places))
+
+-- one list stands for an image
+pub one_list : AnImageStandsForOneList
+one_list image payloads others s t =
+    let rest = s.gate ∷ s.rest in
+    let whole : magic ++ (flat_map entry_text payloads ++ rest) ≡ magic ++ (flat_map entry_text others ++ t.gate ∷ t.rest) =
+    sym (append_assoc magic (flat_map entry_text payloads) rest) ∙ sym s.split ∙ t.split ∙ append_assoc magic (flat_map entry_text others) (t.gate ∷ t.rest) in
+    let held : Holds (flat_map entry_text payloads ++ rest) others =
+    record { gate = t.gate; rest = t.rest; split = append_cancel_left magic (flat_map entry_text payloads ++ rest) (flat_map entry_text others ++ t.gate ∷ t.rest) whole; closed = t.closed; sizes = t.sizes } in
+    let on = front_held payloads rest others s.sizes held in
+    let shut : IsClosedAt rest 0 = (omega arith, s.closed) in
+    sym (on.1 ∙ ap (λ (l : List (List ℕ)). payloads ++ l) (none_held rest 0 on.0 shut on.2) ∙ append-nil payloads)

@@ -44,3 +44,7 @@ IsBeforeOrAfter payloads payload image = StandsFor image payloads ⊎ StandsFor 
 -- whatever a crash leaves stands for these payloads
 abbrev pub LeavesList : (List ℕ → Type 0) → List (List ℕ) → Type 0
 LeavesList images payloads = (image : List ℕ) → images image → StandsFor image payloads
+
+-- bytes stand for one list at most
+abbrev pub AnImageStandsForOneList : Type 0
+AnImageStandsForOneList = (image : List ℕ) (payloads others : List (List ℕ)) → StandsFor image payloads → StandsFor image others → payloads ≡ others

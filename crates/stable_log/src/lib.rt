@@ -6,6 +6,7 @@ mod disk;
 mod error;
 mod file_disk;
 mod journal;
+mod laws;
 mod memory_disk;
 mod reading;
 
@@ -13,7 +14,10 @@ pub use disk::{Disk, Fault};
 pub use error::JournalError;
 pub use file_disk::FileDisk;
 pub use journal::Journal;
+pub use laws::an_image_stands_for_one_list;
 pub use memory_disk::{Choice, MemoryDisk};
 
+#[cfg(test)]
+mod order_tests;
 #[cfg(test)]
 mod tests;

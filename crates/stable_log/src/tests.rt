@@ -229,6 +229,20 @@ fn a_failed_read_stops_nothing(rt: HostRuntime) -> Result<(), Fail> {
 }
 
 #[test]
+fn an_empty_journal_has_no_entry(rt: HostRuntime) -> Result<(), Fail> {
+    let alloc = rt.alloc();
+    let mut journal = recovered(alloc, disk_of(alloc, EMPTY)?)?;
+    assert_eq!(rt; journal.count(), 0);
+    let mut payload = Vec::from_slice(alloc, b"as it was")?;
+    assert_eq!(rt;
+        journal.entry(0, &mut payload),
+        Err(JournalError::NoSuchEntry)
+    );
+    assert_eq!(rt; payload.as_slice(), b"as it was".as_slice());
+    Ok(())
+}
+
+#[test]
 fn each_choice_of_a_crash(rt: HostRuntime) -> Result<(), Fail> {
     let alloc = rt.alloc();
     let mut disk = disk_of(alloc, b"abcd")?;

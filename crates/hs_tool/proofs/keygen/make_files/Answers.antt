@@ -1,27 +1,28 @@
 use Rattle.std.proofs.Common.{◌≡◌, ◌++◌, ◌∷◌, [], ℕ, List, Option, codes, subst, take}
 use Rattle.stable_log.specs.Image.{empty_journal}
+use Rattle.hs_tool.specs.declared.folder.Readers.TheVariants.{Owner, All}
 use Rattle.hs_tool.specs.KeyFiles.{FolderFile, Made, replica_files}
 use Rattle.hs_tool.proofs.Making.{made_more, made_part, on_err}
 use Rattle.hs_tool.proofs.keygen.make_files.Goals as goal
 
 -- the two files of the key, once the second was made
 keys_made : (before mid after : Option (List FolderFile)) (id seed bytes public_key : List ℕ) → bytes ≡ id ++ seed
-    → Made before mid (record { name = codes "key.seed"; bytes = bytes } ∷ [])
-    → Made mid after (record { name = codes "key.pub"; bytes = public_key } ∷ [])
+    → Made before mid (record { name = codes "key.seed"; bytes = bytes; readers = Owner } ∷ [])
+    → Made mid after (record { name = codes "key.pub"; bytes = public_key; readers = All } ∷ [])
     → Made before after (take 2 (replica_files id seed public_key))
 keys_made before mid after id seed bytes public_key same first second =
-    made_more before mid after _ _ (subst (λ (b : List ℕ). Made before mid (record { name = codes "key.seed"; bytes = b } ∷ [])) same first) second
+    made_more before mid after _ _ (subst (λ (b : List ℕ). Made before mid (record { name = codes "key.seed"; bytes = b; readers = Owner } ∷ [])) same first) second
 
 -- and the two journals behind them
 index_made : (before mid after : Option (List FolderFile)) (id seed public_key : List ℕ)
     → Made before mid (take 2 (replica_files id seed public_key))
-    → Made mid after (record { name = codes "index.hsj"; bytes = empty_journal } ∷ [])
+    → Made mid after (record { name = codes "index.hsj"; bytes = empty_journal; readers = All } ∷ [])
     → Made before after (take 3 (replica_files id seed public_key))
 index_made before mid after id seed public_key first second = made_more before mid after _ _ first second
 
 log_made : (before mid after : Option (List FolderFile)) (id seed public_key : List ℕ)
     → Made before mid (take 3 (replica_files id seed public_key))
-    → Made mid after (record { name = codes "log.hsj"; bytes = empty_journal } ∷ [])
+    → Made mid after (record { name = codes "log.hsj"; bytes = empty_journal; readers = All } ∷ [])
     → Made before after (replica_files id seed public_key)
 log_made before mid after id seed public_key first second = made_more before mid after _ _ first second
 

@@ -4,7 +4,7 @@ use Rattle.certificates.proofs.CertificateLaws.{certificate_found, certificate_a
 use Rattle.certificates.proofs.certificate.Certificate.read.Goals as goal
 
 pub returns-clause-found : goal.returns-clause-found
-returns-clause-found c = if_ok_unless _ _ _ _ c.read_all.ensures (λ x e. certificate_found _ x (λ i. omega (arith, c.type_inv.bytes i)) e)
+returns-clause-found c = if_ok_unless _ _ _ _ c.read_all.ensures.value (λ x e. certificate_found _ x (λ i. omega (arith, c.type_inv.bytes i)) e)
 
 pub returns-clause-only : goal.returns-clause-only
-returns-clause-only c x is e m = c.read_all.ensures m ∙ ap certificate_in e ∙ certificate_again x is
+returns-clause-only c x is e m = c.read_all.ensures.value m ∙ ap certificate_in e ∙ certificate_again x is
