@@ -103,3 +103,30 @@ fn key_file_of_another_length(rt: HostRuntime) -> Result<(), Fail> {
     fs::remove_dir_all(&rt, "length")?;
     Ok(())
 }
+
+#[test]
+fn key_of_another_type(rt: HostRuntime) -> Result<(), Fail> {
+    let alloc = rt.alloc();
+    new_folder(&rt, "type")?;
+    fs::write(&rt, "type/0.pub", hex::decode(alloc, keys::key_0())?)?;
+    fs::write(&rt, "type/1.pub", hex::decode(alloc, keys::key_1())?)?;
+    fs::write(&rt, "type/2.pub", [0; 56].as_slice())?;
+    let words = [
+        "committee",
+        "1",
+        "type/out.hsc",
+        "type/0.pub",
+        "type/1.pub",
+        "type/2.pub",
+        "type/0.pub",
+    ];
+    let done = outcome_of(&rt, alloc, &words, MemorySink::new(alloc))?;
+    assert_eq!(rt; done.status, 2);
+    assert_eq!(rt;
+        done.faults.bytes(),
+        b"fault committee 4 Key 2\n".as_slice()
+    );
+    assert!(rt; fs::read(&rt, "type/out.hsc").is_err());
+    fs::remove_dir_all(&rt, "type")?;
+    Ok(())
+}
