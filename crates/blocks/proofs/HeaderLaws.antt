@@ -56,12 +56,17 @@ header_of view parent_view parent payload = Ok (record { view = view; parent_vie
 alike : (v w p q : ℕ) (a b x y : List ℕ) → v ≡ w → p ≡ q → a ≡ b → x ≡ y → header_of v p a x ≡ header_of w q b y
 alike v w p q a b x y e f g h = cc
 
+pub length-header_text : (h : Header) → IsHeader h → length (header_text h) ≡ 84
+unfolding header_text
+length-header_text h is =
+    let both : length (h.parent ++ h.payload) ≡ 64 = omega (arith, length-append h.parent h.payload, is.parent, is.payload) in
+    omega (arith, both)
+
 pub header_again : (h : Header) → IsHeader h → header_in (header_text h) ≡ Ok h
 unfolding header_in header_text
 header_again h is =
     let text = header_text h in
-    let both : length (h.parent ++ h.payload) ≡ 64 = omega (arith, length-append h.parent h.payload, is.parent, is.payload) in
-    let long : length text ≡ 84 = omega (arith, both) in
+    let long : length text ≡ 84 = length-header_text h is in
     let view : number_at 8 text 4 ≡ h.view = number_again 8 text 4 h.view is.view refl in
     let parent_view : number_at 8 text 12 ≡ h.parent_view = number_again 8 text 12 h.parent_view is.parent_view refl in
     let parent : piece 32 text 20 ≡ h.parent = take_at h.parent h.payload 32 is.parent in

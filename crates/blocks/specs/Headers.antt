@@ -2,6 +2,9 @@
 -- Blocks are those of chained HotStuff (Yin and others, PODC 2019); profile: views, not heights, and a
 -- block's parent is always the block that it justifies.
 use Rattle.std.specs.Prelude.{◌≡◌, ◌<◌, ◌≤◌, ◌-◌, ◌^◌, ◌++◌, ℕ, List, length, codes}
+use Rattle.std.specs.Cmp.Lexicographic.{slice_cmp}
+use Rattle.std.specs.Ordering.{nat_cmp}
+use Rattle.std.specs.declared.cmp.Ordering.TheVariants.{Less}
 use Rattle.byteorder.specs.Endian.{big_bytes}
 use Rattle.sha2.specs.Sha256.{sha256}
 
@@ -31,6 +34,10 @@ header_text h = codes "HSB1" ++ (big_bytes 8 h.view ++ (big_bytes 8 h.parent_vie
 -- the id of a header is the digest of its bytes
 unfoldable pub header_id : Header → List ℕ
 header_id h = sha256 (header_text h)
+
+-- the id of a is below that of b: the first byte that differs decides
+abbrev pub HasLowerId : Header → Header → Type 0
+HasLowerId a b = slice_cmp nat_cmp (header_id a) (header_id b) ≡ Less
 
 -- p is the parent that b names, by id and view
 pub record NamesParent (b p : Header) : Type 0 where

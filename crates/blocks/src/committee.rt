@@ -215,7 +215,7 @@ impl<'a> CommitteeView<'a> {
         u16_at(self.bytes, 6)
     }
 
-    /// The public key of replica `r`.
+    /// The public key of replica `r`, which must be below `n`.
     pub fn key(&self, r: u16) -> PublicKey
         requires { r < n_of self.now }
         ensures text { key_text result.key_id result.root ≡ key_at self.now r }
@@ -254,8 +254,9 @@ impl<'a> CommitteeView<'a> {
     }
 }
 
-/// The bytes of a committee with these public keys, of 56 bytes each, in this order. They are judged
-/// where they are read: `CommitteeView::parse` says whether they are a committee.
+/// The bytes of a committee with these public keys, of 56 bytes each, in this order; there must be fewer
+/// than 65,536 of them. They are judged where they are read: `CommitteeView::parse` says whether they are a
+/// committee. Answers an error where memory was refused.
 #[tactic(auto, unfolding(crate::specs::Committees::committee_text))]
 pub fn write_committee(
     alloc: Global,

@@ -1,8 +1,8 @@
 //! Headers of blocks.
 
-ghost use Rattle.std.specs.Prelude.{◌≡◌, Ok, IfOk, ℕ};
+ghost use Rattle.std.specs.Prelude.{◌≡◌, ◌↔◌, Ok, IfOk, IsTrue, ℕ};
 ghost use Rattle.blocks.specs.HeaderReading.{header_in, header_refusal_number};
-ghost use Rattle.blocks.specs.Headers.{Header as HeaderValue, IsHeader, header_id, header_text};
+ghost use Rattle.blocks.specs.Headers.{Header as HeaderValue, IsHeader, NamesParent, header_id, header_text};
 
 use sha2::{Digest, Sha256};
 use std::marker::Model;
@@ -122,6 +122,13 @@ impl Header {
         let mut hasher = Sha256::new();
         hasher.update(self.to_bytes());
         hasher.finalize()
+    }
+
+    /// Whether the block names this header as its parent, by id and view.
+    pub fn names(&self, parent: &Header) -> bool
+        ensures { IsTrue result ↔ NamesParent self.now parent.now }
+    {
+        self.parent_view == parent.view && self.parent == parent.id()
     }
 }
 

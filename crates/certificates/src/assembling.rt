@@ -88,7 +88,8 @@ fn sort_by_replica(entries: &mut Vec<Endorsement>)
     entries.sort_unstable_by_key(|e| e.replica);
 }
 
-/// The certificate of these votes, sorted by replica. No signature is checked: `check_block` does that.
+/// The certificate of these votes, sorted by replica. Their replicas must be below the committee's n and
+/// their views at least 1. No signature is checked: `check_block` does that.
 /// Refused in this order: Memory, where memory was refused, Mixed, TooFew, Double.
 pub fn assemble(
     alloc: Global,

@@ -30,8 +30,8 @@ pub struct Endorsement {
     pub signature: [u8; 1452],
 }
 
-/// Signatures of replicas on one view and id, by rising replica: 1 to 31 of them in a view above 0, none in view 0. Made
-/// by `Certificate::read` and `assemble` alone. No signature is checked before `check_block`.
+/// Signatures of replicas on one view and id, by rising replica: 1 to 31 of them in a view above 0, none in
+/// view 0. Made by `Certificate::read` and `assemble` alone. No signature is checked before `check_block`.
 #[derive(Drop)]
 pub struct Certificate {
     view: u64,
@@ -177,8 +177,8 @@ impl Certificate {
 
     /// The certificate that the bytes spell: the view (8 bytes at 0), the id (32 at 8), the number of
     /// entries (2 at 40), and for each entry the number of its replica (2) and its signature (1,452),
-    /// numbers with the highest byte first. Refused in this order: Memory, where memory was refused,
-    /// Length, Order, Count.
+    /// numbers with the highest byte first. Refused in this order: Memory, where memory for the entries of
+    /// a text of whole length was refused, Length, Order, Count.
     pub fn read(alloc: Global, bytes: &[u8]) -> Result<Certificate, CertificateRefusal>
         // What is read is spelled so.
         ensures found { IfOk result (λ c. IsCertificate c × (bytes.now ≡ certificate_text c)) }
@@ -255,7 +255,7 @@ impl Certificate {
         self.entries.len()
     }
 
-    /// Vote `k`, counted from 0.
+    /// Vote `k`, counted from 0, which must be below `count`.
     pub fn vote(&self, k: usize) -> SignedVote
         requires { k < length self.now.entries }
         ensures { result ≡ vote_of self.now (entry_of self.now k) }

@@ -207,4 +207,18 @@ impl<'a> CheckedBlock<'a> {
     {
         self.committee.again()
     }
+
+    /// The header, and the certificate of the parent. The committee that the block was checked under is
+    /// let go.
+    pub fn into_parts(self) -> (Header, Certificate)
+        ensures value { (result.0 ≡ self.entry.header) × (result.1 ≡ self.entry.certificate) }
+        ensures is_checked { IsChecked self.entry.committee self.entry.header self.entry.certificate }
+    {
+        let CheckedBlock {
+            committee: _,
+            header,
+            certificate,
+        } = self;
+        (header, certificate)
+    }
 }

@@ -10,8 +10,8 @@ use crate::statement::Statement;
 use blocks::{CommitteeView, Id};
 use lms_tree::{PublicKey, verify};
 
-/// A replica's signed vote for a block.
-#[derive(Clone, Copy, Debug)]
+/// A replica's signed vote for a block. Votes are ordered by replica, view, id and signature.
+#[derive(Clone, Copy, Debug, PartialEq, Eq, PartialOrd, Ord)]
 pub struct SignedVote {
     /// The number of the replica in its committee, from 0.
     pub replica: u16,
@@ -59,8 +59,8 @@ impl Verifier for LmsVerifier {
     }
 }
 
-/// Whether a replica of the committee signed this view and id of the committee's chain. The signature is
-/// read in place.
+/// Whether a replica of the committee, which must be below its n, signed this view and id of the committee's
+/// chain. The signature is read in place.
 pub fn is_signed_by<V: Verifier>(
     verifier: &V,
     committee: &CommitteeView,

@@ -3,7 +3,6 @@
 ghost use Rattle.std.specs.Prelude.{◌≡◌};
 ghost use Rattle.blocks.specs.Committees.{IsCommittee};
 ghost use Rattle.verdict_format.specs.Proofs.{IsProof};
-ghost use Rattle.verdict_format.specs.Verdicts.{kind_in};
 ghost use Rattle.verdict_format.specs.RuleNumbers.{rule_number};
 ghost use Rattle.verdict_checker.specs.Checks.{IsRefused};
 ghost use Rattle.verdict_checker.specs.declared.refusal.Refusal.{Refusal as RefusalValue};
@@ -28,9 +27,9 @@ pub const FAULT: u8 = 2;
 /// `REFUSED` after the whole line. Answers `FAULT` where the committee is unreadable, and nothing is
 /// written then, or where a write failed behind a first part of the line. It takes no memory.
 pub fn run_check<W: Sink>(committee: &[u8], verdict: &[u8], out: &mut W) -> u8
-    ensures accepts { IsCommittee committee.now → IsProof committee.now verdict.now × (kind_in verdict.now ≡ 1)
+    ensures accepts { IsCommittee committee.now → IsProof committee.now verdict.now
         → Answers (W.text out.old) (W.text out.new) (W.failed out.old) (W.failed out.new) (accepted_line verdict.now) 0 result }
-    ensures refuses { IsCommittee committee.now → (IsProof committee.now verdict.now × (kind_in verdict.now ≡ 1) → ⊥)
+    ensures refuses { IsCommittee committee.now → (IsProof committee.now verdict.now → ⊥)
         → (r : RefusalValue) × IsRefused committee.now verdict.now r
         × Answers (W.text out.old) (W.text out.new) (W.failed out.old) (W.failed out.new) (refused_line r) 1 result }
     ensures unreadable { (IsCommittee committee.now → ⊥) → (result ≡ 2) × (out.new ≡ out.old) }

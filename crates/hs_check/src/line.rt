@@ -35,7 +35,7 @@ impl Line {
         }
     }
 
-    /// Adds a text at the end.
+    /// Adds a text at the end, where there must be room for it.
     pub fn push(&mut self, text: &[u8])
         requires { length self.old + length text.now ≤ 64 }
         ensures { self.new ≡ self.old ++ text.now }

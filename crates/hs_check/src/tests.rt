@@ -6,6 +6,7 @@ use std::alloc::Global;
 use std::process::Abort;
 use std::test::Fail;
 use streams::MemorySink;
+use verdict_checker::CommitteeView;
 
 const NONE: &[u8] = b"";
 
@@ -32,15 +33,46 @@ fn accepts_double_vote(rt: HostRuntime) -> Result<(), Fail> {
     Ok(())
 }
 
-// Each byte of a signature at these places, turned.
+#[test]
+fn accepts_lock_violations(rt: HostRuntime) -> Result<(), Fail> {
+    for (verdict, want) in [
+        (
+            verdicts::lock_violation(),
+            b"accepted replica 1 rule 2 view 4\n".as_slice(),
+        ),
+        (
+            verdicts::lock_violation_of_replica_2(),
+            b"accepted replica 2 rule 2 view 4\n".as_slice(),
+        ),
+    ] {
+        let (status, line) = judged(rt.alloc(), &decoded(rt.alloc(), verdict)?)?;
+        assert_eq!(rt; status, ACCEPTED);
+        assert_eq!(rt; line.as_slice(), want);
+    }
+    Ok(())
+}
+
+#[test]
+fn equal_parent_views_are_no_offence(rt: HostRuntime) -> Result<(), Fail> {
+    let (status, line) = judged(
+        rt.alloc(),
+        &decoded(rt.alloc(), verdicts::equal_parent_views())?,
+    )?;
+    assert_eq!(rt; status, REFUSED);
+    assert_eq!(rt; line.as_slice(), b"refused 8 NoRuleBroken\n".as_slice());
+    Ok(())
+}
+
+// Each byte of a verdict at these places, turned.
 fn turned_bytes_are_refused<R: AllocGlobal + Abort>(
     rt: &R,
+    verdict: &str,
     from: usize,
     until: usize,
     want: &[u8],
 ) -> Result<(), Fail> {
     let committee = decoded(rt.alloc(), verdicts::committee())?;
-    let mut verdict = decoded(rt.alloc(), verdicts::double_vote())?;
+    let mut verdict = decoded(rt.alloc(), verdict)?;
     assert!(rt; until <= verdict.len());
     for at in from..until {
         verdict[at] ^= 1;
@@ -58,12 +90,109 @@ fn turned_bytes_are_refused<R: AllocGlobal + Abort>(
 
 #[test]
 fn every_signature_byte_counts_of_the_first_vote(rt: HostRuntime) -> Result<(), Fail> {
-    turned_bytes_are_refused(&rt, 79, 1531, b"refused 9 SignatureE\n")
+    turned_bytes_are_refused(
+        &rt,
+        verdicts::double_vote(),
+        79,
+        1531,
+        b"refused 9 SignatureE\n",
+    )
 }
 
 #[test]
 fn every_signature_byte_counts_of_the_second_vote(rt: HostRuntime) -> Result<(), Fail> {
-    turned_bytes_are_refused(&rt, 1571, 3023, b"refused 10 SignatureW\n")
+    turned_bytes_are_refused(
+        &rt,
+        verdicts::double_vote(),
+        1571,
+        3023,
+        b"refused 10 SignatureW\n",
+    )
+}
+
+#[test]
+fn every_byte_of_a_lock_violation_counts_but_for_signatures(rt: HostRuntime) -> Result<(), Fail> {
+    let verdict = verdicts::lock_violation();
+    turned_bytes_are_refused(&rt, verdict, 0, 4, b"refused 2 Magic\n")?;
+    turned_bytes_are_refused(&rt, verdict, 4, 36, b"refused 5 Chain\n")?;
+    turned_bytes_are_refused(&rt, verdict, 36, 37, b"refused 6 Replica\n")?;
+    // Replica 0, which signed neither vote.
+    turned_bytes_are_refused(&rt, verdict, 37, 38, b"refused 9 SignatureE\n")?;
+    // Kind 3.
+    turned_bytes_are_refused(&rt, verdict, 38, 39, b"refused 3 Kind\n")?;
+    // The view and the id of the earlier vote, and of the later.
+    turned_bytes_are_refused(&rt, verdict, 39, 79, b"refused 7 HeaderMismatch\n")?;
+    turned_bytes_are_refused(&rt, verdict, 1531, 1571, b"refused 7 HeaderMismatch\n")?;
+    // The three headers.
+    turned_bytes_are_refused(&rt, verdict, 3023, 3275, b"refused 7 HeaderMismatch\n")
+}
+
+#[test]
+fn every_signature_byte_counts_of_the_earlier_vote(rt: HostRuntime) -> Result<(), Fail> {
+    turned_bytes_are_refused(
+        &rt,
+        verdicts::lock_violation(),
+        79,
+        1531,
+        b"refused 9 SignatureE\n",
+    )
+}
+
+#[test]
+fn every_signature_byte_counts_of_the_later_vote(rt: HostRuntime) -> Result<(), Fail> {
+    turned_bytes_are_refused(
+        &rt,
+        verdicts::lock_violation(),
+        1571,
+        3023,
+        b"refused 10 SignatureW\n",
+    )
+}
+
+// The verdict with its votes in the other order, each with its own header, and with the header of
+// genesis, which the later block names as its parent.
+fn votes_swapped(committee: &[u8], verdict: &[u8], alloc: Global) -> Result<Vec<u8>, Fail> {
+    let view = CommitteeView::parse(committee).ok().ok_or("no committee")?;
+    let mut swapped = Vec::new(alloc);
+    for part in [
+        verdict.get(..39),
+        verdict.get(1531..3023),
+        verdict.get(39..1531),
+        verdict.get(3191..),
+    ] {
+        swapped.extend_from_slice(part.ok_or("too short")?)?;
+    }
+    swapped.extend_from_slice(&view.genesis().to_bytes())?;
+    swapped.extend_from_slice(verdict.get(3023..3107).ok_or("too short")?)?;
+    Ok(swapped)
+}
+
+#[test]
+fn a_later_vote_first_is_no_offence(rt: HostRuntime) -> Result<(), Fail> {
+    let committee = decoded(rt.alloc(), verdicts::committee())?;
+    let verdict = decoded(rt.alloc(), verdicts::lock_violation())?;
+    let swapped = votes_swapped(&committee, &verdict, rt.alloc())?;
+    let (status, line) = judged(rt.alloc(), &swapped)?;
+    assert_eq!(rt; status, REFUSED);
+    assert_eq!(rt; line.as_slice(), b"refused 8 NoRuleBroken\n".as_slice());
+    Ok(())
+}
+
+#[test]
+fn a_kind_that_the_length_belies(rt: HostRuntime) -> Result<(), Fail> {
+    let mut lock_violation = decoded(rt.alloc(), verdicts::lock_violation())?;
+    let mut double_vote = decoded(rt.alloc(), verdicts::double_vote())?;
+    assert!(rt; lock_violation.len() == 3275 && double_vote.len() == 3023);
+    lock_violation[38] = 1;
+    double_vote[38] = 2;
+    let cut = decoded(rt.alloc(), verdicts::lock_violation())?;
+    let cut = cut.get(..3274).ok_or("too short")?;
+    for verdict in [lock_violation.as_slice(), double_vote.as_slice(), cut] {
+        let (status, line) = judged(rt.alloc(), verdict)?;
+        assert_eq!(rt; status, REFUSED);
+        assert_eq!(rt; line.as_slice(), b"refused 4 Length\n".as_slice());
+    }
+    Ok(())
 }
 
 #[test]

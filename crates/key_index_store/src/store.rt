@@ -1,7 +1,7 @@
 //! The indices of a key.
 ghost use Rattle.std.specs.Prelude.{◌≡◌, ◌≢◌, ◌<◌, ◌≤◌, ◌+◌, ◌-◌, ◌*◌, ◌%◌, [], ℕ, List, IsTrue, true, false, if◌then◌else◌, IfSome, IsSome, ◌↔◌, option_map, length, IfOk, IfErr, OnErr, OnOk, IsErrOf};
 ghost use Rattle.stable_log.specs.Disk.{HasFailed};
-ghost use Rattle.stable_log.specs.Crash.{LeavesOnly, Unwritten};
+ghost use Rattle.stable_log.specs.Crash.{LeavesOnly, Unwritten, Torn, Follows};
 ghost use Rattle.stable_log.specs.Image.{empty_journal};
 ghost use Rattle.key_index_store.specs.Boundary.{reservation, reservations, IsBoundary, IsBoundedBy, LeavesBoundary};
 ghost use Rattle.key_index_store.specs.Refusals.{IsCreateRefusal, IsRecoverRefusal, MayGive, IsNextRefusal, IsReserveFault, IsReadFault};
@@ -121,7 +121,8 @@ fn read_reservations<D: Disk>(alloc: Global, journal: &mut Journal<D>) -> Result
 
 impl<D: Disk> IndexStore<D> {
     /// Makes an empty disk a store that has given nothing. A refusal hands the disk back; one that was not empty is
-    /// not written to. In this order: `Device`, `BadEntry`.
+    /// not written to, and after `Device` an empty one may hold any part of the 9 bytes of an empty journal. In this
+    /// order: `Device`, `BadEntry`.
     pub fn create(alloc: Global, disk: D) -> Result<IndexStore<D>, (IndexError, D)>
         ensures ok { IfOk result (λ s. (s.mark ≡ 0) × (s.stopped ≡ false)) }
         ensures exact { OnOk result (IfSome (D.bytes disk) (λ bytes. bytes ≡ [])) }
@@ -134,6 +135,7 @@ impl<D: Disk> IndexStore<D> {
         ensures err { IfErr result (λ e. IfSome (D.bytes disk) (λ bytes. bytes ≢ [] →
             Unwritten D.bytes D.images D.moment D.images_since disk e.1)) }
         ensures tells { IfErr result (λ e. IsSome (D.bytes e.1) ↔ IsSome (D.bytes disk)) }
+        ensures torn { IfErr result (λ e. Follows (Torn 0 9) (D.images disk) (D.images e.1)) }
         ensures cause { IfErr result (λ e. e.0 ≡ IndexError.Device →
             HasFailed (D.failed disk) (D.failed e.1)) }
         ensures kept { IfErr result (λ e. e.0 ≢ IndexError.Device → D.failed e.1 ≡ D.failed disk) }

@@ -2,18 +2,19 @@
 
 ghost use Rattle.std.specs.Prelude.{◌≡◌, ◌<◌, ◌↔◌, IsOk, IsTrue, OnOk, IfOk, IfErr};
 ghost use Rattle.blocks.specs.Committees.{n_of};
+ghost use Rattle.blocks.specs.Replica.{ballot_on};
 ghost use Rattle.blocks.specs.Rules.{IsDoubleVote};
 ghost use Rattle.certificates.specs.Votes.{IsSignedBy};
 ghost use Rattle.verdict_format.specs.Verdicts.{kind_in, replica_in};
 ghost use Rattle.verdict_format.specs.VerdictReading.{IsReadable};
-ghost use Rattle.verdict_format.specs.Proofs.{IsProof, BreaksRule, NoRunHasBothVotes};
-ghost use Rattle.verdict_checker.specs.Checks.{IsRefused, PassesAll};
+ghost use Rattle.verdict_format.specs.Proofs.{IsProof, IsLockViolationBy, BreaksRule, NoRunHasBothVotes, NoRunApartHasBothVotes};
+ghost use Rattle.verdict_checker.specs.Checks.{AreOfVotes, HeadersMatch, IsRefused, PassesAll};
 ghost use Rattle.verdict_checker.specs.Findings.{IsFindingOf};
 
 use crate::refusal::Refusal;
-use blocks::no_run_has_a_double_vote;
+use blocks::{Header, no_run_has_a_double_vote, no_run_has_a_lock_violation};
 use certificates::{CommitteeView, LmsVerifier, is_signed_by};
-use verdict_format::{Rule, VerdictView, VoteView};
+use verdict_format::{Rule, VerdictView, VoteView, VotedHeaders};
 
 /// What a verdict proves.
 #[derive(Clone, Copy, Debug, PartialEq, Eq)]
@@ -33,12 +34,52 @@ fn is_double_vote(e: &VoteView, w: &VoteView) -> bool
     e.view == w.view && e.id != w.id
 }
 
+// Whether a vote is on the block of this header.
+fn is_on(vote: &VoteView, block: &Header) -> bool
+    ensures { IsTrue result ↔ (ballot_on block.now ≡ record { view = vote.now.view; id = vote.now.id }) }
+{
+    block.view == vote.view && block.id() == vote.id
+}
+
+// Whether the headers are those of the two votes' blocks, and of the parent that the earlier one names.
+fn are_of_votes(e: &VoteView, w: &VoteView, headers: &VotedHeaders) -> bool
+    ensures { IsTrue result ↔ AreOfVotes (record { view = e.now.view; id = e.now.id }) (record { view = w.now.view; id = w.now.id }) headers.now }
+{
+    is_on(e, &headers.earlier) && is_on(w, &headers.later) && headers.earlier.names(&headers.parent)
+}
+
+// Whether two votes of one replica, with their headers, are a lock violation.
+fn is_lock_violation(e: &VoteView, w: &VoteView, headers: &VotedHeaders) -> bool
+    requires { AreOfVotes (record { view = e.now.view; id = e.now.id }) (record { view = w.now.view; id = w.now.id }) headers.now }
+    ensures { IsTrue result ↔ IsLockViolationBy (record { view = e.now.view; id = e.now.id }) (record { view = w.now.view; id = w.now.id }) headers.now }
+{
+    e.view < w.view && headers.later.parent_view < headers.parent.parent_view
+}
+
+// Whether the verdict shows the headers that its kind asks for. A double vote needs none.
+fn headers_match(verdict: &VerdictView) -> bool
+    ensures { IsTrue result ↔ HeadersMatch verdict.now }
+{
+    match (verdict.rule(), verdict.headers()) {
+        (Rule::DoubleVote, _) => true,
+        (Rule::LockViolation, None) => false,
+        (Rule::LockViolation, Some(headers)) => {
+            are_of_votes(&verdict.earlier(), &verdict.later(), &headers)
+        }
+    }
+}
+
 // Whether the verdict's votes break the rule that it names.
 fn breaks_rule(verdict: &VerdictView) -> bool
-    requires { IsReadable verdict.now }
+    requires { HeadersMatch verdict.now }
     ensures { IsTrue result ↔ BreaksRule verdict.now }
 {
-    is_double_vote(&verdict.earlier(), &verdict.later())
+    let (e, w) = (verdict.earlier(), verdict.later());
+    match (verdict.rule(), verdict.headers()) {
+        (Rule::DoubleVote, _) => is_double_vote(&e, &w),
+        (Rule::LockViolation, None) => false,
+        (Rule::LockViolation, Some(headers)) => is_lock_violation(&e, &w, &headers),
+    }
 }
 
 // Whether the accused replica signed a vote.
@@ -69,6 +110,9 @@ fn judge(committee: &CommitteeView, verdict: &VerdictView) -> Result<(), Refusal
     if replica >= committee.n() {
         return Err(Refusal::Replica);
     }
+    if !headers_match(verdict) {
+        return Err(Refusal::HeaderMismatch);
+    }
     if !breaks_rule(verdict) {
         return Err(Refusal::NoRuleBroken);
     }
@@ -81,16 +125,21 @@ fn judge(committee: &CommitteeView, verdict: &VerdictView) -> Result<(), Refusal
     Ok(())
 }
 
-/// Judges whether the bytes prove that a replica of the committee broke a voting rule. It takes no
-/// memory, and costs two signature checks at the most.
+/// Judges whether the bytes prove that a replica of the committee broke a voting rule. Refused by the
+/// first of `Refusal`'s tests that is not passed. It takes no memory, and costs two signature checks at
+/// the most.
 pub fn check(committee: &CommitteeView, bytes: &[u8]) -> Result<Finding, Refusal>
-    ensures exact { IsOk result ↔ (IsProof committee.now bytes.now × (kind_in bytes.now ≡ 1)) }
+    ensures exact { IsOk result ↔ IsProof committee.now bytes.now }
     ensures finding { IfOk result (IsFindingOf bytes.now) }
     ensures first_refusal { IfErr result (IsRefused committee.now bytes.now) }
-    // No honest replica is accused.
-    ensures sound { OnOk result (NoRunHasBothVotes committee.now bytes.now) }
+    // No honest replica is accused, where no two different headers among those of its run and of the
+    // verdict have one id.
+    ensures sound { OnOk result (NoRunApartHasBothVotes committee.now bytes.now) }
+    // A double vote accuses none, whatever ids there are.
+    ensures sound_of_double_votes { OnOk result (kind_in bytes.now ≡ 1 → NoRunHasBothVotes committee.now bytes.now) }
 {
     no_run_has_a_double_vote();
+    no_run_has_a_lock_violation();
     let verdict = VerdictView::parse(bytes)?;
     judge(committee, &verdict)?;
     Ok(Finding {

@@ -12,7 +12,7 @@ pub enum Refusal {
     Short = 1,
     /// They do not begin with `HSX1`.
     Magic = 2,
-    /// The kind is not 1.
+    /// The kind is neither 1 nor 2.
     Kind = 3,
     /// The bytes are not as many as the kind asks for.
     Length = 4,
@@ -20,7 +20,8 @@ pub enum Refusal {
     Chain = 5,
     /// The committee has no such replica.
     Replica = 6,
-    /// A header is not readable, or is not that of its vote or of its parent.
+    /// Of kind 2: a header is unreadable, or is not that of its vote's block, or not the parent that the
+    /// earlier vote's block names, by id and view.
     HeaderMismatch = 7,
     /// The votes do not break the rule of the kind.
     NoRuleBroken = 8,

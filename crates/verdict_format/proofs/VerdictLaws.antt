@@ -1,17 +1,20 @@
--- What is read is spelled so, and what is spelled so is read, for verdicts of double votes.
-use Rattle.std.proofs.Common.{◌≡◌, ℕ, ◌+◌, ◌^◌, ◌<◌, ◌≤◌, List, [], ◌∷◌, ◌++◌, length, take, drop, Option, Some, None, refl, sym, ap, subst, ◌∙◌, append_assoc, arith}
-use Rattle.std.specs.Prelude.{codes, slice_index, IfSome, IsNone}
-use Rattle.std.proofs.lemmas.List.{append-nil, drop_all, drop_more, length-append, get_or-drop}
+-- What is read is spelled so, and what is spelled so is read.
+use Rattle.std.proofs.Common.{◌≡◌, ℕ, ◌+◌, ◌^◌, ◌<◌, ◌≤◌, List, [], ◌∷◌, ◌++◌, length, take, drop, Option, Some, None, Result, Ok, Err, ◌⊎◌, inl, inr, refl, sym, ap, subst, ◌∙◌, append_assoc, arith}
+use Rattle.std.specs.Prelude.{codes, slice_index, IfSome, IsSome}
+use Rattle.std.proofs.lemmas.List.{drop_all, drop_more, length-append, get_or-drop, take_all}
 use Rattle.byteorder.specs.Endian.{big_bytes}
 use Rattle.wire.specs.Pieces.{piece, number_at, AreBytes}
-use Rattle.wire.proofs.Numbers.{front, behind, taken, length-piece, piece-number_at, number_again, number_below}
+use Rattle.wire.proofs.Numbers.{front, behind, taken, cut_last, AreBytes-piece, length-piece, piece-number_at, number_again, number_below}
+use Rattle.blocks.specs.Headers.{Header, header_text}
 use Rattle.blocks.specs.HeaderReading.{header_in}
+use Rattle.blocks.specs.declared.header.HeaderRefusal.{HeaderRefusal}
+use Rattle.blocks.proofs.HeaderLaws.{header_found, header_again, length-header_text}
 use Rattle.certificates.proofs.Pieces.{two_pieces}
 use Rattle.verdict_format.specs.declared.parts.BoundVote.{BoundVote}
 use Rattle.verdict_format.specs.declared.parts.VerdictParts.{VerdictParts}
 use Rattle.verdict_format.specs.Verdicts.{VotedHeaders, all_read, verdict_length, kind_in, earlier_signature_in, later_signature_in, headers_in}
 use Rattle.verdict_format.specs.VerdictReading.{IsReadable}
-use Rattle.verdict_format.specs.VerdictText.{IsBoundVote, AreHeaders, IsVerdictOf, bound_text, headers_text, kind_of, head_text, verdict_text, parts_in}
+use Rattle.verdict_format.specs.VerdictText.{IsBoundVote, AreHeaders, HeadersAreReadable, IsVerdictOf, bound_text, headers_text, kind_of, head_text, verdict_text, parts_in}
 
 -- ---- no headers
 
@@ -23,37 +26,73 @@ unfolding header_in
 no_header e p w is = rw is refl
 
 -- there are none in a text that ends before them
-no_headers : (bytes : List ℕ) → length bytes ≡ 3023 → headers_in bytes ≡ None
+pub no_headers : (bytes : List ℕ) → length bytes ≡ 3023 → headers_in bytes ≡ None
 unfolding headers_in
 no_headers bytes long = no_header _ _ _ (nothing_there bytes 3023 (omega arith))
 
-none_text : (o : Option VotedHeaders) → IsNone o → headers_text o ≡ []
-none_text None none = refl
-none_text (Some h) none = absurd cc
-
--- the pieces of a double vote, written one after the other
-pub written : (v : VerdictParts) (a b c d : List ℕ) → IsNone v.headers → a ≡ [] → b ≡ a ++ head_text v → c ≡ b ++ bound_text v.earlier
-    → d ≡ c ++ bound_text v.later → d ≡ verdict_text v
+-- the pieces of a verdict, written one after the other
+pub written : (v : VerdictParts) (a b c d e : List ℕ) → a ≡ [] → b ≡ a ++ head_text v → c ≡ b ++ bound_text v.earlier
+    → d ≡ c ++ bound_text v.later → e ≡ d ++ headers_text v.headers → e ≡ verdict_text v
 unfolding verdict_text
-written v a b c d none p q r s =
+written v a b c d e p q r s t =
     let head = head_text v in
     let first = bound_text v.earlier in
     let second = bound_text v.later in
-    let end : second ≡ second ++ headers_text v.headers = sym (ap (λ (t : List ℕ). second ++ t) (none_text v.headers none) ∙ append-nil second) in
-    s ∙ ap (λ (t : List ℕ). t ++ second) (r ∙ ap (λ (t : List ℕ). t ++ first) (q ∙ ap (λ (t : List ℕ). t ++ head) p))
-    ∙ append_assoc head first second ∙ ap (λ (t : List ℕ). head ++ (first ++ t)) end
+    let last = headers_text v.headers in
+    t ∙ ap (λ (x : List ℕ). x ++ last) (s ∙ ap (λ (x : List ℕ). x ++ second) (r ∙ ap (λ (x : List ℕ). x ++ first) (q ∙ ap (λ (x : List ℕ). x ++ head) p)))
+    ∙ append_assoc (head ++ first) second last ∙ append_assoc head first (second ++ last)
 
-one_of : (o : Option VotedHeaders) → IsNone o → kind_of o ≡ 1
-one_of None none = refl
-one_of (Some h) none = absurd cc
+-- ---- headers
 
-pub none_are : (o : Option VotedHeaders) → IsNone o → IfSome o AreHeaders
-none_are None none = tt
-none_are (Some h) none = absurd cc
+-- three headers that were read
+record WereRead (a b c : Result Header HeaderRefusal) (h : VotedHeaders) : Type 0 where
+  earlier : a ≡ Ok h.earlier
+  parent : b ≡ Ok h.parent
+  later : c ≡ Ok h.later
 
-same_none : (o p : Option VotedHeaders) → IsNone o → p ≡ None → p ≡ o
-same_none None p none e = e
-same_none (Some h) p none e = absurd cc
+were_read : (a b c : Result Header HeaderRefusal) (h : VotedHeaders) → all_read a b c ≡ Some h → WereRead a b c h
+were_read (Ok e) (Ok p) (Ok w) h is = record { earlier = cc; parent = cc; later = cc }
+were_read (Ok e) (Ok p) (Err r) h is = absurd cc
+were_read (Ok e) (Err r) c h is = absurd cc
+were_read (Err r) b c h is = absurd cc
+
+-- the headers that a text shows behind its votes
+record Shows (bytes : List ℕ) (o : Option VotedHeaders) : Type 0 where
+  headers : IfSome o AreHeaders
+  kind : kind_in bytes ≡ kind_of o
+  text : drop 3023 bytes ≡ headers_text o
+
+three_shown : (bytes : List ℕ) (h : VotedHeaders) → AreBytes bytes → kind_in bytes ≡ 2 → length bytes ≡ 3275 → headers_in bytes ≡ Some h → Shows bytes (Some h)
+unfolding headers_in
+three_shown bytes h fit two long is =
+    let read = were_read _ _ _ h is in
+    let e = header_found (piece 84 bytes 3023) h.earlier (AreBytes-piece 84 bytes 3023 fit) read.earlier in
+    let p = header_found (piece 84 bytes 3107) h.parent (AreBytes-piece 84 bytes 3107 fit) read.parent in
+    let w = header_found (piece 84 bytes 3191) h.later (AreBytes-piece 84 bytes 3191 fit) read.later in
+    record {
+      headers = record { earlier = e.0; parent = p.0; later = w.0 };
+      kind = two;
+      text = taken bytes 3023 84 _ _ e.1 (taken bytes 3107 84 _ _ p.1 (cut_last bytes 3191 84 (omega arith) ∙ w.1));
+    }
+
+none_shown : (bytes : List ℕ) → kind_in bytes ≡ 1 → length bytes ≡ 3023 → Shows bytes None
+none_shown bytes one long = record { headers = tt; kind = one; text = drop_all 3023 bytes (omega arith) }
+
+some_of : (o : Option VotedHeaders) → IsSome o → (h : VotedHeaders) × (o ≡ Some h)
+some_of (Some h) is = (h, refl)
+some_of None is = absurd cc
+
+long_as : (bytes : List ℕ) (kind : ℕ) → kind_in bytes ≡ kind → length bytes ≡ verdict_length (kind_in bytes) → length bytes ≡ verdict_length kind
+long_as bytes kind is long = subst (λ (k : ℕ). length bytes ≡ verdict_length k) is long
+
+shown : (bytes : List ℕ) → AreBytes bytes → ((kind_in bytes ≡ 1) ⊎ (kind_in bytes ≡ 2)) → length bytes ≡ verdict_length (kind_in bytes)
+    → HeadersAreReadable bytes → Shows bytes (headers_in bytes)
+shown bytes fit (inl one) long readable =
+    let exact : length bytes ≡ 3023 = long_as bytes 1 one long in
+    subst (λ (o : Option VotedHeaders). Shows bytes o) (sym (no_headers bytes exact)) (none_shown bytes one exact)
+shown bytes fit (inr two) long readable =
+    let some = some_of (headers_in bytes) (readable two) in
+    subst (λ (o : Option VotedHeaders). Shows bytes o) (sym some.1) (three_shown bytes some.0 fit two (long_as bytes 2 two long) some.1)
 
 -- ---- what is read is spelled so
 
@@ -68,43 +107,36 @@ bound_there bytes at fit long =
 one_byte : (bytes : List ℕ) (at : ℕ) → at < length bytes → piece 1 bytes at ≡ slice_index bytes at ∷ []
 one_byte bytes at below = ap (take 1) (drop_more bytes at 0 below)
 
-head_there : (bytes : List ℕ) → AreBytes bytes → length bytes ≡ 3023 → piece 4 bytes 0 ≡ codes "HSX1" → kind_in bytes ≡ 1
-    → piece 39 bytes 0 ≡ codes "HSX1" ++ (piece 32 bytes 4 ++ (big_bytes 2 (number_at 2 bytes 36) ++ 1 ∷ []))
-head_there bytes fit long magic kind =
-    let last : piece 1 bytes 38 ≡ 1 ∷ [] = one_byte bytes 38 (omega arith) ∙ ap (λ (k : ℕ). k ∷ []) kind in
+head_there : (bytes : List ℕ) (kind : ℕ) → AreBytes bytes → 39 ≤ length bytes → piece 4 bytes 0 ≡ codes "HSX1" → kind_in bytes ≡ kind
+    → piece 39 bytes 0 ≡ codes "HSX1" ++ (piece 32 bytes 4 ++ (big_bytes 2 (number_at 2 bytes 36) ++ kind ∷ []))
+head_there bytes kind_is fit long magic kind =
+    let last : piece 1 bytes 38 ≡ kind_is ∷ [] = one_byte bytes 38 (omega arith) ∙ ap (λ (k : ℕ). k ∷ []) kind in
     let replica : piece 2 bytes 36 ≡ big_bytes 2 (number_at 2 bytes 36) = piece-number_at 2 bytes 36 fit (omega arith) in
     sym (two_pieces bytes 0 4 35)
     ∙ ap (λ (t : List ℕ). piece 4 bytes 0 ++ t) (sym (two_pieces bytes 4 32 3) ∙ ap (λ (t : List ℕ). piece 32 bytes 4 ++ t) (sym (two_pieces bytes 36 2 1)))
     ∙ rw (magic, replica, last) refl
 
-none_is : (o : Option VotedHeaders) → o ≡ None → IsNone o
-none_is None e = refl
-none_is (Some h) e = absurd cc
-
 -- the parts of a readable text spell it
-pub verdict_found : (bytes : List ℕ) → AreBytes bytes → IsReadable bytes → IsVerdictOf bytes (parts_in bytes)
+pub verdict_found : (bytes : List ℕ) → AreBytes bytes → IsReadable bytes → HeadersAreReadable bytes → IsVerdictOf bytes (parts_in bytes)
 unfolding verdict_text head_text earlier_signature_in later_signature_in
-verdict_found bytes fit readable =
+verdict_found bytes fit readable headers =
     let magic : piece 4 bytes 0 ≡ codes "HSX1" = readable.1.0 in
-    let kind : kind_in bytes ≡ 1 = readable.1.1.0 in
-    let long : length bytes ≡ 3023 = subst (λ (k : ℕ). length bytes ≡ verdict_length k) kind readable.1.1.1.0 in
-    let none : headers_in bytes ≡ None = no_headers bytes long in
-    let no_text : drop 3023 bytes ≡ headers_text (headers_in bytes) = drop_all 3023 bytes (omega arith) ∙ sym (ap headers_text none) in
-    let no_headers_here : IsNone (headers_in bytes) = none_is (headers_in bytes) none in
-    let one : kind_of (headers_in bytes) ≡ 1 = one_of (headers_in bytes) no_headers_here in
+    let long : length bytes ≡ verdict_length (kind_in bytes) = readable.1.1.1.0 in
+    let enough : 3023 ≤ verdict_length (kind_in bytes) = omega arith in
+    let votes : 3023 ≤ length bytes = omega (arith, long, enough) in
+    let behind_votes = shown bytes fit readable.1.1.0 long headers in
     record {
       parts = record {
         chain = length-piece 32 bytes 4 (omega arith);
         replica = number_below 2 bytes 36 fit;
         earlier = record { view = number_below 8 bytes 39 fit; id = length-piece 32 bytes 47 (omega arith); signature = length-piece 1452 bytes 79 (omega arith) };
         later = record { view = number_below 8 bytes 1531 fit; id = length-piece 32 bytes 1539 (omega arith); signature = length-piece 1452 bytes 1571 (omega arith) };
-        headers = none_are (headers_in bytes) no_headers_here;
+        headers = behind_votes.headers;
       };
-      no_headers = no_headers_here;
       text =
-          taken bytes 0 39 _ _ (head_there bytes fit long magic kind ∙ ap (λ (k : ℕ). codes "HSX1" ++ (piece 32 bytes 4 ++ (big_bytes 2 (number_at 2 bytes 36) ++ k ∷ []))) (sym one)) (
+          taken bytes 0 39 _ _ (head_there bytes (kind_of (headers_in bytes)) fit (omega arith) magic behind_votes.kind) (
           taken bytes 39 1492 _ _ (bound_there bytes 39 fit (omega arith)) (
-          taken bytes 1531 1492 _ _ (bound_there bytes 1531 fit (omega arith)) no_text));
+          taken bytes 1531 1492 _ _ (bound_there bytes 1531 fit (omega arith)) behind_votes.text));
     }
 
 -- ---- what is spelled so is read
@@ -179,6 +211,39 @@ same_of v c r e w h p q s t u =
     ∙ ap (λ (x : BoundVote). parts_from v.chain v.replica x w h) s ∙ ap (λ (x : BoundVote). parts_from v.chain v.replica v.earlier x h) t
     ∙ ap (parts_from v.chain v.replica v.earlier v.later) u
 
+-- where three headers stand last they are read
+reads_headers : (text : List ℕ) (h : VotedHeaders) → AreHeaders h → drop 3023 text ≡ headers_text (Some h) → headers_in text ≡ Some h
+unfolding headers_in
+reads_headers text h is here =
+    let e = header_text h.earlier in
+    let p = header_text h.parent in
+    let w = header_text h.later in
+    let long = length-header_text h.earlier is.earlier in
+    let second = behind text 3023 84 e (p ++ w) here long in
+    let third = behind text 3107 84 p w second (length-header_text h.parent is.parent) in
+    let last : piece 84 text 3191 ≡ w = ap (take 84) third ∙ take_all 84 w (omega (arith, length-header_text h.later is.later)) in
+    let earlier = ap header_in (front text 3023 84 e (p ++ w) here long) ∙ header_again h.earlier is.earlier in
+    let parent = ap header_in (front text 3107 84 p w second (length-header_text h.parent is.parent)) ∙ header_again h.parent is.parent in
+    let later = ap header_in last ∙ header_again h.later is.later in
+    rw (earlier, parent, later) refl
+
+-- what stands behind the votes of a written verdict
+record EndsWith (text : List ℕ) (o : Option VotedHeaders) : Type 0 where
+  kind : (kind_of o ≡ 1) ⊎ (kind_of o ≡ 2)
+  long : length text ≡ verdict_length (kind_of o)
+  headers : headers_in text ≡ o
+
+ends_with : (text : List ℕ) (o : Option VotedHeaders) → IfSome o AreHeaders → length text ≡ 3023 + length (headers_text o) → drop 3023 text ≡ headers_text o → EndsWith text o
+ends_with text None are long here = record { kind = inl refl; long = long; headers = no_headers text long }
+ends_with text (Some h) are long here =
+    let e = header_text h.earlier in
+    let p = header_text h.parent in
+    let w = header_text h.later in
+    let a = length-header_text h.earlier are.earlier in
+    let b = length-header_text h.parent are.parent in
+    let c = length-header_text h.later are.later in
+    record { kind = inr refl; long = omega (arith, length-append e (p ++ w), length-append p w); headers = reads_headers text h are here }
+
 -- what is written is read, with its parts
 pub verdict_again : (bytes : List ℕ) (v : VerdictParts) → IsVerdictOf bytes v → IsReadable bytes × (parts_in bytes ≡ v)
 unfolding verdict_text earlier_signature_in later_signature_in
@@ -191,14 +256,13 @@ verdict_again text v is =
     let a = length-head_text v parts.chain in
     let b = length-bound_text v.earlier parts.earlier in
     let c = length-bound_text v.later parts.later in
-    let d : length last ≡ 0 = ap length (none_text v.headers is.no_headers) in
     let whole : length text ≡ length (head_text v ++ (bound_text v.earlier ++ (bound_text v.later ++ last))) = ap length is.text in
-    let long : length text ≡ 3023 =
+    let long : length text ≡ 3023 + length last =
     omega (arith, length-append (head_text v) (bound_text v.earlier ++ (bound_text v.later ++ last)), length-append (bound_text v.earlier) (bound_text v.later ++ last), length-append (bound_text v.later) last)
     in
-    let kind : kind_in text ≡ 1 = head.kind ∙ one_of v.headers is.no_headers in
-    let right : length text ≡ verdict_length (kind_in text) = long ∙ sym (ap verdict_length kind) in
-    let headers : headers_in text ≡ v.headers = same_none v.headers (headers_in text) is.no_headers (no_headers text long) in (
+    let end = ends_with text v.headers parts.headers long second.rest_is in
+    let kind = subst (λ (k : ℕ). (k ≡ 1) ⊎ (k ≡ 2)) (sym head.kind) end.kind in
+    let right : length text ≡ verdict_length (kind_in text) = end.long ∙ sym (ap verdict_length head.kind) in (
       (omega arith, (head.magic, (kind, (right, tt)))),
-      same_of v _ _ _ _ _ head.chain head.replica (same_vote v.earlier _ _ _ first.view first.id first.signature) (same_vote v.later _ _ _ second.view second.id second.signature) headers,
+      same_of v _ _ _ _ _ head.chain head.replica (same_vote v.earlier _ _ _ first.view first.id first.signature) (same_vote v.later _ _ _ second.view second.id second.signature) end.headers,
     )

@@ -4,13 +4,13 @@ use Rattle.wire.specs.Pieces.{piece}
 use Rattle.wire.specs.Refusals.{AllPassed, IsFirst}
 use Rattle.verdict_format.specs.declared.verdict.VerdictRefusal.{VerdictRefusal}
 use Rattle.verdict_format.specs.declared.verdict.VerdictRefusal.TheVariants.{Short, Magic, Kind, Length}
-use Rattle.verdict_format.specs.Verdicts.{kind_in, verdict_length}
+use Rattle.verdict_format.specs.Verdicts.{kind_in, IsKind, verdict_length}
 
 -- what each refusal tests
 abbrev pub HasForm : List ℕ → VerdictRefusal → Type 0
 HasForm bytes Short = 39 ≤ length bytes
 HasForm bytes Magic = piece 4 bytes 0 ≡ codes "HSX1"
-HasForm bytes Kind = kind_in bytes ≡ 1
+HasForm bytes Kind = IsKind (kind_in bytes)
 HasForm bytes Length = length bytes ≡ verdict_length (kind_in bytes)
 
 -- the number that docs/REFUSALS.md gives a refusal
@@ -23,7 +23,7 @@ verdict_refusal_number Length = 4
 abbrev pub form_order : List VerdictRefusal
 form_order = Short ∷ Magic ∷ Kind ∷ Length ∷ []
 
--- the verdict can be read; those of lock violations can not, yet
+-- the verdict can be read; whether its headers can is another matter
 abbrev pub IsReadable : List ℕ → Type 0
 IsReadable bytes = AllPassed (HasForm bytes) form_order
 

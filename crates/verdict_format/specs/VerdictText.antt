@@ -1,10 +1,10 @@
 -- The bytes of a verdict, as docs/FORMATS.md, "Verdict", lays them out, and the parts that bytes spell.
-use Rattle.std.specs.Prelude.{◌≡◌, ◌<◌, ◌^◌, ◌++◌, ℕ, List, [], ◌∷◌, length, codes, Option, Some, None, IfSome, IsNone}
+use Rattle.std.specs.Prelude.{◌≡◌, ◌<◌, ◌^◌, ◌++◌, ℕ, List, [], ◌∷◌, length, codes, Option, Some, None, IfSome, IsSome}
 use Rattle.byteorder.specs.Endian.{big_bytes}
 use Rattle.blocks.specs.Headers.{IsHeader, header_text}
 use Rattle.verdict_format.specs.declared.parts.BoundVote.{BoundVote}
 use Rattle.verdict_format.specs.declared.parts.VerdictParts.{VerdictParts}
-use Rattle.verdict_format.specs.Verdicts.{VotedHeaders, chain_in, replica_in, earlier_in, later_in, earlier_signature_in, later_signature_in, headers_in}
+use Rattle.verdict_format.specs.Verdicts.{VotedHeaders, kind_in, chain_in, replica_in, earlier_in, later_in, earlier_signature_in, later_signature_in, headers_in}
 
 -- ---- which verdicts there are
 
@@ -52,11 +52,14 @@ head_text v = codes "HSX1" ++ (v.chain ++ (big_bytes 2 v.replica ++ kind_of v.he
 unfoldable pub verdict_text : VerdictParts → List ℕ
 verdict_text v = head_text v ++ (bound_text v.earlier ++ (bound_text v.later ++ headers_text v.headers))
 
--- the bytes are those of a double vote with these parts
+-- the bytes are those of a verdict with these parts
 pub record IsVerdictOf (bytes : List ℕ) (v : VerdictParts) : Type 0 where
   pub parts : AreParts v
-  pub no_headers : IsNone v.headers
   pub text : bytes ≡ verdict_text v
+
+-- the headers of a lock violation are readable
+abbrev pub HeadersAreReadable : List ℕ → Type 0
+HeadersAreReadable bytes = kind_in bytes ≡ 2 → IsSome (headers_in bytes)
 
 -- ---- the parts of a verdict at their places
 

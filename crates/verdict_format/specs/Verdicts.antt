@@ -54,6 +54,10 @@ headers_in bytes = all_read (header_in (piece 84 bytes 3023)) (header_in (piece 
 
 -- ---- verdicts
 
+-- there are two rules
+abbrev pub IsKind : ℕ → Type 0
+IsKind kind = (kind ≡ 1) ⊎ (kind ≡ 2)
+
 -- a verdict has headers where it is of a lock violation
 abbrev pub verdict_length : ℕ → ℕ
 verdict_length kind = 3023 + (if kind == 2 then 252 else 0)
@@ -61,5 +65,5 @@ verdict_length kind = 3023 + (if kind == 2 then 252 else 0)
 -- these bytes have the form of a verdict
 pub record IsVerdict (bytes : List ℕ) : Type 0 where
   pub magic : piece 4 bytes 0 ≡ codes "HSX1"
-  pub kind : (kind_in bytes ≡ 1) ⊎ (kind_in bytes ≡ 2)
+  pub kind : IsKind (kind_in bytes)
   pub long : length bytes ≡ verdict_length (kind_in bytes)

@@ -1,8 +1,10 @@
 //! Writing verdicts.
 
-ghost use Rattle.std.specs.Prelude.{◌≡◌, ◌<◌, ◌^◌, ◌++◌, IfOk, IsNone, OnOk, length};
-ghost use Rattle.verdict_format.specs.VerdictText.{IsBoundVote, IsVerdictOf, bound_text, head_text, verdict_text};
+ghost use Rattle.std.specs.Prelude.{◌≡◌, ◌<◌, ◌^◌, ◌++◌, IfOk, IfSome, OnOk, length};
+ghost use Rattle.verdict_format.specs.RuleNumbers.{rule_number};
+ghost use Rattle.verdict_format.specs.VerdictText.{AreHeaders, IsBoundVote, IsVerdictOf, bound_text, head_text, headers_text, kind_of, verdict_text};
 
+use crate::verdict::Rule;
 use blocks::{Header, Id};
 use std::alloc::{AllocError, Global};
 use std::marker::Model;
@@ -62,10 +64,21 @@ fn put(text: &mut Vec<u8>, piece: &[u8]) -> Result<(), AllocError>
     Ok(())
 }
 
-// Adds what stands before the votes of a double vote.
+impl VerdictParts {
+    /// The rule that they show to be broken.
+    fn rule(&self) -> Rule
+        ensures { rule_number result ≡ kind_of self.now.headers }
+    {
+        match self.headers {
+            None => Rule::DoubleVote,
+            Some(_) => Rule::LockViolation,
+        }
+    }
+}
+
+// Adds what stands before the votes.
 #[tactic(auto, unfolding(crate::specs::VerdictText::head_text))]
 fn put_head(text: &mut Vec<u8>, parts: &VerdictParts) -> Result<(), AllocError>
-    requires { IsNone parts.now.headers }
     ensures text { OnOk result (text.new.items ≡ text.old.items ++ head_text parts.now) }
     ensures chain { length parts.now.chain ≡ 32 }
     ensures replica { OnOk result (parts.now.replica < 2 ^ 16) }
@@ -73,7 +86,7 @@ fn put_head(text: &mut Vec<u8>, parts: &VerdictParts) -> Result<(), AllocError>
     put(text, b"HSX1")?;
     put(text, &parts.chain)?;
     put(text, &parts.replica.to_be_bytes())?;
-    put(text, &[1])?;
+    put(text, &[parts.rule().number()])?;
     Ok(())
 }
 
@@ -88,18 +101,32 @@ fn put_vote(text: &mut Vec<u8>, vote: &BoundVote) -> Result<(), AllocError>
     Ok(())
 }
 
-/// The bytes of a verdict of a double vote, 3,023 of them. Verdicts of lock violations are not written
-/// yet.
+// Adds the headers, if there are any.
+fn put_headers(text: &mut Vec<u8>, headers: &Option<VotedHeaders>) -> Result<(), AllocError>
+    ensures text { OnOk result (text.new.items ≡ text.old.items ++ headers_text headers.now) }
+    ensures are_headers { OnOk result (IfSome headers.now AreHeaders) }
+{
+    let Some(headers) = headers else {
+        return Ok(());
+    };
+    put(text, &headers.earlier.to_bytes())?;
+    put(text, &headers.parent.to_bytes())?;
+    put(text, &headers.later.to_bytes())?;
+    Ok(())
+}
+
+/// The bytes of a verdict, 3,023 of a double vote and 3,275 of a lock violation, laid out as
+/// `VerdictView::parse` reads them. Answers an error where memory for them is refused.
 #[tactic(auto, unfolding(crate::specs::VerdictText::verdict_text))]
 pub fn write_verdict(alloc: Global, parts: &VerdictParts) -> Result<Vec<u8>, AllocError>
-    requires { IsNone parts.now.headers }
     ensures text { IfOk result (λ text. text.items ≡ verdict_text parts.now) }
     // So what is written is read, with the same parts.
     ensures spells { IfOk result (λ text. IsVerdictOf text.items parts.now) }
 {
-    let mut text = Vec::with_capacity(alloc, 3023)?;
+    let mut text = Vec::with_capacity(alloc, parts.rule().verdict_len())?;
     put_head(&mut text, parts)?;
     put_vote(&mut text, &parts.earlier)?;
     put_vote(&mut text, &parts.later)?;
+    put_headers(&mut text, &parts.headers)?;
     Ok(text)
 }

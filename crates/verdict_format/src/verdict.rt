@@ -1,21 +1,27 @@
 //! Verdicts, read in place.
 
-ghost use Rattle.std.specs.Prelude.{◌≡◌, Ok, IfOk, IfErr, OnOk};
-ghost use Rattle.verdict_format.specs.Verdicts.{chain_in, replica_in, kind_in, earlier_in, later_in, earlier_signature_in, later_signature_in};
+ghost use Rattle.std.specs.Prelude.{◌≡◌, ◌+◌, ◌≤◌, Ok, IfOk, IfErr, OnOk, MatchOption, length};
+ghost use Rattle.verdict_format.specs.Verdicts.{chain_in, replica_in, kind_in, earlier_in, later_in, earlier_signature_in, later_signature_in, all_read, headers_in, verdict_length, IsKind};
 ghost use Rattle.verdict_format.specs.RuleNumbers.{rule_number};
-ghost use Rattle.verdict_format.specs.VerdictText.{IsVerdictOf, parts_in};
+ghost use Rattle.blocks.specs.HeaderReading.{header_in};
+ghost use Rattle.wire.specs.Pieces.{piece};
+ghost use Rattle.verdict_format.specs.VerdictText.{HeadersAreReadable, IsVerdictOf, parts_in};
 ghost use Rattle.verdict_format.specs.declared.parts.VerdictParts.{VerdictParts};
 ghost use Rattle.verdict_format.specs.VerdictReading.{IsReadable, IsFormRefusal, verdict_refusal_number};
 
-use blocks::Id;
+use crate::parts::VotedHeaders;
+use blocks::{HEADER_LEN, Header, HeaderRefusal, Id};
 use std::marker::Model;
 use wire::{array_at, u16_at, u64_at};
 
 /// The length in bytes of what stands before the votes: magic, chain id, replica and kind.
 const HEAD_LEN: usize = 39;
 
-/// The length in bytes of a verdict of kind 1.
+/// The length in bytes of a verdict of kind 1: the head and two votes.
 const DOUBLE_VOTE_LEN: usize = 3023;
+
+/// The length in bytes of a verdict of kind 2: the same and three headers.
+const LOCK_VIOLATION_LEN: usize = DOUBLE_VOTE_LEN + 3 * HEADER_LEN;
 
 /// Why bytes are no verdict, in the order of the tests.
 #[derive(Clone, Copy, Debug, PartialEq, Eq)]
@@ -24,9 +30,9 @@ pub enum VerdictRefusal {
     Short = 1,
     /// They do not begin with `HSX1`.
     Magic = 2,
-    /// The byte at 38 is not 1.
+    /// The byte at 38 is neither 1 nor 2.
     Kind = 3,
-    /// They are not 3,023.
+    /// They are not 3,023 of kind 1, or 3,275 of kind 2.
     Length = 4,
 }
 
@@ -54,6 +60,27 @@ impl Rule {
         ensures { result ≡ rule_number self }
     {
         self as u8
+    }
+
+    // The rule of a kind, if there is one.
+    fn of_kind(kind: u8) -> Option<Rule>
+        ensures { MatchOption result (IsKind kind → ⊥) (λ rule. rule_number rule ≡ kind) }
+    {
+        match kind {
+            1 => Some(Rule::DoubleVote),
+            2 => Some(Rule::LockViolation),
+            _ => None,
+        }
+    }
+
+    /// The length in bytes of a verdict that says it was broken.
+    pub(crate) fn verdict_len(self) -> usize
+        ensures { result ≡ verdict_length (rule_number self) }
+    {
+        match self {
+            Rule::DoubleVote => DOUBLE_VOTE_LEN,
+            Rule::LockViolation => LOCK_VIOLATION_LEN,
+        }
     }
 }
 
@@ -85,14 +112,15 @@ impl<'a> Model for VerdictView<'a> {
 
 impl<'a> VerdictView<'a> {
     /// The verdict that the bytes spell: `HSX1`, the chain id (32 bytes at 4), the accused replica (2 at
-    /// 36), the kind (1 at 38), and two votes (at 39 and 1,531), each a view (8), an id (32) and a
-    /// signature (1,452), numbers with the highest byte first. Nothing is copied, and no signature is
-    /// checked. Refused in this order: Short, Magic, Kind, Length.
+    /// 36), the kind (1 at 38), two votes (at 39 and 1,531), each a view (8), an id (32) and a signature
+    /// (1,452), and of kind 2 three headers (84 each at 3,023), numbers with the highest byte first.
+    /// Nothing is copied, no signature is checked, and the headers may be unreadable. Refused in this
+    /// order: Short, Magic, Kind, Length.
     pub fn parse(bytes: &'a [u8]) -> Result<VerdictView<'a>, VerdictRefusal>
         ensures ok { IfOk result (λ v. (v ≡ bytes.now) × IsReadable bytes.now) }
 
-        // What is read is spelled so.
-        ensures found { OnOk result (IsVerdictOf bytes.now (parts_in bytes.now)) }
+        // What is read is spelled so, where the headers are readable.
+        ensures found { OnOk result (HeadersAreReadable bytes.now → IsVerdictOf bytes.now (parts_in bytes.now)) }
 
         // What is spelled so is read, with the same parts.
         ensures only { (v : VerdictParts) → IsVerdictOf bytes.now v → (result ≡ Ok bytes.now) × (parts_in bytes.now ≡ v) }
@@ -106,10 +134,10 @@ impl<'a> VerdictView<'a> {
         if !bytes.starts_with(b"HSX1") {
             return Err(VerdictRefusal::Magic);
         }
-        if bytes[38] != 1 {
+        let Some(rule) = Rule::of_kind(bytes[38]) else {
             return Err(VerdictRefusal::Kind);
-        }
-        if bytes.len() != DOUBLE_VOTE_LEN {
+        };
+        if bytes.len() != rule.verdict_len() {
             return Err(VerdictRefusal::Length);
         }
         Ok(VerdictView { bytes })
@@ -164,4 +192,44 @@ impl<'a> VerdictView<'a> {
             signature: &self.bytes[1571..3023],
         }
     }
+
+    /// The headers behind the votes of a lock violation, 84 bytes each: that of the earlier vote's block
+    /// (at 3,023), of the parent that it names (at 3,107), and of the later vote's block (at 3,191). None
+    /// of a double vote, and where one of them is unreadable.
+    #[tactic(auto, unfolding(crate::specs::Verdicts::headers_in))]
+    pub fn headers(&self) -> Option<VotedHeaders>
+        ensures { result ≡ headers_in self.now }
+    {
+        match self.rule() {
+            Rule::DoubleVote => None,
+            Rule::LockViolation => all_read(
+                header_at(self.bytes, 3023),
+                header_at(self.bytes, 3107),
+                header_at(self.bytes, 3191),
+            ),
+        }
+    }
+}
+
+// The header in the 84 bytes from `at` on.
+fn header_at(bytes: &[u8], at: usize) -> Result<Header, HeaderRefusal>
+    requires { at + 84 ≤ length bytes.now }
+    ensures { result ≡ header_in (piece 84 bytes.now at) }
+{
+    Header::from_bytes(&bytes[at..at + HEADER_LEN])
+}
+
+// The three headers, if each was read.
+fn all_read(
+    earlier: Result<Header, HeaderRefusal>,
+    parent: Result<Header, HeaderRefusal>,
+    later: Result<Header, HeaderRefusal>,
+) -> Option<VotedHeaders>
+    ensures { result ≡ all_read earlier parent later }
+{
+    Some(VotedHeaders {
+        earlier: earlier.ok()?,
+        parent: parent.ok()?,
+        later: later.ok()?,
+    })
 }

@@ -7,7 +7,7 @@ ghost use Rattle.wire.specs.Pieces.{piece, number_at};
 
 use byteorder::{BigEndian, ByteOrder};
 
-/// The number in the two bytes from place `at` on.
+/// The number in the two bytes from place `at` on, which must be there.
 #[tactic(auto, unfolding(crate::specs::Pieces::number_at))]
 pub fn u16_at(bytes: &[u8], at: usize) -> u16
     requires { at + 2 ≤ length bytes.now }
@@ -16,7 +16,7 @@ pub fn u16_at(bytes: &[u8], at: usize) -> u16
     BigEndian::read_u16(&bytes[at..at + 2])
 }
 
-/// The number in the four bytes from place `at` on.
+/// The number in the four bytes from place `at` on, which must be there.
 #[tactic(auto, unfolding(crate::specs::Pieces::number_at))]
 pub fn u32_at(bytes: &[u8], at: usize) -> u32
     requires { at + 4 ≤ length bytes.now }
@@ -25,7 +25,7 @@ pub fn u32_at(bytes: &[u8], at: usize) -> u32
     BigEndian::read_u32(&bytes[at..at + 4])
 }
 
-/// The number in the eight bytes from place `at` on.
+/// The number in the eight bytes from place `at` on, which must be there.
 #[tactic(auto, unfolding(crate::specs::Pieces::number_at))]
 pub fn u64_at(bytes: &[u8], at: usize) -> u64
     requires { at + 8 ≤ length bytes.now }
@@ -34,7 +34,7 @@ pub fn u64_at(bytes: &[u8], at: usize) -> u64
     BigEndian::read_u64(&bytes[at..at + 8])
 }
 
-/// The `N` bytes from place `at` on.
+/// The `N` bytes from place `at` on, which must be there.
 pub fn array_at<const N: usize>(bytes: &[u8], at: usize) -> [u8; N]
     requires { at + N ≤ length bytes.now }
     ensures { result ≡ piece N bytes.now at }
@@ -44,7 +44,8 @@ pub fn array_at<const N: usize>(bytes: &[u8], at: usize) -> [u8; N]
     array
 }
 
-/// Writes `piece` from place `at` on. The bytes before and behind it stay.
+/// Writes `piece` from place `at` on, where there must be room for it. The bytes before and behind it
+/// stay.
 pub fn put(bytes: &mut [u8], at: usize, piece: &[u8])
     requires { at + length piece.now ≤ length bytes.old }
     ensures written { take (at + length piece.now) bytes.new ≡ take at bytes.old ++ piece.now }

@@ -1,4 +1,4 @@
-use Rattle.verdict_format.proofs.VerdictLaws.{none_are, written}
+use Rattle.verdict_format.proofs.VerdictLaws.{written}
 use Rattle.verdict_format.proofs.parts.write_verdict.Goals as goal
 
 pub returns-clause-spells : goal.returns-clause-spells
@@ -8,10 +8,9 @@ returns-clause-spells c = record {
     replica = c.in_ok-put_head.ensures.replica;
     earlier = c.put_vote.ensures.is_vote;
     later = c.put_vote-2.ensures.is_vote;
-    headers = none_are c.args.parts.now.headers c.requires;
+    headers = c.in_ok-put_headers.ensures.are_headers;
   };
-  no_headers = c.requires;
   text =
-      written c.args.parts.now c.in_ok-text.text.items c.put_head.new.text.items c.put_vote.new.text.items c.put_vote-2.new.text.items c.requires
-      c.in_ok-text.ensures.items c.in_ok-put_head.ensures.text c.in_ok-put_vote.ensures.text c.in_ok-put_vote-2.ensures.text;
+      written c.args.parts.now c.in_ok-text.text.items c.put_head.new.text.items c.put_vote.new.text.items c.put_vote-2.new.text.items c.put_headers.new.text.items
+      c.in_ok-text.ensures.items c.in_ok-put_head.ensures.text c.in_ok-put_vote.ensures.text c.in_ok-put_vote-2.ensures.text c.in_ok-put_headers.ensures.text;
 }

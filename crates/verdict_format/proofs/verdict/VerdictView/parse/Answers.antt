@@ -21,18 +21,18 @@ pub returns-then-not-starts_with-clause-only : goal.returns-then-not-starts_with
 returns-then-not-starts_with-clause-only c v is =
     let refused : IsFormRefusal c.args.bytes.now Magic = search rules in absurd (not_spelled c.args.bytes.now Magic v refused is)
 
-pub returns-then-bytes-ne1-clause-only : goal.returns-then-bytes-ne1-clause-only
-returns-then-bytes-ne1-clause-only c v is =
+pub returns-in_default-clause-only : goal.returns-in_default-clause-only
+returns-in_default-clause-only c v is =
     let refused : IsFormRefusal c.args.bytes.now Kind = search rules in absurd (not_spelled c.args.bytes.now Kind v refused is)
 
-pub returns-then-bytes-ne-DOUBLE_VOTE_LEN-clause-only : goal.returns-then-bytes-ne-DOUBLE_VOTE_LEN-clause-only
-returns-then-bytes-ne-DOUBLE_VOTE_LEN-clause-only c v is =
+pub returns-then-bytes-verdict_len-clause-only : goal.returns-then-bytes-verdict_len-clause-only
+returns-then-bytes-verdict_len-clause-only c v is =
     let refused : IsFormRefusal c.args.bytes.now Length = search rules in absurd (not_spelled c.args.bytes.now Length v refused is)
 
 pub returns-clause-found : goal.returns-clause-found
-returns-clause-found c =
+returns-clause-found c headers =
     let readable : IsReadable c.args.bytes.now = search rules in
-    verdict_found c.args.bytes.now (λ i. omega (arith, c.type_inv.bytes i)) readable
+    verdict_found c.args.bytes.now (λ i. omega (arith, c.type_inv.bytes i)) readable headers
 
 pub returns-clause-only : goal.returns-clause-only
 returns-clause-only c v is = (refl, (verdict_again c.args.bytes.now v is).1)
