@@ -1,7 +1,7 @@
 -- Chains of headers down to genesis, ancestors, and blocks that conflict (HotStuff, PODC 2019, which
 -- says "branch" and "conflicting"; profile: views, not heights). What takes a list of headers speaks of
 -- chains inside that list alone.
-use Rattle.std.specs.Prelude.{◌≡◌, ◌≢◌, ◌<◌, List, [], ◌∷◌}
+use Rattle.std.specs.Prelude.{◌≡◌, ◌≢◌, ◌<◌, ℕ, List, [], ◌∷◌}
 use Rattle.std.specs.List.{Contains}
 use Rattle.blocks.specs.Headers.{Header, NamesParent, header_id, IsGenesis}
 
@@ -33,6 +33,10 @@ pub record Conflict (hs : List Header) (genesis b c : Header) : Type 0 where
   pub differ : b ≢ c
   pub not_below : IsAncestor hs genesis b c → ⊥
   pub not_above : IsAncestor hs genesis c b → ⊥
+
+-- no header of this list has this id
+abbrev pub HasNone : List Header → List ℕ → Type 0
+HasNone hs id = (h : Header) → Contains hs h → header_id h ≡ id → ⊥
 
 -- no two different headers of this list have one id
 abbrev pub NoCollision : List Header → Type 0

@@ -1,0 +1,14 @@
+//! Which blocks have a chain to genesis among known headers, and which stand in the chain of another. No
+//! handle.
+#![tactic(auto)]
+
+mod ancestry;
+mod laws;
+
+pub use ancestry::Ancestry;
+pub use laws::{
+    an_id_names_one_header, chains_end_in_genesis, genesis_may_stand_among_the_headers,
+};
+
+#[cfg(test)]
+mod tests;

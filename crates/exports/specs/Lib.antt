@@ -1,0 +1,5 @@
+pub mod Exports
+pub mod Readings
+pub mod Fronts
+pub mod ReadingLaws
+pub mod Requests

@@ -1,0 +1,5 @@
+pub mod Places
+pub mod Trees
+pub mod Planned
+pub mod Known
+pub mod Linked

@@ -1,0 +1,5 @@
+pub mod Tables
+pub mod Cores
+pub mod Plans
+pub mod Admission
+pub mod Restarts

@@ -1,0 +1,19 @@
+//! The core of a replica: what it votes for, what it locks, and what it knows again after a restart. No
+//! handle, no signature and no disk.
+#![tactic(auto)]
+
+mod durable;
+mod plan;
+mod refusal;
+mod replica;
+mod restart;
+mod stored;
+mod table;
+#[cfg(test)]
+mod tests;
+
+pub use durable::{Durable, Lock};
+pub use plan::{Act, Plan};
+pub use refusal::CoreRefusal;
+pub use replica::{Core, MOST_HEADERS};
+pub use stored::Stored;
