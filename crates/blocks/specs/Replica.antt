@@ -9,7 +9,8 @@ use Rattle.blocks.specs.Chains.{IsChain}
 
 -- ---- the state
 
--- the view of the last vote or timeout, the same as it outlives a restart, and the locked block
+-- the greatest view of a vote, or of a timeout since the last restart; the view of the last vote, which
+-- outlives a restart; and the locked block
 pub record ReplicaState : Type 0 where
   pub vote_view : ℕ
   pub stored_vote_view : ℕ

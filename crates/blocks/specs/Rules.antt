@@ -1,5 +1,5 @@
 -- When two votes of one replica break a voting rule, and that no run of a correct replica has two such
--- votes. The aim, to name more than a third of the replicas where two commits conflict, is that of BFT
+-- votes: of the second rule where ids do not collide. The aim, to name more than a third of the replicas where two commits conflict, is that of BFT
 -- Protocol Forensics (Sheng and others, CCS 2021); the two rules are this project's own. Others call the
 -- first offence equivocation, and the second amnesia or a surround vote.
 use Rattle.std.specs.Prelude.{◌≡◌, ◌≢◌, ◌<◌, List, ◌∷◌}

@@ -16,7 +16,8 @@ pub fn no_run_has_a_double_vote()
     ensures { NoRunHasADoubleVote }
 {}
 
-/// No run of a correct replica votes against the lock that an earlier vote took.
+/// No run of a correct replica votes against the lock that an earlier vote took, where no two different
+/// headers among those of the run and of the two votes have one id.
 pub fn no_run_has_a_lock_violation()
     ensures { NoRunHasALockViolation }
 {}

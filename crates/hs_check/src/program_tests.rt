@@ -1,5 +1,6 @@
 //! The whole program: both ways of input, and each of its faults.
 
+use crate::input::Texts;
 use crate::program::run;
 use fixtures::verdicts;
 use std::alloc::Global;
@@ -8,6 +9,17 @@ use std::test::Fail;
 use streams::MemorySink;
 
 const ACCEPTED: &str = "accepted replica 2 rule 1 view 7\n";
+
+// One verdict of each kind, and what is printed of it.
+fn accepted_verdicts() -> [(&'static str, &'static str); 2] {
+    [
+        (verdicts::double_vote(), ACCEPTED),
+        (
+            verdicts::lock_violation(),
+            "accepted replica 1 rule 2 view 4\n",
+        ),
+    ]
+}
 
 // What a run answers, prints and tells of faults.
 #[derive(Drop)]
@@ -48,31 +60,49 @@ fn two_files(rt: HostRuntime) -> Result<(), Fail> {
         "two/committee.hsc",
         hex::decode(alloc, verdicts::committee())?,
     )?;
-    fs::write(
-        &rt,
-        "two/verdict.hsx",
-        hex::decode(alloc, verdicts::double_vote())?,
-    )?;
-    let words = ["two/committee.hsc", "two/verdict.hsx"];
-    let ran = outcome_of(&rt, alloc, &words, b"", MemorySink::new(alloc))?;
-    assert_eq!(rt; ran.status, 0);
-    assert_eq!(rt; ran.out.bytes(), ACCEPTED.as_bytes());
-    assert_eq!(rt; ran.faults.bytes(), b"".as_slice());
+    for (verdict, line) in accepted_verdicts() {
+        fs::write(&rt, "two/verdict.hsx", hex::decode(alloc, verdict)?)?;
+        let words = ["two/committee.hsc", "two/verdict.hsx"];
+        let ran = outcome_of(&rt, alloc, &words, b"", MemorySink::new(alloc))?;
+        assert_eq!(rt; ran.status, 0);
+        assert_eq!(rt; ran.out.bytes(), line.as_bytes());
+        assert_eq!(rt; ran.faults.bytes(), b"".as_slice());
+    }
     fs::remove_dir_all(&rt, "two")?;
+    Ok(())
+}
+
+#[test]
+fn files_are_read_up_to_the_limit(rt: HostRuntime) -> Result<(), Fail> {
+    let alloc = rt.alloc();
+    let _ = fs::remove_dir_all(&rt, "limit");
+    fs::create_dir(&rt, "limit")?;
+    for (len, read) in [(16_384, 16_384), (16_385, 16_384)] {
+        let zeros = "0".repeat(alloc, len)?;
+        fs::write(&rt, "limit/long", zeros.as_bytes())?;
+        let texts = Texts::from_files(&rt, alloc, "limit/long", "limit/long")
+            .ok()
+            .ok_or("a fault")?;
+        assert_eq!(rt; texts.committee.len(), read);
+        assert_eq!(rt; texts.verdict.len(), read);
+    }
+    fs::remove_dir_all(&rt, "limit")?;
     Ok(())
 }
 
 #[test]
 fn two_lines_of_hex(rt: HostRuntime) -> Result<(), Fail> {
     let alloc = rt.alloc();
-    let (committee, verdict) = (verdicts::committee(), verdicts::double_vote());
-    let open = format!(in alloc; "{committee}\n{verdict}")?;
-    let ended = format!(in alloc; "{committee}\n{verdict}\n")?;
-    for lines in [open, ended] {
-        let ran = outcome_of(&rt, alloc, &[], lines.as_bytes(), MemorySink::new(alloc))?;
-        assert_eq!(rt; ran.status, 0);
-        assert_eq!(rt; ran.out.bytes(), ACCEPTED.as_bytes());
-        assert_eq!(rt; ran.faults.bytes(), b"".as_slice());
+    let committee = verdicts::committee();
+    for (verdict, line) in accepted_verdicts() {
+        let open = format!(in alloc; "{committee}\n{verdict}")?;
+        let ended = format!(in alloc; "{committee}\n{verdict}\n")?;
+        for lines in [open, ended] {
+            let ran = outcome_of(&rt, alloc, &[], lines.as_bytes(), MemorySink::new(alloc))?;
+            assert_eq!(rt; ran.status, 0);
+            assert_eq!(rt; ran.out.bytes(), line.as_bytes());
+            assert_eq!(rt; ran.faults.bytes(), b"".as_slice());
+        }
     }
     Ok(())
 }

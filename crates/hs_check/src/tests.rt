@@ -1,12 +1,11 @@
 //! The program's worked scenarios. Committee and verdicts are stored bytes of an independent program.
 
 use crate::judge::{ACCEPTED, REFUSED, run_check};
-use fixtures::verdicts;
+use fixtures::{certificates, core_blocks, verdicts};
 use std::alloc::Global;
 use std::process::Abort;
 use std::test::Fail;
 use streams::MemorySink;
-use verdict_checker::CommitteeView;
 
 const NONE: &[u8] = b"";
 
@@ -149,30 +148,43 @@ fn every_signature_byte_counts_of_the_later_vote(rt: HostRuntime) -> Result<(), 
     )
 }
 
-// The verdict with its votes in the other order, each with its own header, and with the header of
-// genesis, which the later block names as its parent.
-fn votes_swapped(committee: &[u8], verdict: &[u8], alloc: Global) -> Result<Vec<u8>, Fail> {
-    let view = CommitteeView::parse(committee).ok().ok_or("no committee")?;
-    let mut swapped = Vec::new(alloc);
-    for part in [
-        verdict.get(..39),
-        verdict.get(1531..3023),
-        verdict.get(39..1531),
-        verdict.get(3191..),
+// The part of a text between two places.
+fn part<'a>(text: &'a [u8], from: usize, until: usize) -> Result<&'a [u8], Fail> {
+    Ok(text.get(from..until).ok_or("too short")?)
+}
+
+// Two votes of replica 1 for blocks one after the other, put forward with the later one first: the vote for
+// A3, whose parent A2 stands on view 1, and then the vote for A1, which stands on genesis.
+fn history_backwards(alloc: Global) -> Result<Vec<u8>, Fail> {
+    let mut verdict = Vec::new(alloc);
+    verdict.extend_from_slice(b"HSX1")?;
+    let other = decoded(alloc, verdicts::double_vote())?;
+    verdict.extend_from_slice(part(&other, 4, 36)?)?;
+    verdict.extend_from_slice(&[0, 1, 2])?;
+    for certificate in [
+        core_blocks::certificate_of_a3(),
+        core_blocks::certificate_of_a1(),
     ] {
-        swapped.extend_from_slice(part.ok_or("too short")?)?;
+        let certificate = decoded(alloc, certificate)?;
+        // The view and the id, and behind the number of votes the first one, of replica 1.
+        verdict.extend_from_slice(part(&certificate, 0, 40)?)?;
+        verdict.extend_from_slice(part(&certificate, 44, 1496)?)?;
     }
-    swapped.extend_from_slice(&view.genesis().to_bytes())?;
-    swapped.extend_from_slice(verdict.get(3023..3107).ok_or("too short")?)?;
-    Ok(swapped)
+    for header in [
+        core_blocks::a3(),
+        certificates::header_a2(),
+        core_blocks::a1(),
+    ] {
+        verdict.extend_from_slice(&decoded(alloc, header)?)?;
+    }
+    Ok(verdict)
 }
 
 #[test]
-fn a_later_vote_first_is_no_offence(rt: HostRuntime) -> Result<(), Fail> {
-    let committee = decoded(rt.alloc(), verdicts::committee())?;
-    let verdict = decoded(rt.alloc(), verdicts::lock_violation())?;
-    let swapped = votes_swapped(&committee, &verdict, rt.alloc())?;
-    let (status, line) = judged(rt.alloc(), &swapped)?;
+fn a_history_backwards_is_no_offence(rt: HostRuntime) -> Result<(), Fail> {
+    let verdict = history_backwards(rt.alloc())?;
+    assert_eq!(rt; verdict.len(), 3275);
+    let (status, line) = judged(rt.alloc(), &verdict)?;
     assert_eq!(rt; status, REFUSED);
     assert_eq!(rt; line.as_slice(), b"refused 8 NoRuleBroken\n".as_slice());
     Ok(())

@@ -57,7 +57,8 @@ fn is_three_chain(first: &Header, middle: &Header, last: &Header) -> bool
 }
 
 impl Core {
-    /// A new replica's core: no vote, locked on genesis, which alone is held.
+    /// A new replica's core: no vote, locked on genesis, which alone is held. Genesis must have the view 0.
+    /// Answers an error where memory was refused.
     pub fn new(alloc: Global, genesis: Header) -> Result<Core, AllocError>
         requires { IsGenesis genesis }
         ensures genesis { IfOk result (λ c. c.genesis ≡ genesis) }
@@ -80,7 +81,8 @@ impl Core {
     /// of, and its lock is theirs. Of genesis and the headers of the entries, those are held that have a
     /// chain down to genesis among them; where two have one id, the one that stands first counts, genesis
     /// before all entries, and the block of an entry before its parent. Other headers are to be delivered
-    /// again.
+    /// again. Genesis must have the view 0, and there must be at most 4,096 entries. Answers an error where
+    /// memory was refused.
     pub fn restart(alloc: Global, genesis: Header, entries: &[Stored]) -> Result<Core, AllocError>
         requires genesis { IsGenesis genesis }
         requires few { length entries.now ≤ 4096 }
@@ -107,7 +109,7 @@ impl Core {
         &self.genesis
     }
 
-    /// The view of the last vote or timeout.
+    /// The greatest view of a vote, or of a timeout since the last restart.
     pub fn vote_view(&self) -> u64
         ensures { result ≡ self.now.state.vote_view }
     {
@@ -258,7 +260,7 @@ impl Core {
     }
 
     /// Plans what to do with a block, and makes room for it, so that `apply` cannot fail. A block that is
-    /// held already is planned anew. Nothing else changes, and nothing at all where the block is refused.
+    /// held already is planned anew. State and headers stay, whether the block is planned or refused.
     /// Refused in this order: UnknownParent, ParentView, TreeFull, SameId, Memory.
     pub fn admit(&mut self, block: &CheckedBlock) -> Result<Plan, CoreRefusal>
         // Vote exactly where the replica may vote, else Raise exactly where it may raise its lock, else

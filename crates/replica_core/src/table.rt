@@ -81,7 +81,7 @@ impl HeaderTable {
         }
     }
 
-    /// Makes room for one more header. Where memory is refused the table is as before.
+    /// Makes room for one more header. The headers stay, also where memory is refused.
     pub fn reserve(&mut self) -> Result<(), AllocError>
         ensures same { self.new.headers ≡ self.old.headers }
         ensures ok { OnOk result (0 < self.new.room) }
@@ -104,8 +104,7 @@ impl HeaderTable {
         self.headers.push_reserved(*header.header());
     }
 
-    /// Puts a header at the end, unless one of its id is there. Where memory is refused the table is as
-    /// before.
+    /// Puts a header at the end, unless one of its id is there.
     pub fn add_first(&mut self, header: &NamedHeader) -> Result<(), AllocError>
         ensures ok { OnOk result (AddsFirst self.old.headers self.new.headers header.now) }
         ensures apart { OnOk result (NoCollision self.new.headers) }

@@ -132,10 +132,10 @@ pub fn check(committee: &CommitteeView, bytes: &[u8]) -> Result<Finding, Refusal
     ensures exact { IsOk result ↔ IsProof committee.now bytes.now }
     ensures finding { IfOk result (IsFindingOf bytes.now) }
     ensures first_refusal { IfErr result (IsRefused committee.now bytes.now) }
-    // No honest replica is accused, where no two different headers among those of its run and of the
-    // verdict have one id.
+    // No run of a correct replica has both votes, where no two different headers among those of the run and
+    // of the verdict have one id.
     ensures sound { OnOk result (NoRunApartHasBothVotes committee.now bytes.now) }
-    // A double vote accuses none, whatever ids there are.
+    // For a double vote there is no premise on ids.
     ensures sound_of_double_votes { OnOk result (kind_in bytes.now ≡ 1 → NoRunHasBothVotes committee.now bytes.now) }
 {
     no_run_has_a_double_vote();

@@ -1,0 +1,4 @@
+pub mod Lists
+pub mod VoteOrder
+pub mod HeaderOrder
+pub mod Gatherings

@@ -1,0 +1,6 @@
+pub mod EntryParts
+pub mod EntryLaws
+pub mod LogLaws
+pub mod StepFaults
+pub mod LogKeeps
+pub mod LogAppends
