@@ -47,7 +47,7 @@ same_place hs i j d rising in_i in_j same =
       ]
     ]
 
-apart_in : (hs : List Header) → AllPairs HasLowerId hs → NoCollision hs
+pub apart_in : (hs : List Header) → AllPairs HasLowerId hs → NoCollision hs
 apart_in hs rising h k (i, in_i, at_i) (j, in_j, at_j) same =
     let second : get_or hs j h ≡ k = get_or_default hs j h k in_j ∙ at_j in
     let place : i ≡ j =

@@ -30,8 +30,9 @@ impl Model for Ancestry {
     ghost invariant = { λ a. IsKnown (record { genesis = a.genesis; headers = a.headers.items }) };
 }
 
-// The header of this id, among headers whose ids rise.
-fn header_of(headers: &[NamedHeader], id: &Id) -> Option<NamedHeader>
+/// The header of this id, among headers whose ids rise strictly, byte by byte from the first; None where none
+/// of them has it. A binary search.
+pub fn header_of(headers: &[NamedHeader], id: &Id) -> Option<NamedHeader>
     requires { AllPairs HasLowerId headers.now }
     ensures { MatchOption result (All (λ h. header_id h ≢ id.now) headers.now)
         (λ h. Contains headers.now h × (header_id h ≡ id.now)) }

@@ -5,7 +5,7 @@
 mod ancestry;
 mod laws;
 
-pub use ancestry::Ancestry;
+pub use ancestry::{Ancestry, header_of};
 pub use laws::{
     an_id_names_one_header, chains_end_in_genesis, genesis_may_stand_among_the_headers,
 };

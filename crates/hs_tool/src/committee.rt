@@ -1,12 +1,12 @@
 //! `hs_tool committee F OUT KEY..`: a committee's file from its replicas' key files.
 
 use crate::fault::{Fault, Place};
+use crate::files::read_at_most;
 use blocks::{CommitteeView, write_committee};
 use lms_tree::PUBLIC_KEY_LEN;
 use std::alloc::Global;
 use std::fs;
 use std::fs::{File, Files};
-use std::io::Read;
 use streams::{Sink, write_all};
 use wire::array_at;
 
@@ -48,14 +48,7 @@ fn read_key<'a, F: Files<File = File>>(
     alloc: Global,
     path: &'a str,
 ) -> Result<[u8; PUBLIC_KEY_LEN], Fault<'a>> {
-    let mut bytes = Vec::new(alloc);
-    let file = match File::open(rt, path) {
-        Ok(file) => file,
-        Err(error) => return Err(Fault::unless_memory(&error, Fault::File(Place::Path(path)))),
-    };
-    if let Err(error) = file.take(PUBLIC_KEY_LEN as u64 + 1).read_to_end(&mut bytes) {
-        return Err(Fault::unless_memory(&error, Fault::File(Place::Path(path))));
-    }
+    let bytes = read_at_most(rt, alloc, path, PUBLIC_KEY_LEN as u64 + 1)?;
     if bytes.len() != PUBLIC_KEY_LEN {
         return Err(Fault::File(Place::Path(path)));
     }

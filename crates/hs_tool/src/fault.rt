@@ -21,15 +21,20 @@ pub enum Fault<'a> {
     File(Place<'a>),
     #[error("fault committee {0}")]
     Committee(CommitteeRefusal),
+    #[error("fault source {0}")]
+    Source(usize),
+    #[error("fault collision")]
+    Collision,
     #[error("fault output")]
     Output,
 }
 
-/// The path of a file: as a word gave it, or a file of a folder that a word gave.
+/// The path of a file: as a word gave it, a file of a folder that a word gave, or the verdict on a replica there.
 #[derive(Clone, Copy, Debug)]
 pub enum Place<'a> {
     Path(&'a str),
     In { folder: &'a str, name: &'a str },
+    Verdict { folder: &'a str, replica: u16 },
 }
 
 impl Display for Place<'_> {
@@ -37,6 +42,7 @@ impl Display for Place<'_> {
         match self {
             Place::Path(path) => write!(f, "{path}"),
             Place::In { folder, name } => write!(f, "{folder}/{name}"),
+            Place::Verdict { folder, replica } => write!(f, "{folder}/verdict-{replica}.hsx"),
         }
     }
 }

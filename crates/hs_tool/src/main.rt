@@ -1,10 +1,14 @@
 //! The operator's tool: `hs_tool COMMAND ..`. docs/hs_tool.md is its manual page.
 #![tactic(auto)]
 
+mod audit;
+#[cfg(test)]
+mod audit_tests;
 mod committee;
 #[cfg(test)]
 mod committee_tests;
 mod fault;
+mod files;
 mod folder;
 mod keygen;
 #[cfg(test)]

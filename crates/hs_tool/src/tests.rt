@@ -55,7 +55,7 @@ fn usage_lines(rt: HostRuntime) -> Result<(), Fail> {
     assert_eq!(rt; done.status, 0);
     assert_eq!(rt;
         done.out.bytes(),
-        b"hs_tool keygen SEED DIR\nhs_tool committee F OUT KEY..\n".as_slice()
+        b"hs_tool keygen SEED DIR\nhs_tool committee F OUT KEY..\nhs_tool audit COMMITTEE OUTDIR SOURCE..\n".as_slice()
     );
     assert_eq!(rt; done.faults.bytes(), b"".as_slice());
     Ok(())

@@ -21,6 +21,12 @@ pub enum Command<'a> {
         out: &'a str,
         keys: Vec<&'a str>,
     },
+    /// `audit COMMITTEE OUTDIR SOURCE..`
+    Audit {
+        committee: &'a str,
+        folder: &'a str,
+        sources: Vec<&'a str>,
+    },
 }
 
 /// Reads the words, without the program's name. Refused as usage where they are not written as
@@ -39,6 +45,7 @@ pub fn read_words<'a>(alloc: Global, words: &'a [String]) -> Result<Command<'a>,
     match matches.subcommand() {
         Some(("keygen", given)) => keygen(given),
         Some(("committee", given)) => committee(alloc, given),
+        Some(("audit", given)) => audit(alloc, given),
         _ => Err(Fault::Usage),
     }
 }
@@ -56,11 +63,20 @@ fn parsed<'a>(alloc: Global, words: &'a [String]) -> Result<ArgMatches<'a>, Erro
                 .num_args(1..)
                 .action(ArgAction::Append),
         )?;
+    let audit = Grammar::new(alloc, "audit")
+        .arg(Arg::new(alloc, "COMMITTEE").required(true))?
+        .arg(Arg::new(alloc, "OUTDIR").required(true))?
+        .arg(
+            Arg::new(alloc, "SOURCE")
+                .num_args(0..)
+                .action(ArgAction::Append),
+        )?;
     Grammar::new(alloc, "hs_tool")
         .no_binary_name(true)
         .subcommand_required(true)
         .subcommand(keygen)?
         .subcommand(committee)?
+        .subcommand(audit)?
         .try_get_matches_from(words)
 }
 
@@ -90,6 +106,23 @@ fn committee<'a>(alloc: Global, given: &ArgMatches<'a>) -> Result<Command<'a>, F
         f,
         out,
         keys: keys.to_vec(alloc)?,
+    })
+}
+
+// None or more sources. What each says is not judged here.
+fn audit<'a>(alloc: Global, given: &ArgMatches<'a>) -> Result<Command<'a>, Fault<'a>> {
+    let (Some(committee), Some(folder)) = (given.get_str("COMMITTEE"), given.get_str("OUTDIR"))
+    else {
+        return Err(Fault::Usage);
+    };
+    let sources = match given.get_strs("SOURCE") {
+        Some(sources) => sources.to_vec(alloc)?,
+        None => Vec::new(alloc),
+    };
+    Ok(Command::Audit {
+        committee,
+        folder,
+        sources,
     })
 }
 

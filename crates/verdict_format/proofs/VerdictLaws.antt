@@ -266,3 +266,9 @@ verdict_again text v is =
       (omega arith, (head.magic, (kind, (right, tt)))),
       same_of v _ _ _ _ _ head.chain head.replica (same_vote v.earlier _ _ _ first.view first.id first.signature) (same_vote v.later _ _ _ second.view second.id second.signature) end.headers,
     )
+
+-- the rule that a written verdict names
+pub kind_again : (bytes : List ℕ) (v : VerdictParts) → IsVerdictOf bytes v → kind_in bytes ≡ kind_of v.headers
+unfolding verdict_text
+kind_again text v is =
+    (reads_head text v (bound_text v.earlier ++ (bound_text v.later ++ headers_text v.headers)) is.parts.chain is.parts.replica is.text).kind

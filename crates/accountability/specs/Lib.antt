@@ -1,0 +1,4 @@
+pub mod Committees
+pub mod Commits
+pub mod Culprits
+pub mod AccountabilityLaws

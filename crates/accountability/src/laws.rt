@@ -1,0 +1,20 @@
+//! Laws on what evidence proves.
+
+ghost use Rattle.accountability.specs.AccountabilityLaws.{AConflictAccusesMoreThanAThird, AConflictNamesMoreThanF, ACulpritHasOneNamedPair, EvidenceNamesEachHeaderOnce};
+
+/// Where two proved commits conflict, the culprits have more than a third of the weight: of a committee of 3f + 1
+/// replicas that count the same they are at least f + 1.
+pub fn a_conflict_names_more_than_f()
+    ensures by_weight { AConflictAccusesMoreThanAThird }
+    ensures by_number { AConflictNamesMoreThanF }
+{}
+
+/// No two different headers in evidence have one id.
+pub fn evidence_names_each_header_once()
+    ensures { EvidenceNamesEachHeaderOnce }
+{}
+
+/// Evidence names at most one pair of votes of a replica.
+pub fn a_culprit_has_one_named_pair()
+    ensures { ACulpritHasOneNamedPair }
+{}

@@ -1,0 +1,8 @@
+//! What evidence proves: commits, conflicts and culprits, and that a conflict names more than f. No handle.
+#![tactic(auto)]
+
+mod laws;
+
+pub use laws::{
+    a_conflict_names_more_than_f, a_culprit_has_one_named_pair, evidence_names_each_header_once,
+};

@@ -1,0 +1,4 @@
+pub mod Choices
+pub mod Orders
+pub mod CommitFacts
+pub mod ConflictFacts

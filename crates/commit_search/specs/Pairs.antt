@@ -1,0 +1,40 @@
+-- Pairs of blocks of a list that conflict.
+use Rattle.std.specs.Prelude.{List}
+use Rattle.std.specs.List.{AllPairs, Contains}
+use Rattle.blocks.specs.Headers.{Header}
+use Rattle.blocks.specs.Chains.{Conflict, IsAncestor, IsLinked}
+use Rattle.ancestry.specs.Known.{Known, all_of}
+use Rattle.accountability.specs.Commits.{IsLowerBlock, IsAtMost}
+
+-- two known blocks conflict
+abbrev pub DoConflict : Known → Header → Header → Type 0
+DoConflict known a b = Conflict (all_of known) known.genesis a b
+
+-- .. or do not
+abbrev pub Agree : Known → Header → Header → Type 0
+Agree known a b = DoConflict known a b → ⊥
+
+-- a and b have chains, and a does not stand in that of b
+pub record IsNoAncestor (known : Known) (a b : Header) : Type 0 where
+  pub first_linked : IsLinked (all_of known) known.genesis a
+  pub second_linked : IsLinked (all_of known) known.genesis b
+  pub not_above : IsAncestor (all_of known) known.genesis a b → ⊥
+
+-- b is the least of these blocks that conflicts with a
+pub record IsLeastAgainst (known : Known) (a : Header) (blocks : List Header) (b : Header) : Type 0 where
+  pub there : Contains blocks b
+  pub conflict : DoConflict known a b
+  pub least : (y : Header) → Contains blocks y → DoConflict known a y → IsAtMost b y
+
+-- two of these blocks conflict, the lower one first
+pub record AreConflictingIn (known : Known) (blocks : List Header) (a b : Header) : Type 0 where
+  pub first : Contains blocks a
+  pub second : Contains blocks b
+  pub in_order : IsLowerBlock a b
+  pub conflict : DoConflict known a b
+
+-- .. and no others with a lower first, or with this one as the first and a lower second
+pub record AreFirstIn (known : Known) (blocks : List Header) (a b : Header) : Type 0 where
+  pub conflicting : AreConflictingIn known blocks a b
+  pub least_first : (x y : Header) → AreConflictingIn known blocks x y → IsAtMost a x
+  pub least_second : (y : Header) → AreConflictingIn known blocks a y → IsAtMost b y

@@ -1,0 +1,23 @@
+-- Commits among certified headers that are known.
+use Rattle.std.specs.Prelude.{◌≡◌, ◌≢◌, ◌+◌, List}
+use Rattle.std.specs.List.{Any}
+use Rattle.blocks.specs.Headers.{Header, NamesParent, header_id}
+use Rattle.ancestry.specs.Known.{Known, IsLinkedId}
+
+-- h is on b, and in the view after
+abbrev pub IsNext : Header → Header → Type 0
+IsNext b h = NamesParent h b × (h.view ≡ b.view + 1)
+
+-- one of these is
+unfoldable pub HasNext : List Header → Header → Type 0
+HasNext hs b = Any (IsNext b) hs
+
+-- one of these is, and another is on that one
+unfoldable pub HasTwoNext : List Header → Header → Type 0
+HasTwoNext hs b = Any (λ h. IsNext b h × HasNext hs h) hs
+
+-- b is not genesis, has a chain, and two blocks in the views after its own
+pub record IsCommitAmong (known : Known) (b : Header) : Type 0 where
+  pub no_genesis : b ≢ known.genesis
+  pub linked : IsLinkedId known (header_id b)
+  pub next : HasTwoNext known.headers b

@@ -1,0 +1,62 @@
+//! Certified blocks.
+
+ghost use Rattle.std.specs.Prelude.{◌≡◌, ◌≤◌, ◌↔◌, IfOk, IsTrue};
+ghost use Rattle.blocks.specs.Headers.{header_id};
+ghost use Rattle.accountability.specs.Committees.{committee_of, counts_once, weight_of};
+ghost use Rattle.accountability.specs.Commits.{IsCertified, has_vote, is_vote_on};
+ghost use Rattle.commit_search.specs.Chosen.{AreThose};
+
+use blocks::NamedHeader;
+use certificates::SignedVote;
+use parallel_verify::Evidence;
+use std::alloc::{AllocError, Global};
+
+// Whether the vote is this replica's, on this block.
+fn is_vote_on(vote: &SignedVote, b: &NamedHeader, replica: u16) -> bool
+    ensures { result ≡ is_vote_on b.now.view (header_id b.now) replica vote.now }
+{
+    vote.replica == replica && (vote.view == b.header().view && vote.id == *b.id())
+}
+
+// Whether the replica has a vote on this block.
+fn has_vote(votes: &[SignedVote], b: &NamedHeader, replica: u16) -> bool
+    ensures { result ≡ has_vote votes.now b.now.view (header_id b.now) replica }
+{
+    votes.iter().any(|vote| is_vote_on(vote, b, replica))
+}
+
+// How many of the replicas below n have a vote on this block.
+fn count_voters(votes: &[SignedVote], b: &NamedHeader, n: u16) -> u16
+    ensures { result ≡ weight_of counts_once (has_vote votes.now b.now.view (header_id b.now)) n }
+{
+    let mut count = 0;
+    for replica in 0..n {
+        if has_vote(votes, b, replica) {
+            count += 1;
+        }
+    }
+    count
+}
+
+/// Whether the replicas that voted for the block are a quorum.
+#[tactic(auto, unfolding(accountability::specs::Commits::IsCertified))]
+pub fn is_certified(evidence: &Evidence, b: &NamedHeader) -> bool
+    ensures { IsTrue result ↔ IsCertified (committee_of evidence.now.committee) evidence.now b.now }
+{
+    let committee = evidence.committee();
+    let voters = count_voters(evidence.votes(), b, committee.n());
+    2 * committee.f() + 1 <= voters
+}
+
+/// The certified headers of the evidence by rising id. Memory is refused where they could not be copied.
+pub fn certified_headers(alloc: Global, evidence: &Evidence) -> Result<Vec<NamedHeader>, AllocError>
+    ensures { IfOk result (λ chosen. AreThose (IsCertified (committee_of evidence.now.committee) evidence.now) evidence.now.headers chosen.items) }
+{
+    let mut chosen = Vec::new(alloc);
+    for header in evidence.headers() {
+        if is_certified(evidence, header) {
+            chosen.push(*header)?;
+        }
+    }
+    Ok(chosen)
+}

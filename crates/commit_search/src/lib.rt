@@ -1,0 +1,12 @@
+//! The commits that evidence proves, and the first two of them that conflict. No handle.
+#![tactic(auto)]
+
+mod certified;
+mod commits;
+mod conflicts;
+mod same;
+#[cfg(test)]
+mod tests;
+
+pub use commits::proved_commits;
+pub use conflicts::{ConflictingCommits, first_conflict};

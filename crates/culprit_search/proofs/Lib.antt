@@ -1,0 +1,2 @@
+pub mod LinesMore
+pub mod Named

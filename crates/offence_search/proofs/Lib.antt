@@ -1,0 +1,5 @@
+pub mod Breaches
+pub mod VotesInOrder
+pub mod VotePairs
+pub mod Written
+pub mod Named

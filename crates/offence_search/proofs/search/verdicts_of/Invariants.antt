@@ -1,0 +1,5 @@
+use Rattle.offence_search.specs.Searches.{AreVerdictsBelow}
+use Rattle.offence_search.proofs.search.verdicts_of.Given as goal
+
+abbrev pub invariant-loop-replica : goal.invariant-loop-replica
+invariant-loop-replica l = AreVerdictsBelow l.evidence l.replica l.verdicts.items

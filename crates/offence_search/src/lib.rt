@@ -1,0 +1,12 @@
+//! The culprits that evidence accuses, and a verdict on each. No handle.
+#![tactic(auto)]
+
+mod breach;
+mod pairs;
+mod search;
+#[cfg(test)]
+mod tests;
+mod verdict;
+
+pub use search::verdicts_of;
+pub use verdict::Verdict;
