@@ -1,6 +1,6 @@
 -- Two proved commits that conflict accuse whoever certified blocks on both sides.
 use Rattle.std.proofs.Common.{◌≡◌, ◌≢◌, ℕ, ◌<◌, ◌≤◌, ◌+◌, ◌*◌, List, [], ◌∷◌, Bool, true, ◌&&◌, Some, None, nat_eq, refl, sym, ◌∙◌, ap, subst, inl, inr, arith}
-use Rattle.std.specs.List.{Contains, sum_by}
+use Rattle.std.specs.List.{Contains}
 use Rattle.std.specs.Str.{bytes_eq}
 use Rattle.std.proofs.lemmas.Bool.{and_parts, eqb-true, cases_lt, cases_order}
 use Rattle.std.proofs.lemmas.Slice.Eq.{bytes_eq-Decides}
@@ -11,11 +11,11 @@ use Rattle.blocks.proofs.Members.{Contains-first, Contains-later, Contains-from_
 use Rattle.certificates.specs.declared.vote.SignedVote.{SignedVote}
 use Rattle.parallel_verify.specs.Evidence.{Evidence}
 use Rattle.ancestry.proofs.Ids.{apart_in}
-use Rattle.accountability.specs.Committees.{Committee, total_weight, committee_of}
+use Rattle.accountability.specs.Committees.{Committee, total_weight, weight_of, is_among, counts_once, committee_of}
 use Rattle.accountability.specs.Commits.{is_vote_on, has_vote, IsCertified, IsProvedCommit}
 use Rattle.accountability.specs.Culprits.{IsCulprit}
 use Rattle.accountability.specs.AccountabilityLaws.{AConflictAccusesMoreThanAThird, AConflictNamesMoreThanF, EvidenceNamesEachHeaderOnce}
-use Rattle.accountability.proofs.Weights.{weight_both, weight_within, list_any-Has, weight_ones, sum_ones}
+use Rattle.accountability.proofs.Weights.{weight_both, weight_within, weight_listed, list_any-Has, weight_ones, sum_ones}
 
 -- ---- votes on a block
 
@@ -50,7 +50,7 @@ record Audit (c : Committee) (e : Evidence) (named : List ℕ) : Type 0 where
   names_all : (r : ℕ) → IsCulprit e r → Contains named r
 
 abbrev Accused : Committee → List ℕ → Type 0
-Accused c named = total_weight c < 3 * sum_by c.weight named
+Accused c named = total_weight c < 3 * weight_of c.weight (is_among named) c.size
 
 -- two quorums share more than a third
 shared : (c : Committee) (e : Evidence) (named : List ℕ) (x y : Header) → Audit c e named → IsCertified c e x → IsCertified c e y → ((r : ℕ) → VoteOn e x r → VoteOn e y r → IsCulprit e r) → Accused c named
@@ -213,5 +213,6 @@ more_than_f e a b named committee is ma mb conflict all =
     let size = (size_of bytes committee).n in
     let t = weight_ones (committee_of bytes).size in
     let s = sum_ones named in
+    let m = weight_listed counts_once named (committee_of bytes).size in
     let k = accused (committee_of bytes) e a b named (record { view = refl; parent_view = refl }) (omega arith) (named_once e is) ma mb conflict all in
     omega arith

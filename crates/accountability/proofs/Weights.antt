@@ -4,7 +4,7 @@ use Rattle.std.specs.List.{list_any, sum_by}
 use Rattle.std.proofs.lemmas.Bool.{or_cases, eq-eqb, ne_eqb, cases_eq, false≢true}
 use Rattle.std.proofs.lemmas.List.Sums.{sum_by-cons}
 use Rattle.blocks.proofs.Members.{Has}
-use Rattle.accountability.specs.Committees.{weight_of, is_any, counts_once}
+use Rattle.accountability.specs.Committees.{weight_of, is_any, is_among, counts_once}
 
 both_at : (a b : Bool) (w : ℕ) → cond a w 0 + cond b w 0 ≤ w + cond (a && b) w 0
 both_at true true w = omega arith
@@ -66,7 +66,7 @@ weight_one w x (suc n) =
     ]
 
 -- a set of listed replicas weighs no more than the list
-weight_listed : (w : ℕ → ℕ) (xs : List ℕ) (n : ℕ) → weight_of w (λ r. list_any (nat_eq r) xs) n ≤ sum_by w xs
+pub weight_listed : (w : ℕ → ℕ) (xs : List ℕ) (n : ℕ) → weight_of w (is_among xs) n ≤ sum_by w xs
 weight_listed w [] n = let k = weight_none w n in omega arith
 weight_listed w (x ∷ xs) n =
     let k = weight_listed w xs n in
@@ -83,11 +83,8 @@ listed (x ∷ xs) r h =
       | inr m ↦ elim (nat_eq r x) as (λ b. (b || list_any (nat_eq r) xs) ≡ true) [ true ↦ refl | false ↦ listed xs r m ]
     ]
 
-pub weight_within : (w : ℕ → ℕ) (p : ℕ → Bool) (xs : List ℕ) (n : ℕ) → ((r : ℕ) → r < n → p r ≡ true → Has xs r) → weight_of w p n ≤ sum_by w xs
-weight_within w p xs n h =
-    let k = weight_more w p (λ r. list_any (nat_eq r) xs) n (λ r l e. listed xs r (h r l e)) in
-    let b = weight_listed w xs n in
-    omega arith
+pub weight_within : (w : ℕ → ℕ) (p : ℕ → Bool) (xs : List ℕ) (n : ℕ) → ((r : ℕ) → r < n → p r ≡ true → Has xs r) → weight_of w p n ≤ weight_of w (is_among xs) n
+weight_within w p xs n h = weight_more w p (λ r. list_any (nat_eq r) xs) n (λ r l e. listed xs r (h r l e))
 
 -- an element that passes
 pub list_any-Has : {X : Type 0} (p : X → Bool) (xs : List X) → list_any p xs ≡ true → (x : X) × Has xs x × (p x ≡ true)

@@ -1,6 +1,7 @@
 -- Whose votes count, and how many make a quorum. Each replica has a weight, so that what is said here holds
 -- of committees whose replicas do not all count the same.
-use Rattle.std.specs.Prelude.{ℕ, zero, suc, ◌+◌, ◌*◌, List, Bool, true, cond}
+use Rattle.std.specs.Prelude.{ℕ, zero, suc, ◌+◌, ◌*◌, List, Bool, true, cond, nat_eq}
+use Rattle.std.specs.List.{list_any}
 use Rattle.blocks.specs.Headers.{Header}
 use Rattle.blocks.specs.Committees.{f_of, n_of}
 use Rattle.blocks.specs.Genesis.{genesis_of}
@@ -20,6 +21,10 @@ weight_of weight test (suc n) = weight_of weight test n + cond (test n) (weight 
 -- every replica passes
 abbrev pub is_any : ℕ → Bool
 is_any r = true
+
+-- the replica is one of these
+abbrev pub is_among : List ℕ → ℕ → Bool
+is_among rs r = list_any (nat_eq r) rs
 
 -- the weight of all replicas
 abbrev pub total_weight : Committee → ℕ

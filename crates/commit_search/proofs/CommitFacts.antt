@@ -1,5 +1,5 @@
 -- Commits among certified headers are those that evidence proves.
-use Rattle.std.proofs.Common.{◌≡◌, ◌≢◌, ◌↔◌, Bool, true, false, inl, inr, ℕ, ◌+◌, ◌<◌, List, length, get_or, ◌∷◌, refl, sym, ◌∙◌, ap, subst, arith}
+use Rattle.std.proofs.Common.{◌≡◌, ◌≢◌, ◌↔◌, Bool, true, false, inl, inr, ℕ, ◌+◌, ◌<◌, List, ◌∷◌, refl, sym, ◌∙◌, ap, subst, arith}
 use Rattle.std.specs.Prelude.{IsTrue, nat_eq}
 use Rattle.std.specs.List.{AllPairs, Contains}
 use lib.Pointwise.{pointwise}

@@ -1,5 +1,5 @@
 -- Pairs of blocks that conflict, found one after the other.
-use Rattle.std.proofs.Common.{◌≡◌, ◌⊎◌, ◌↔◌, Bool, true, false, not, inl, inr, ℕ, suc, ◌+◌, ◌<◌, List, [], ◌∷◌, ◌-◌, ◌≤◌, length, get_or, take, drop, Option, Some, None, refl, sym, ◌∙◌, ap, subst, arith}
+use Rattle.std.proofs.Common.{◌≡◌, ◌↔◌, Bool, true, false, not, inl, inr, ℕ, suc, ◌<◌, List, [], ◌∷◌, ◌-◌, ◌≤◌, length, get_or, take, drop, Option, Some, None, refl, sym, ◌∙◌, ap, subst, arith}
 use Rattle.std.specs.Prelude.{IsTrue, MatchOption}
 use Rattle.std.specs.List.{All, AllPairs, Contains}
 use Rattle.std.proofs.lemmas.Bool.{cases_lt, false≢true}
@@ -14,7 +14,7 @@ use Rattle.ancestry.specs.Known.{Known, IsKnown, all_of, IsLinkedId, IsAncestorI
 use Rattle.ancestry.proofs.Walks.{ancestor_is, chain_with, head_or_later, linked_is}
 use Rattle.parallel_verify.specs.Evidence.{Evidence, IsEvidence}
 use Rattle.accountability.specs.Committees.{committee_of}
-use Rattle.accountability.specs.Commits.{AreConflicting, AreFirstConflict, AreProvedCommits, HasNoConflict, IsAtMost, IsLowerBlock, IsProvedCommit}
+use Rattle.accountability.specs.Commits.{AreConflicting, AreFirstConflict, AreProvedCommits, HasNoConflict, IsAtMost, IsLowerBlock}
 use Rattle.commit_search.specs.declared.conflicts.ConflictingCommits.{ConflictingCommits}
 use Rattle.commit_search.specs.Pairs.{Agree, AreConflictingIn, AreFirstIn, DoConflict, IsLeastAgainst, IsNoAncestor}
 use Rattle.commit_search.proofs.CommitFacts.{with_genesis}
@@ -208,8 +208,12 @@ first_pair_is e commits a b is are f = record {
 pub commits_indexed : (e : Evidence) (commits : List Header) (known : Known) → known ≡ with_genesis e e.headers → AreProvedCommits (committee_of e.committee) e commits → All (Contains (all_of known)) commits
 commits_indexed e commits known same are = subst (λ (k : Known). All (Contains (all_of k)) commits) (sym same) (commits_known e commits are)
 
+pub none_is : (e : Evidence) (commits : List Header) (known : Known) → IsEvidence e → known ≡ with_genesis e e.headers → AreProvedCommits (committee_of e.committee) e commits → AllPairs (Agree known) commits
+    → HasNoConflict (committee_of e.committee) e
+none_is e commits known is same are none = no_conflict e commits is are (subst (λ (k : Known). AllPairs (Agree k) commits) same none)
+
 pub found_is : (e : Evidence) (commits : List Header) (known : Known) (o : Option ConflictingCommits) → IsEvidence e → known ≡ with_genesis e e.headers → AreProvedCommits (committee_of e.committee) e commits
     → MatchOption o (AllPairs (Agree known) commits) (λ pair. AreFirstIn known commits pair.first pair.second)
     → MatchOption o (HasNoConflict (committee_of e.committee) e) (λ pair. AreFirstConflict (committee_of e.committee) e pair.first pair.second)
-found_is e commits known None is same are none = no_conflict e commits is are (subst (λ (k : Known). AllPairs (Agree k) commits) same none)
+found_is e commits known None is same are none = none_is e commits known is same are none
 found_is e commits known (Some pair) is same are found = first_pair_is e commits pair.first pair.second is are (subst (λ (k : Known). AreFirstIn k commits pair.first pair.second) same found)

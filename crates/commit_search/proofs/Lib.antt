@@ -2,3 +2,5 @@ pub mod Choices
 pub mod Orders
 pub mod CommitFacts
 pub mod ConflictFacts
+pub mod OneChain
+pub mod Ballots

@@ -20,6 +20,10 @@ pub record IsNoAncestor (known : Known) (a b : Header) : Type 0 where
   pub second_linked : IsLinked (all_of known) known.genesis b
   pub not_above : IsAncestor (all_of known) known.genesis a b → ⊥
 
+-- each of these blocks is an ancestor of all that follow
+abbrev pub StandInOneChain : Known → List Header → Type 0
+StandInOneChain known blocks = AllPairs (IsAncestor (all_of known) known.genesis) blocks
+
 -- b is the least of these blocks that conflicts with a
 pub record IsLeastAgainst (known : Known) (a : Header) (blocks : List Header) (b : Header) : Type 0 where
   pub there : Contains blocks b

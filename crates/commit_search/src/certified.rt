@@ -1,9 +1,11 @@
 //! Certified blocks.
 
 ghost use Rattle.std.specs.Prelude.{◌≡◌, ◌≤◌, ◌↔◌, IfOk, IsTrue};
+ghost use Rattle.std.specs.List.{AllPairs};
 ghost use Rattle.blocks.specs.Headers.{header_id};
+ghost use Rattle.parallel_verify.specs.Votes.{IsLowerVote};
 ghost use Rattle.accountability.specs.Committees.{committee_of, counts_once, weight_of};
-ghost use Rattle.accountability.specs.Commits.{IsCertified, has_vote, is_vote_on};
+ghost use Rattle.accountability.specs.Commits.{IsCertified, has_vote};
 ghost use Rattle.commit_search.specs.Chosen.{AreThose};
 
 use blocks::NamedHeader;
@@ -11,22 +13,21 @@ use certificates::SignedVote;
 use parallel_verify::Evidence;
 use std::alloc::{AllocError, Global};
 
-// Whether the vote is this replica's, on this block.
-fn is_vote_on(vote: &SignedVote, b: &NamedHeader, replica: u16) -> bool
-    ensures { result ≡ is_vote_on b.now.view (header_id b.now) replica vote.now }
-{
-    vote.replica == replica && (vote.view == b.header().view && vote.id == *b.id())
-}
-
-// Whether the replica has a vote on this block.
+// Whether the replica has a vote on this block. Votes rise, so a binary search finds one.
 fn has_vote(votes: &[SignedVote], b: &NamedHeader, replica: u16) -> bool
+    requires { AllPairs IsLowerVote votes.now }
     ensures { result ≡ has_vote votes.now b.now.view (header_id b.now) replica }
 {
-    votes.iter().any(|vote| is_vote_on(vote, b, replica))
+    votes
+        .binary_search_by_key(&(replica, b.header().view, *b.id()), |vote| {
+            (vote.replica, vote.view, vote.id)
+        })
+        .is_ok()
 }
 
 // How many of the replicas below n have a vote on this block.
 fn count_voters(votes: &[SignedVote], b: &NamedHeader, n: u16) -> u16
+    requires { AllPairs IsLowerVote votes.now }
     ensures { result ≡ weight_of counts_once (has_vote votes.now b.now.view (header_id b.now)) n }
 {
     let mut count = 0;

@@ -27,7 +27,7 @@ fn is_next(b: &NamedHeader, h: &NamedHeader) -> bool
         && upper.view - lower.view == 1
 }
 
-// Whether one of these is.
+// Whether one of these blocks is on b, in the view after.
 #[tactic(auto, unfolding(crate::specs::Successors::HasNext))]
 fn has_next(certified: &[NamedHeader], b: &NamedHeader) -> bool
     ensures { IsTrue result ↔ HasNext certified.now b.now }
@@ -35,7 +35,7 @@ fn has_next(certified: &[NamedHeader], b: &NamedHeader) -> bool
     certified.iter().any(|h| is_next(b, h))
 }
 
-// Whether one of these is, and another is on that one.
+// Whether one of these blocks is next after b, and another is next after that one.
 #[tactic(auto, unfolding(crate::specs::Successors::HasTwoNext))]
 fn has_two_next(certified: &[NamedHeader], b: &NamedHeader) -> bool
     ensures { IsTrue result ↔ HasTwoNext certified.now b.now }
@@ -58,7 +58,7 @@ fn is_commit_among(
     !are_same(b, genesis) && chains.linked(b.id()) && has_two_next(certified, b)
 }
 
-// Those of the list that are, by rising id.
+// The blocks of the list that blocks of the list commit, by rising id.
 fn commits_among(
     alloc: Global,
     chains: &Ancestry,

@@ -4,8 +4,9 @@ ghost use Rattle.std.specs.Prelude.{◌≡◌, ◌↔◌, IfOk, IsTrue, MatchOpt
 ghost use Rattle.std.specs.List.{All, AllPairs, Contains};
 ghost use Rattle.accountability.specs.Committees.{committee_of};
 ghost use Rattle.accountability.specs.Commits.{AreProvedCommits, AreFirstConflict, HasNoConflict, IsLowerBlock};
+ghost use Rattle.blocks.specs.Chains.{IsAncestor};
 ghost use Rattle.ancestry.specs.Known.{all_of, IsKnown};
-ghost use Rattle.commit_search.specs.Pairs.{Agree, AreFirstIn, DoConflict, IsLeastAgainst, IsNoAncestor};
+ghost use Rattle.commit_search.specs.Pairs.{Agree, AreFirstIn, DoConflict, IsLeastAgainst, IsNoAncestor, StandInOneChain};
 
 use crate::same::are_same;
 use ancestry::Ancestry;
@@ -43,6 +44,34 @@ fn do_conflict(chains: &Ancestry, a: &NamedHeader, b: &NamedHeader) -> bool
     ensures { IsTrue result ↔ DoConflict chains.now a.now b.now }
 {
     !are_same(a, b) && is_no_ancestor(chains, a, b) && is_no_ancestor(chains, b, a)
+}
+
+// Whether a known block stands in the chain of another, after its first place.
+fn is_ancestor(chains: &Ancestry, a: &NamedHeader, b: &NamedHeader) -> bool
+    requires known { IsKnown chains.now }
+    requires first { Contains (all_of chains.now) a.now }
+    requires second { Contains (all_of chains.now) b.now }
+    ensures { IsTrue result ↔ IsAncestor (all_of chains.now) chains.now.genesis a.now b.now }
+{
+    match chains.is_ancestor(a.id(), b.id()) {
+        Some(is) => is,
+        None => false,
+    }
+}
+
+// Whether each of these blocks is an ancestor of all that follow. Neighbours are enough: an ancestor of an
+// ancestor is one.
+fn stand_in_one_chain(chains: &Ancestry, blocks: &[NamedHeader]) -> bool
+    requires known { IsKnown chains.now }
+    requires there { All (Contains (all_of chains.now)) blocks.now }
+    ensures { IsTrue result ↔ StandInOneChain chains.now blocks.now }
+{
+    for k in 1..blocks.len() {
+        if !is_ancestor(chains, &blocks[k - 1], &blocks[k]) {
+            return false;
+        }
+    }
+    true
 }
 
 // The first of these blocks that conflicts with a.
@@ -83,7 +112,7 @@ fn first_pair(chains: &Ancestry, blocks: &[NamedHeader]) -> Option<ConflictingCo
 
 /// The first two of these commits, the proved ones of the evidence, that conflict: of all pairs with the lower
 /// commit first that with the least first commit, and of those that with the least second one. None where no
-/// two conflict. Memory is refused where the headers of the evidence could not be copied.
+/// two conflict: at once where all stand in one chain, as those of an honest ledger do. Memory is refused where the headers of the evidence could not be copied.
 pub fn first_conflict(
     alloc: Global,
     evidence: &Evidence,
@@ -95,5 +124,9 @@ pub fn first_conflict(
 {
     let genesis = NamedHeader::of(evidence.committee().genesis());
     let chains = Ancestry::build(alloc, genesis, evidence.headers())?;
+    // Commits of an honest ledger are answered by a look at neighbours alone.
+    if stand_in_one_chain(&chains, commits) {
+        return Ok(None);
+    }
     Ok(first_pair(&chains, commits))
 }

@@ -72,7 +72,7 @@ pub fn audit_files<'a, F: Files<File = File>, W: Sink>(
         Err(ReportError::Sink) => return Err(Fault::Output),
     }
     for verdict in report.verdicts() {
-        write_verdict(rt, alloc, folder, verdict)?;
+        store_verdict(rt, alloc, folder, verdict)?;
     }
     Ok(!report.verdicts().is_empty())
 }
@@ -110,7 +110,8 @@ fn gather<'a, 'c, F: Files<File = File>>(
     }
 }
 
-fn write_verdict<'a, F: Files<File = File>>(
+// Writes a verdict to its file.
+fn store_verdict<'a, F: Files<File = File>>(
     rt: &F,
     alloc: Global,
     folder: &'a str,

@@ -77,7 +77,9 @@ fn holds_verdict<R: fs::Files<File = fs::File> + AllocGlobal + Abort>(
 fn forked_committee_names_two(rt: HostRuntime) -> Result<(), Fail> {
     let alloc = rt.alloc();
     folder_of(&rt, "fork", &[fork_logs::log_0(), fork_logs::log_3()])?;
-    fs::write(&rt, "fork/verdict-1.hsx", b"an older one")?;
+    let longer = hex::decode(alloc, fork_logs::log_0())?;
+    fs::write(&rt, "fork/verdict-1.hsx", &longer)?;
+    fs::write(&rt, "fork/verdict-3.hsx", b"an older one")?;
     let text = format!(in alloc;
         "source 0 replica 0 Whole frames 4 entries 4
 source 1 replica 3 Whole frames 4 entries 4
@@ -97,7 +99,50 @@ culprits 2
         "fork/verdict-2.hsx",
         verdicts::lock_violation_of_replica_2(),
     )?;
+    assert_eq!(rt;
+        fs::read(&rt, "fork/verdict-3.hsx")?.as_slice(),
+        b"an older one".as_slice()
+    );
     fs::remove_dir_all(&rt, "fork")?;
+    Ok(())
+}
+
+#[test]
+fn no_verdict_without_its_report(rt: HostRuntime) -> Result<(), Fail> {
+    let alloc = rt.alloc();
+    folder_of(&rt, "mute", &[fork_logs::log_0(), fork_logs::log_3()])?;
+    let words = ["audit", "mute/c", "mute", "0=file:mute/0", "3=file:mute/1"];
+    let mut out = MemorySink::new(alloc);
+    out.fuse(0, true);
+    let done = outcome_of(&rt, alloc, &words, out)?;
+    assert_eq!(rt; done.status, 2);
+    assert_eq!(rt; done.faults.bytes(), b"fault output\n".as_slice());
+    assert!(rt; fs::read(&rt, "mute/verdict-1.hsx").is_err());
+    fs::remove_dir_all(&rt, "mute")?;
+    Ok(())
+}
+
+// Forty frames of 65,536 bytes.
+fn long_frames(alloc: Global) -> Result<Vec<u8>, Fail> {
+    let payload = vec![in alloc; 0u8; 65_536]?;
+    let mut stream = b"HSL1".to_vec(alloc)?;
+    for _ in 0..40 {
+        stream.extend_from_slice(&[0, 1, 0, 0])?;
+        stream.extend_from_slice(&payload)?;
+    }
+    stream.extend_from_slice(&[0, 0, 0, 0, 0, 0, 0, 40])?;
+    Ok(stream)
+}
+
+#[test]
+fn a_long_export_is_read_whole(rt: HostRuntime) -> Result<(), Fail> {
+    let alloc = rt.alloc();
+    folder_of(&rt, "long", &[""])?;
+    fs::write(&rt, "long/0", long_frames(alloc)?)?;
+    let text = "source 0 replica 2 Whole frames 40 entries 0\nno conflict\nculprits 0\n";
+    let words = ["audit", "long/c", "long", "2=file:long/0"];
+    prints(&rt, alloc, &words, 0, text)?;
+    fs::remove_dir_all(&rt, "long")?;
     Ok(())
 }
 
@@ -267,8 +312,10 @@ fn files_of_an_audit(rt: HostRuntime) -> Result<(), Fail> {
     folder_of(&rt, "files", &[fork_logs::log_0(), fork_logs::log_3()])?;
     let words = ["audit", "files/c", "files", "0=file:files/0", "3=file:gone"];
     faults(&rt, alloc, &words, "fault file gone\n")?;
-    let words = ["audit", "files/0", "files", "3=file:gone"];
-    faults(&rt, alloc, &words, "fault committee 1 Length\n")?;
+    for committee in ["files/0", "/dev/zero"] {
+        let words = ["audit", committee, "files", "3=file:gone"];
+        faults(&rt, alloc, &words, "fault committee 1 Length\n")?;
+    }
     let words = [
         "audit",
         "files/c",

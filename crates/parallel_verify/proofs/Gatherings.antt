@@ -345,8 +345,11 @@ zip_push R [] (b ∷ ys) x y zip r = absurd zip
 zip_push R (a ∷ xs) [] x y zip r = absurd zip
 zip_push R (a ∷ xs) (b ∷ ys) x y zip r = (zip.0, zip_push R xs ys x y zip.1 r)
 
+-- one pair more
+pub zip_more : {A B : Type 0} (R : A → B → Type 0) (xs : List A) (ys : List B) (i : ℕ) (d : A) (y : B) → i < length xs → AllZip R (take i xs) ys → R (get_or xs i d) y → AllZip R (take (i + 1) xs) (ys ++ y ∷ [])
+zip_more {A} R xs ys i d y l zip pair =
+    subst (λ (zs : List A). AllZip R zs (ys ++ y ∷ [])) (sym (take_more xs i d l)) (zip_push R (take i xs) ys (get_or xs i d) y zip pair)
+
 pub one_report_more : (ss : List Source) (rs : List SourceReport) (i : ℕ) (s : Source) (r : SourceReport) → i < length ss → s ≡ get_or ss i s → AllZip IsReportOf (take i ss) rs → IsReportOf s r
     → AllZip IsReportOf (take (i + 1) ss) (rs ++ r ∷ [])
-one_report_more ss rs i s r l is zip report =
-    subst (λ (xs : List Source). AllZip IsReportOf xs (rs ++ r ∷ [])) (sym (take_more ss i s l))
-    (subst (λ (x : Source). AllZip IsReportOf (take i ss ++ x ∷ []) (rs ++ r ∷ [])) is (zip_push IsReportOf (take i ss) rs s r zip report))
+one_report_more ss rs i s r l is zip report = zip_more IsReportOf ss rs i s r l zip (subst (λ (x : Source). IsReportOf x r) is report)

@@ -1,7 +1,11 @@
-//! Evidence: the headers and the good votes that the logs of replicas show together. No handle.
+//! Evidence: the headers and the good votes that the logs of replicas show together; and votes that are verified
+//! together. `Threads` for the latter.
 #![tactic(auto)]
 
+mod batch;
 mod evidence;
+#[cfg(test)]
+mod fork_tests;
 mod gathering;
 mod headers;
 mod refusal;
@@ -10,6 +14,7 @@ mod source;
 mod tests;
 mod votes;
 
+pub use batch::verify_all;
 pub use evidence::{Evidence, evidence_of};
 pub use refusal::EvidenceRefusal;
 pub use source::{SourceReport, SourceText};

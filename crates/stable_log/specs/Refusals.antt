@@ -59,3 +59,10 @@ IsEntryRefusal journal k Stopped = journal.stopped ≡ true
 IsEntryRefusal journal k NoSuchEntry = (journal.stopped ≡ false) × (length journal.payloads ≤ k)
 IsEntryRefusal journal k Device = MayRead journal k
 IsEntryRefusal journal k _ = ⊥
+
+-- `entry_into` k, which takes no memory
+abbrev pub IsEntryIntoRefusal : {D : Type 0} → JournalState D → ℕ → JournalError → Type 0
+IsEntryIntoRefusal journal k Stopped = journal.stopped ≡ true
+IsEntryIntoRefusal journal k NoSuchEntry = (journal.stopped ≡ false) × (length journal.payloads ≤ k)
+IsEntryIntoRefusal journal k Device = MayRead journal k
+IsEntryIntoRefusal journal k _ = ⊥

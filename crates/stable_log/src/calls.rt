@@ -59,6 +59,23 @@ pub(crate) fn fill<D: Disk>(disk: &mut D, at: u64, out: &mut Vec<u8>) -> Result<
     read(disk, at, out.as_mut_slice())
 }
 
+// The same for the front of a buffer.
+pub(crate) fn fill_front<D: Disk>(
+    disk: &mut D,
+    at: u64,
+    len: usize,
+    out: &mut [u8],
+) -> Result<(), Fault>
+    requires { len ≤ length out.old }
+    ensures told { OnOk result ((bs : List ℕ) → D.bytes disk.old ≡ Some bs →
+        take len out.new ≡ take len (drop at bs)) }
+    ensures room { length out.new ≡ length out.old }
+    ensures unwritten { Unwritten D.bytes D.images D.moment D.images_since disk.old disk.new }
+    ensures cause { Counts (D.failed disk.old) (D.failed disk.new) result }
+{
+    read(disk, at, &mut out[..len])
+}
+
 // Syncs, so that what is read from here on is what a crash leaves, and asks for the length.
 pub(crate) fn settle<D: Disk>(disk: &mut D) -> Result<u64, Fault>
     ensures told { IfOk result (λ n. (bs : List ℕ) → D.bytes disk.old ≡ Some bs → (n ≡ length bs)

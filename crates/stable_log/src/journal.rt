@@ -1,11 +1,11 @@
 //! A list of payloads on a disk.
-ghost use Rattle.std.specs.Prelude.{◌≡◌, ◌≢◌, ◌<◌, ◌≤◌, ◌+◌, ◌++◌, ◌∷◌, [], ℕ, List, true, false, Some, IfSome, IsSome, ◌↔◌, option_map, length, slice_get, IfOk, IfErr, OnErr, OnOk, IsErrOf};
+ghost use Rattle.std.specs.Prelude.{◌≡◌, ◌≢◌, ◌<◌, ◌≤◌, ◌+◌, ◌++◌, ◌∷◌, [], ℕ, List, true, false, Some, IfSome, IsSome, ◌↔◌, option_map, length, slice_get, take, IfOk, IfErr, OnErr, OnOk, IsErrOf};
 ghost use Rattle.stable_log.specs.Disk.{HasFailed};
 ghost use Rattle.stable_log.specs.Crash.{Only, LeavesOnly, Unwritten, Torn, Follows};
 ghost use Rattle.stable_log.specs.Image.{empty_journal, staged_text, StandsFor, IsBeforeOrAfter, LeavesList};
-ghost use Rattle.stable_log.specs.Refusals.{IsCreateRefusal, IsRecoverRefusal, MayAppend, IsAppendRefusal, MayRead, IsEntryRefusal};
+ghost use Rattle.stable_log.specs.Refusals.{IsCreateRefusal, IsRecoverRefusal, MayAppend, IsAppendRefusal, MayRead, IsEntryRefusal, IsEntryIntoRefusal};
 
-use crate::calls::{fill, write_entry, write_synced};
+use crate::calls::{fill, fill_front, write_entry, write_synced};
 use crate::reading::{LONGEST, MOST_ENTRIES, Place, read_journal};
 use crate::{Disk, JournalError};
 use byteorder::{BigEndian, ByteOrder};
@@ -213,9 +213,46 @@ impl<D: Disk> Journal<D> {
         Ok(())
     }
 
-    /// How many entries there are.
+    /// Puts the payload of entry `k`, counted from 0, at the front of `buffer`, which must have 65,536 bytes or more,
+    /// and answers the payload's length in bytes. It takes no memory. A refusal leaves the buffer as it was, but after
+    /// `Device` it holds any bytes. The journal stays as it is, and runs on after `Device`. In this order: `Stopped`,
+    /// `NoSuchEntry`, `Device`.
+    pub fn entry_into(&mut self, k: usize, buffer: &mut [u8]) -> Result<usize, JournalError>
+        requires { 65536 ≤ length buffer.old }
+
+        ensures ok { IfOk result (λ n. IfSome (D.bytes self.old.disk) (λ _.
+            slice_get self.old.payloads k ≡ Some (take n buffer.new))) }
+        ensures size { IfOk result (λ n. n ≤ 65536) }
+        ensures room { length buffer.new ≡ length buffer.old }
+        ensures exact { OnOk result (MayRead self.old k) }
+        ensures same { (self.new.payloads ≡ self.old.payloads) × (self.new.stopped ≡ self.old.stopped)
+            × Unwritten D.bytes D.images D.moment D.images_since self.old.disk self.new.disk }
+        ensures no_failure { OnOk result (D.failed self.new.disk ≡ D.failed self.old.disk) }
+
+        ensures first_refusal { IfErr result (IsEntryIntoRefusal self.old k) }
+        ensures err { IfErr result (λ e. e ≢ JournalError.Device → (self.new ≡ self.old)
+            × (buffer.new ≡ buffer.old)) }
+        ensures cause { IsErrOf result JournalError.Device →
+            HasFailed (D.failed self.old.disk) (D.failed self.new.disk) }
+    {
+        if self.stopped {
+            return Err(JournalError::Stopped);
+        }
+        if k >= self.places.len() {
+            return Err(JournalError::NoSuchEntry);
+        }
+        let Place { at, len } = self.places[k];
+        let len = len as usize;
+        if fill_front(&mut self.disk, at, len, buffer).is_err() {
+            return Err(JournalError::Device);
+        }
+        Ok(len)
+    }
+
+    /// How many entries there are, at most 4,096.
     pub fn count(&self) -> usize
-        ensures { result ≡ length self.now.payloads }
+        ensures value { result ≡ length self.now.payloads }
+        ensures few { length self.now.payloads ≤ 4096 }
     {
         self.places.len()
     }

@@ -4,3 +4,4 @@ pub mod LogLaws
 pub mod StepFaults
 pub mod LogKeeps
 pub mod LogAppends
+pub mod Sending

@@ -6,3 +6,4 @@ pub mod EntryText
 pub mod EntryReading
 pub mod Logs
 pub mod LogRefusals
+pub mod LogExport

@@ -66,7 +66,7 @@ MayAppend log = (log.stopped ≡ false) × (length log.steps < 4096)
 abbrev pub IsAppendRefusal : {D : Type 0} → LogState D → LogError → Type 0
 IsAppendRefusal log Memory = MayAppend log
 IsAppendRefusal log Device = MayAppend log
-IsAppendRefusal log Full = (log.stopped ≡ false) × (4096 ≤ length log.steps)
+IsAppendRefusal log Full = (log.stopped ≡ false) × (length log.steps ≡ 4096)
 IsAppendRefusal log Stopped = log.stopped ≡ true
 IsAppendRefusal log _ = ⊥
 

@@ -4,6 +4,10 @@
 mod entry;
 #[cfg(test)]
 mod entry_tests;
+mod export;
+mod export_error;
+#[cfg(test)]
+mod export_tests;
 mod log;
 mod log_error;
 #[cfg(test)]
@@ -11,5 +15,8 @@ mod log_tests;
 mod reading;
 
 pub use entry::{Entry, EntryRefusal, entries_have_one_spelling};
+pub use export_error::ExportError;
+pub use exports::{Frames, Status};
 pub use log::{MOST_ENTRIES, VoteLog};
 pub use log_error::LogError;
+pub use streams::{Feed, MemoryFeed, MemorySink, Sink, StdFeed, StdSink};

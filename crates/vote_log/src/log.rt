@@ -7,17 +7,21 @@ ghost use Rattle.blocks.specs.Replay.{IsLegal, replay};
 ghost use Rattle.stable_log.specs.Crash.{Follows, LeavesOnly, Only, Torn, Unwritten};
 ghost use Rattle.stable_log.specs.Disk.{HasFailed};
 ghost use Rattle.stable_log.specs.Image.{empty_journal};
+ghost use Rattle.streams.specs.Streams.{Wrote, WrotePart};
 ghost use Rattle.vote_log.specs.EntryText.{Entry as EntryValue, IsEntry, stored_in};
+ghost use Rattle.vote_log.specs.LogExport.{Blames, IsExportRefusal, export_of, frame_count};
 ghost use Rattle.vote_log.specs.LogRefusals.{IsAppendRefusal, IsCreateRefusal, IsEntryRefusal, IsRecoverRefusal, MayAppend, MayRead};
 ghost use Rattle.vote_log.specs.Logs.{AreListed, IsBeforeOrAfter, IsLog, LeavesEntries, StandsForEntries, steps_of};
 
+use crate::export::{LONGEST_FRAME, buffer_of, send_export};
 use crate::reading::{read_entry, read_steps, replay};
-use crate::{Entry, LogError};
+use crate::{Entry, ExportError, LogError};
 use blocks::Header;
 use replica_core::{Durable, Stored};
 use stable_log::{Disk, Journal};
 use std::alloc::Global;
 use std::marker::Model;
+use streams::Sink;
 
 /// The greatest number of entries in a log.
 pub const MOST_ENTRIES: usize = 4096;
@@ -154,7 +158,7 @@ impl<D: Disk> VoteLog<D> {
         if self.journal.stopped() {
             return Err(LogError::Stopped);
         }
-        if self.steps.len() >= MOST_ENTRIES {
+        if self.journal.count() >= MOST_ENTRIES {
             return Err(LogError::Full);
         }
         // All that memory can refuse comes before the disk is touched.
@@ -182,6 +186,40 @@ impl<D: Disk> VoteLog<D> {
             D.failed self.new.disk ≡ D.failed self.old.disk) }
     {
         read_entry(self.alloc, &mut self.journal, k)
+    }
+
+    /// Writes the stream of the entries from `first` on, counted from 0, at most `most` of them, to the sink, and
+    /// answers how many frames it has. The stream is `HSL1`, then for each entry the length of its text (4 bytes, the
+    /// highest first) and the text, then a length of 0 and the number of frames (4 bytes): 12 bytes where there are no
+    /// frames. The log stays as it is, and runs on after each refusal. In this order: `Memory`, `Stopped`, `Device`,
+    /// `Sink`; the first two write nothing, and after the others a first part of the stream was written.
+    pub fn export<W: Sink>(
+        &mut self,
+        first: u32,
+        most: u32,
+        sink: &mut W,
+    ) -> Result<u32, ExportError>
+        ensures ok { OnOk result (IfSome (D.bytes self.old.disk) (λ _.
+            Wrote (W.text sink.old) (W.text sink.new) (export_of self.old.entries first most))) }
+        ensures count { IfOk result (λ n. n ≡ frame_count (length self.old.steps) first most) }
+        ensures exact { OnOk result (self.old.stopped ≡ false) }
+        ensures same { (self.new.entries ≡ self.old.entries) × (self.new.steps ≡ self.old.steps)
+            × (self.new.stopped ≡ self.old.stopped) × (self.new.genesis ≡ self.old.genesis)
+            × Unwritten D.bytes D.images D.moment D.images_since self.old.disk self.new.disk }
+        ensures first_refusal { IfErr result (IsExportRefusal self.old first most) }
+        ensures part { OnErr result (IfSome (D.bytes self.old.disk) (λ _.
+            WrotePart (W.text sink.old) (W.text sink.new) (export_of self.old.entries first most))) }
+        ensures unwritten { IfErr result (λ e. e ≢ ExportError.Device → e ≢ ExportError.Sink →
+            sink.new ≡ sink.old) }
+        ensures cause { Blames (D.failed self.old.disk) (D.failed self.new.disk)
+            (W.failed sink.old) (W.failed sink.new) result }
+    {
+        // All that memory can refuse comes before the first write.
+        let mut frame = buffer_of(self.alloc, LONGEST_FRAME)?;
+        if self.stopped() {
+            return Err(ExportError::Stopped);
+        }
+        send_export(&mut self.journal, first, most, &mut frame, sink)
     }
 
     /// How many entries there are.

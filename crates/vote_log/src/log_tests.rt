@@ -8,12 +8,12 @@ use stable_log::{Disk, Journal, MemoryDisk};
 use std::alloc::Global;
 use std::test::Fail;
 
-fn empty_disk(alloc: Global) -> Result<MemoryDisk, Fail> {
+pub(crate) fn empty_disk(alloc: Global) -> Result<MemoryDisk, Fail> {
     Ok(MemoryDisk::new(alloc, Vec::new(alloc))?)
 }
 
 // A new log of the committee's chain.
-fn created(alloc: Global, disk: MemoryDisk) -> Result<VoteLog<MemoryDisk>, Fail> {
+pub(crate) fn created(alloc: Global, disk: MemoryDisk) -> Result<VoteLog<MemoryDisk>, Fail> {
     let bytes = bytes_of(alloc, verdicts::committee())?;
     let committee = CommitteeView::parse(&bytes).ok().ok_or("no committee")?;
     Ok(
@@ -51,7 +51,10 @@ fn refusal_of(alloc: Global, payloads: &[&[u8]]) -> Result<Option<LogError>, Fai
 }
 
 // Adds an entry that has to be legal.
-fn add<D: Disk>(log: &mut VoteLog<D>, entry: &Entry) -> Result<Result<(), LogError>, Fail> {
+pub(crate) fn add<D: Disk>(
+    log: &mut VoteLog<D>,
+    entry: &Entry,
+) -> Result<Result<(), LogError>, Fail> {
     if !log.allows(entry) {
         return Err("the entry is not legal".into());
     }

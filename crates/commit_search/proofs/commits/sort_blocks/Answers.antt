@@ -1,7 +1,7 @@
-use Rattle.std.proofs.Common.{ℕ, List, rules}
+use Rattle.std.proofs.Common.{rules}
 use Rattle.std.proofs.lemmas.Fn.{always_returns_same}
 use Rattle.std.proofs.lemmas.List.Sorted.{Contains-permutation, IsPermutation-sym}
-use Rattle.blocks.specs.Headers.{Header, header_id}
+use Rattle.blocks.specs.Headers.{header_id}
 use Rattle.commit_search.proofs.Orders.{rising_from_sorted}
 use Rattle.commit_search.proofs.commits.sort_blocks.Goals as goal
 

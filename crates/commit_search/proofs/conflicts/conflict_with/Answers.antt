@@ -1,7 +1,6 @@
-use Rattle.std.proofs.Common.{List, sym, subst, arith}
+use Rattle.std.proofs.Common.{sym, subst, arith}
 use Rattle.std.specs.List.{All, Contains}
 use Rattle.std.proofs.lemmas.List.{take_all}
-use Rattle.blocks.specs.Headers.{Header}
 use Rattle.ancestry.specs.Known.{all_of}
 use Rattle.commit_search.specs.Pairs.{Agree}
 use Rattle.commit_search.proofs.ConflictFacts.{least_at}

@@ -7,9 +7,9 @@ use Rattle.vote_log.specs.Logs.{KeepsLog}
 use Rattle.vote_log.proofs.LogAppends.{appended_entries, durable_entries, kept_appended, kept_refused, run_told, unmoved}
 use Rattle.vote_log.proofs.log.VoteLog.append.Goals as goal
 
-pub returns-then-len-ge-MOST_ENTRIES-clause-any_moment :
-    goal.returns-then-len-ge-MOST_ENTRIES-clause-any_moment
-returns-then-len-ge-MOST_ENTRIES-clause-any_moment g c =
+pub returns-then-count-ge-MOST_ENTRIES-clause-any_moment :
+    goal.returns-then-count-ge-MOST_ENTRIES-clause-any_moment
+returns-then-count-ge-MOST_ENTRIES-clause-any_moment g c =
     let j = c.self.inside.journal in
     rw (← c.self.view_is) (λ running.
     unmoved g.D.Disk.moment g.D.Disk.images_since j.disk (g.D.Disk.bytes j.disk) (g.D.Disk.images j.disk) j.payloads j.stopped c.self.inside.genesis c.self.inside.steps.items c.args.entry.now

@@ -1,0 +1,19 @@
+use Rattle.std.proofs.Common.{◌≡◌, ◌<◌, ℕ, false, Some, List, length, take, drop, sym, ap, ◌∙◌, arith, rules}
+use Rattle.std.specs.Prelude.{slice_get}
+use Rattle.std.specs.Result.{is_err}
+use Rattle.stable_log.specs.Places.{payloads_at}
+use Rattle.stable_log.specs.declared.reading.Place.{Place}
+use Rattle.stable_log.proofs.Told.{ok_holds, some_if}
+use Rattle.stable_log.proofs.Places.{nth_payload}
+use Rattle.stable_log.proofs.journal.Journal.entry_into.Goals as goal
+
+pub returns-clause-ok : goal.returns-clause-ok
+returns-clause-ok g c =
+    let o = g.D.Disk.bytes c.self.inside.disk in
+    let places = c.self.inside.places.items in
+    let place : Place = c.index.result.now in
+    let went : is_err c.fill_front.result ≡ false = sym c.is_err.ensures.value ∙ c.if-is_err.false in
+    let k_fits : c.args.k < length places = omega arith in
+    rw (← c.self.view_is) (some_if o _ (λ bs is.
+    let read = ok_holds c.fill_front.result _ went c.fill_front.ensures.told bs is in
+    ap (λ v. slice_get (payloads_at v places) c.args.k) is ∙ nth_payload bs places c.args.k place k_fits c.index.ensures ∙ ap Some (sym read)))
