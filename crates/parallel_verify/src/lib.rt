@@ -1,5 +1,5 @@
 //! Evidence: the headers and the good votes that the logs of replicas show together; and votes that are verified
-//! together. `Threads` for the latter.
+//! together. `verify_all` takes a runtime with `Threads`, and starts none yet; the rest has no handle.
 #![tactic(auto)]
 
 mod batch;

@@ -23,9 +23,9 @@ export_error_number Device = 2
 export_error_number Sink = 3
 export_error_number Stopped = 4
 
--- `export`: memory is asked for first, and the disk only for frames
+-- `export`: memory is asked for where the log runs, and the disk only for frames
 abbrev pub IsExportRefusal : {D : Type 0} → LogState D → ℕ → ℕ → ExportError → Type 0
-IsExportRefusal log first most Memory = Unit {0}
+IsExportRefusal log first most Memory = log.stopped ≡ false
 IsExportRefusal log first most Stopped = log.stopped ≡ true
 IsExportRefusal log first most Device = (log.stopped ≡ false) × (0 < frame_count (length log.steps) first most)
 IsExportRefusal log first most Sink = log.stopped ≡ false

@@ -57,6 +57,7 @@ fn read_payload<D: Disk>(
 {
     match journal.entry_into(k, &mut frame[FRAME_HEAD..]) {
         Ok(len) => Ok(len),
+        // The journal runs and has payload k, so only its disk can refuse.
         Err(_) => Err(ExportError::Device),
     }
 }
@@ -139,7 +140,7 @@ fn send_frames<D: Disk, W: Sink>(
     Ok(())
 }
 
-// Which of so many payloads are asked for: from one to before another.
+// The payloads that are asked for, of `count`: from the first, up to and without the second.
 fn asked_range(count: usize, first: u32, most: u32) -> (usize, usize)
     ensures inside { (result.0 ≤ result.1) × (result.1 ≤ count) }
     ensures size { result.1 - result.0 ≡ frame_count count first most }

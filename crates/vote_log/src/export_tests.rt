@@ -49,6 +49,13 @@ fn an_export_is_the_stored_stream(rt: HostRuntime) -> Result<(), Fail> {
     let last = Frames::of(alloc, sink.bytes())?;
     assert_eq!(rt; last.status(), Status::Whole);
     assert_eq!(rt; Some(last.frames()), all.frames().get(7..));
+
+    // Three in the middle.
+    let mut sink = MemorySink::new(alloc);
+    assert_eq!(rt; log.export(2, 3, &mut sink), Ok(3));
+    let middle = Frames::of(alloc, sink.bytes())?;
+    assert_eq!(rt; middle.status(), Status::Whole);
+    assert_eq!(rt; Some(middle.frames()), all.frames().get(2..5));
     Ok(())
 }
 

@@ -1,4 +1,4 @@
-//! A replica's log: what it stores of its votes and of its raised locks. No handle.
+//! A replica's log: what it stores of its votes and of its raised locks, and how that goes out. No handle.
 #![tactic(auto)]
 
 mod entry;
@@ -19,4 +19,4 @@ pub use export_error::ExportError;
 pub use exports::{Frames, Status};
 pub use log::{MOST_ENTRIES, VoteLog};
 pub use log_error::LogError;
-pub use streams::{Feed, MemoryFeed, MemorySink, Sink, StdFeed, StdSink};
+pub use streams::{Fault, Feed, MemoryFeed, MemorySink, Sink, StdFeed, StdSink};

@@ -1,6 +1,6 @@
 //! A replica's log on a disk.
 
-ghost use Rattle.std.specs.Prelude.{◌≡◌, ◌≢◌, ◌<◌, ◌++◌, ◌∷◌, [], ℕ, List, Some, IfSome, IsSome, ◌↔◌, true, false, length, map, option_map, slice_get, IfErr, IfOk, IsErrOf, IsTrue, OnErr, OnOk};
+ghost use Rattle.std.specs.Prelude.{◌≡◌, ◌≢◌, ◌<◌, ◌≤◌, ◌++◌, ◌∷◌, [], ℕ, List, Some, IfSome, IsSome, ◌↔◌, true, false, length, map, option_map, slice_get, IfErr, IfOk, IsErrOf, IsTrue, OnErr, OnOk};
 ghost use Rattle.std.specs.List.{All};
 ghost use Rattle.blocks.specs.Headers.{IsGenesis};
 ghost use Rattle.blocks.specs.Replay.{IsLegal, replay};
@@ -189,10 +189,10 @@ impl<D: Disk> VoteLog<D> {
     }
 
     /// Writes the stream of the entries from `first` on, counted from 0, at most `most` of them, to the sink, and
-    /// answers how many frames it has. The stream is `HSL1`, then for each entry the length of its text (4 bytes, the
-    /// highest first) and the text, then a length of 0 and the number of frames (4 bytes): 12 bytes where there are no
-    /// frames. The log stays as it is, and runs on after each refusal. In this order: `Memory`, `Stopped`, `Device`,
-    /// `Sink`; the first two write nothing, and after the others a first part of the stream was written.
+    /// answers how many frames it has. The stream is `HSL1`, then for each entry the length of its text (4 bytes,
+    /// big-endian) and the text, then a length of 0 and the number of frames (4 bytes): 12 bytes where there are no
+    /// frames. The log stays as it is; no refusal stops it. In this order: `Memory`, `Stopped`, `Device`, `Sink`; the
+    /// first two write nothing, and after the others a first part of the stream was written.
     pub fn export<W: Sink>(
         &mut self,
         first: u32,
@@ -214,19 +214,20 @@ impl<D: Disk> VoteLog<D> {
         ensures cause { Blames (D.failed self.old.disk) (D.failed self.new.disk)
             (W.failed sink.old) (W.failed sink.new) result }
     {
-        // All that memory can refuse comes before the first write.
-        let mut frame = buffer_of(self.alloc, LONGEST_FRAME)?;
         if self.stopped() {
             return Err(ExportError::Stopped);
         }
+        // All that memory can refuse comes before the first write.
+        let mut frame = buffer_of(self.alloc, LONGEST_FRAME)?;
         send_export(&mut self.journal, first, most, &mut frame, sink)
     }
 
-    /// How many entries there are.
+    /// How many entries there are, at most 4,096.
     pub fn count(&self) -> usize
-        ensures { result ≡ length self.now.steps }
+        ensures value { result ≡ length self.now.steps }
+        ensures few { result ≤ 4096 }
     {
-        self.steps.len()
+        self.journal.count()
     }
 
     /// Whether the disk failed in an `append`.
