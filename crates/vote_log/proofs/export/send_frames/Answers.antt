@@ -1,8 +1,8 @@
-use Rattle.std.proofs.Common.{◌≡◌, ◌<◌, ◌≤◌, List, ℕ, length, rules, arith, sym, ap, subst, ◌∙◌}
+use Rattle.std.proofs.Common.{◌<◌, ◌≤◌, List, ℕ, length, rules, arith, subst, ◌∙◌}
 use Rattle.stable_log.proofs.Told.{if_some}
 use Rattle.streams.specs.Streams.{Wrote, WrotePart}
 use Rattle.vote_log.specs.LogExport.{frame_at}
-use Rattle.vote_log.proofs.Sending.{frames_more, frames_none, frames_part, on_err}
+use Rattle.vote_log.proofs.Sending.{frames_more, frames_part, on_err}
 use Rattle.vote_log.proofs.export.send_frames.Goals as goal
 
 pub returns-in_err-send_frame-clause-part :

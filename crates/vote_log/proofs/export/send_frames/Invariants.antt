@@ -1,4 +1,4 @@
-use Rattle.std.proofs.Common.{◌≡◌, List, ℕ, false, Some, length}
+use Rattle.std.proofs.Common.{◌≡◌, List, ℕ, Some, length}
 use Rattle.stable_log.specs.Crash.{Unwritten}
 use Rattle.streams.specs.Streams.{Wrote}
 use Rattle.vote_log.specs.LogExport.{frames_from}
