@@ -1,9 +1,9 @@
--- Blocks that stand in one chain do not conflict.
-use Rattle.std.proofs.Common.{◌≡◌, ◌↔◌, Bool, false, inl, inr, ℕ, ◌+◌, ◌-◌, ◌<◌, List, [], ◌∷◌, length, get_or, sym, ◌∙◌, subst, arith}
+-- Blocks that stand in one chain, and the trunk below the first fork.
+use Rattle.std.proofs.Common.{◌≡◌, ◌↔◌, Bool, inl, inr, ℕ, zero, suc, ◌+◌, ◌-◌, ◌<◌, ◌≤◌, List, [], ◌∷◌, length, get_or, take, drop, sym, ◌∙◌, ap, subst, arith}
 use Rattle.std.specs.Prelude.{IsTrue}
-use Rattle.std.specs.List.{AllPairs, Contains}
-use Rattle.std.proofs.lemmas.Bool.{cases_lt, false≢true}
-use Rattle.std.proofs.lemmas.List.{get_or_default}
+use Rattle.std.specs.List.{All, AllPairs, Contains}
+use Rattle.std.proofs.lemmas.Bool.{cases_lt}
+use Rattle.std.proofs.lemmas.List.{get_or_default, get_or-take, length-drop, length-take-le, take_all}
 use Rattle.blocks.specs.Chains.{IsAncestor, IsChainIn, IsLinked, NoCollision}
 use Rattle.blocks.specs.Headers.{Header, IsGenesis, header_id}
 use Rattle.blocks.proofs.Chains.{one_chain}
@@ -11,7 +11,9 @@ use Rattle.blocks.proofs.Members.{Contains-later}
 use Rattle.ancestry.specs.Known.{Known, IsKnown, all_of, IsAncestorId, IsLinkedId}
 use Rattle.ancestry.proofs.Ids.{apart}
 use Rattle.ancestry.proofs.Walks.{ancestor_is, head_or_later, not_in_none}
-use Rattle.commit_search.specs.Pairs.{Agree, StandInOneChain}
+use Rattle.accountability.specs.Commits.{IsLowerBlock}
+use Rattle.commit_search.specs.Pairs.{Agree, AreFirstIn, FirstAreAbove, IsTrunk, StandInOneChain}
+use Rattle.commit_search.proofs.ConflictFacts.{none_before, found_later, rises_later}
 
 -- ---- an ancestor of an ancestor is one
 
@@ -53,43 +55,87 @@ pub both_linked : (known : Known) (x y : List ℕ) (a b : Header) → header_id 
 both_linked known x y a b named_a named_b above =
     ((a, named_a, linked_above (all_of known) known.genesis a b above.0 above.1 above.2), (b, named_b, (above.0, above.1)))
 
--- ---- neighbour by neighbour
+-- ---- the ancestors of a block in one chain
 
--- each block is an ancestor of those behind it, up to a place
-abbrev pub OneChainBelow : Known → List Header → ℕ → Type 0
-OneChainBelow known bs n = (i j : ℕ) (d : Header) → i < j → j < n → IsAncestor (all_of known) known.genesis (get_or bs i d) (get_or bs j d)
+-- the last of the first n tells of all of them
+pub first_above : (known : Known) (bs : List Header) (n : ℕ) (a b : Header) → IsKnown known → StandInOneChain known bs → 0 < n → n ≤ length bs → a ≡ get_or bs (n - 1) a
+    → IsAncestor (all_of known) known.genesis a b → FirstAreAbove known bs n b
+first_above known bs n a b is chain some there at_a above k d below =
+    let len : length (take n bs) ≡ n = length-take-le n bs there in
+    let placed : get_or (take n bs) k d ≡ get_or bs k d = get_or-take n bs k d (omega arith) in
+    let last : a ≡ get_or bs (n - 1) d = at_a ∙ get_or_default bs (n - 1) a d (omega arith) in
+    subst (λ (h : Header). IsAncestor (all_of known) known.genesis h b) (sym placed) (elim (cases_lt k (n - 1)) [
+      | inl before ↦ ancestor_of_ancestor known (get_or bs k d) a b is (subst (IsAncestor (all_of known) known.genesis (get_or bs k d)) (sym last) (chain k (n - 1) d before (omega arith))) above
+      | inr past ↦ let at : n - 1 ≡ k = omega arith in subst (λ (h : Header). IsAncestor (all_of known) known.genesis h b) (last ∙ ap (λ (m : ℕ). get_or bs m d) at) above
+    ])
 
-pub one_more : (known : Known) (bs : List Header) (k : ℕ) → IsKnown known → 0 < k → OneChainBelow known bs k
-    → ((d : Header) → IsAncestor (all_of known) known.genesis (get_or bs (k - 1) d) (get_or bs k d)) → OneChainBelow known bs (k + 1)
-one_more known bs k is some before step i j d less below =
+pub none_above : (known : Known) (bs : List Header) (b : Header) → FirstAreAbove known bs 0 b
+none_above known bs b k d below = absurd (omega (arith, below))
+
+-- ---- the trunk
+
+-- the first n blocks are ancestors of those that follow, up to the place k
+abbrev pub IsTrunkBelow : Known → List Header → ℕ → ℕ → Type 0
+IsTrunkBelow known bs n k = (i j : ℕ) (d : Header) → i < n → i < j → j < k → IsAncestor (all_of known) known.genesis (get_or bs i d) (get_or bs j d)
+
+pub chain_of_trunk : (known : Known) (bs : List Header) (n k : ℕ) → n ≤ k → k ≤ length bs → IsTrunkBelow known bs n k → StandInOneChain known (take n bs)
+chain_of_trunk known bs n k within there trunk i j d less below =
+    let len : length (take n bs) ≡ n = length-take-le n bs (omega arith) in
+    let first : get_or (take n bs) i d ≡ get_or bs i d = get_or-take n bs i d (omega arith) in
+    let second : get_or (take n bs) j d ≡ get_or bs j d = get_or-take n bs j d (omega arith) in
+    subst (λ (h : Header). IsAncestor (all_of known) known.genesis h (get_or (take n bs) j d)) (sym first)
+    (subst (IsAncestor (all_of known) known.genesis (get_or bs i d)) (sym second) (trunk i j d (omega arith) less (omega arith)))
+
+-- the ancestors of the block at k among the trunk below it
+above_at : (known : Known) (bs : List Header) (n s : ℕ) (b : Header) → n ≤ length bs → s ≤ length (take n bs) → FirstAreAbove known (take n bs) s b → (i : ℕ) (d : Header) → i < s
+    → IsAncestor (all_of known) known.genesis (get_or bs i d) b
+above_at known bs n s b there within above i d below =
+    let len : length (take n bs) ≡ n = length-take-le n bs there in
+    let inner : length (take s (take n bs)) ≡ s = length-take-le s (take n bs) within in
+    let placed : get_or (take s (take n bs)) i d ≡ get_or bs i d = get_or-take s (take n bs) i d below ∙ get_or-take n bs i d (omega arith) in
+    subst (λ (h : Header). IsAncestor (all_of known) known.genesis h b) placed (above i d (omega arith))
+
+pub shorter_trunk : (known : Known) (bs : List Header) (n s k : ℕ) (b : Header) → n ≤ k → k < length bs → b ≡ get_or bs k b → s ≤ length (take n bs) → FirstAreAbove known (take n bs) s b
+    → IsTrunkBelow known bs n k → IsTrunkBelow known bs s (k + 1)
+shorter_trunk known bs n s k b within there at_b short above trunk i j d first less below =
+    let len : length (take n bs) ≡ n = length-take-le n bs (omega arith) in
     elim (cases_lt j k) [
-      | inl inner ↦ before i j d less inner
-      | inr here ↦
+      | inl inner ↦ trunk i j d (omega arith) less inner
+      | inr past ↦
           let last : k ≡ j = omega arith in
-          subst (λ (n : ℕ). IsAncestor (all_of known) known.genesis (get_or bs i d) (get_or bs n d)) last (elim (cases_lt i (k - 1)) [
-            | inl far ↦ ancestor_of_ancestor known (get_or bs i d) (get_or bs (k - 1) d) (get_or bs k d) is (before i (k - 1) d far (omega arith)) (step d)
-            | inr near ↦ let at : k - 1 ≡ i = omega arith in subst (λ (n : ℕ). IsAncestor (all_of known) known.genesis (get_or bs n d) (get_or bs k d)) at (step d)
-          ])
+          subst (IsAncestor (all_of known) known.genesis (get_or bs i d)) (at_b ∙ get_or_default bs k b d there ∙ ap (λ (m : ℕ). get_or bs m d) last)
+          (above_at known bs n s b (omega arith) short above i d first)
     ]
 
--- ---- in one chain
+pub longer_trunk : (known : Known) (bs : List Header) (n s k : ℕ) (b : Header) → n ≤ k → k < length bs → b ≡ get_or bs k b → s ≤ length (take n bs) → FirstAreAbove known (take n bs) s b
+    → IsTrunkBelow known bs n k → s ≡ k → IsTrunkBelow known bs (k + 1) (k + 1)
+longer_trunk known bs n s k b within there at_b short above trunk all i j d first less below =
+    shorter_trunk known bs n s k b within there at_b short above trunk i j d (omega arith) less below
 
-pub agree_in_chain : (known : Known) (bs : List Header) → StandInOneChain known bs → AllPairs (Agree known) bs
-agree_in_chain known bs stand i j d less there conflict = conflict.not_below (stand i j d less there)
+-- ---- behind the trunk
 
-no_chain : (known : Known) (bs : List Header) (k : ℕ) (a b : Header) → 0 < k → k < length bs → a ≡ get_or bs (k - 1) a → b ≡ get_or bs k b → (IsAncestor (all_of known) known.genesis a b → ⊥) → StandInOneChain known bs → ⊥
-no_chain known bs k a b some there at_a at_b none stand =
-    let first : get_or bs (k - 1) b ≡ a = get_or_default bs (k - 1) b a (omega arith) ∙ sym at_a in
-    none (subst (λ (h : Header). IsAncestor (all_of known) known.genesis h b) first (subst (IsAncestor (all_of known) known.genesis (get_or bs (k - 1) b)) (sym at_b) (stand (k - 1) k b (omega arith) there)))
+pub all_behind : (bs : List Header) (n : ℕ) → take (length bs - n) (drop n bs) ≡ drop n bs
+all_behind bs n = take_all (length bs - n) (drop n bs) (subst (λ (m : ℕ). m ≤ length bs - n) (sym (length-drop n bs)) (omega arith))
 
--- a test of two neighbours
-pub apart_at : (known : Known) (bs : List Header) (k : ℕ) (a b : Header) (r : Bool) → 0 < k → k < length bs → a ≡ get_or bs (k - 1) a → b ≡ get_or bs k b
-    → IsTrue r ↔ IsAncestor (all_of known) known.genesis a b → r ≡ false → StandInOneChain known bs → ⊥
-apart_at known bs k a b r some there at_a at_b test fails = no_chain known bs k a b some there at_a at_b (λ above. false≢true (sym fails ∙ test.1 above))
+pub rises_behind : (bs : List Header) (n : ℕ) → AllPairs IsLowerBlock bs → AllPairs IsLowerBlock (drop n bs)
+rises_behind bs zero rising = rising
+rises_behind [] (suc n) rising = rising
+rises_behind (x ∷ xs) (suc n) rising = rises_behind xs n (rises_later x xs rising)
 
-pub one_more_at : (known : Known) (bs : List Header) (k : ℕ) (a b : Header) → IsKnown known → 0 < k → k < length bs → a ≡ get_or bs (k - 1) a → b ≡ get_or bs k b
-    → OneChainBelow known bs k → IsAncestor (all_of known) known.genesis a b → OneChainBelow known bs (k + 1)
-one_more_at known bs k a b is some there at_a at_b before above =
-    one_more known bs k is some before (λ d.
-    subst (λ (h : Header). IsAncestor (all_of known) known.genesis h (get_or bs k d)) (at_a ∙ get_or_default bs (k - 1) a d (omega arith))
-    (subst (λ (h : Header). IsAncestor (all_of known) known.genesis a h) (at_b ∙ get_or_default bs k b d there) above))
+later_trunk : (known : Known) (x : Header) (xs : List Header) (n : ℕ) → IsTrunk known (x ∷ xs) (suc n) → IsTrunk known xs n
+later_trunk known x xs n trunk i j d first less below = trunk (suc i) (suc j) d (omega arith) (omega arith) (omega arith)
+
+agrees_with_later : (known : Known) (x : Header) (xs : List Header) (n : ℕ) → IsTrunk known (x ∷ xs) (suc n) → All (Agree known x) xs
+agrees_with_later known x xs n trunk k d below conflict = conflict.not_below (trunk 0 (suc k) d (omega arith) (omega arith) (omega arith))
+
+pub none_behind_trunk : (known : Known) (bs : List Header) (n : ℕ) → IsTrunk known bs n → AllPairs (Agree known) (drop n bs) → AllPairs (Agree known) bs
+none_behind_trunk known bs zero trunk none = none
+none_behind_trunk known [] (suc n) trunk none = none
+none_behind_trunk known (x ∷ xs) (suc n) trunk none =
+    none_before known x xs (agrees_with_later known x xs n trunk) (none_behind_trunk known xs n (later_trunk known x xs n trunk) none)
+
+pub found_behind_trunk : (known : Known) (bs : List Header) (n : ℕ) (a b : Header) → AllPairs IsLowerBlock bs → IsTrunk known bs n → AreFirstIn known (drop n bs) a b → AreFirstIn known bs a b
+found_behind_trunk known bs zero a b rising trunk found = found
+found_behind_trunk known [] (suc n) a b rising trunk found = found
+found_behind_trunk known (x ∷ xs) (suc n) a b rising trunk found =
+    found_later known x xs a b rising (agrees_with_later known x xs n trunk) (found_behind_trunk known xs n a b (rises_later x xs rising) (later_trunk known x xs n trunk) found)

@@ -1,6 +1,6 @@
 -- Pairs of blocks of a list that conflict.
-use Rattle.std.specs.Prelude.{List}
-use Rattle.std.specs.List.{AllPairs, Contains}
+use Rattle.std.specs.Prelude.{◌<◌, ℕ, List, length, get_or, take}
+use Rattle.std.specs.List.{All, AllPairs, Contains}
 use Rattle.blocks.specs.Headers.{Header}
 use Rattle.blocks.specs.Chains.{Conflict, IsAncestor, IsLinked}
 use Rattle.ancestry.specs.Known.{Known, all_of}
@@ -23,6 +23,14 @@ pub record IsNoAncestor (known : Known) (a b : Header) : Type 0 where
 -- each of these blocks is an ancestor of all that follow
 abbrev pub StandInOneChain : Known → List Header → Type 0
 StandInOneChain known blocks = AllPairs (IsAncestor (all_of known) known.genesis) blocks
+
+-- the first n of these blocks are ancestors of b
+abbrev pub FirstAreAbove : Known → List Header → ℕ → Header → Type 0
+FirstAreAbove known blocks n b = All (λ a. IsAncestor (all_of known) known.genesis a b) (take n blocks)
+
+-- .. and of all blocks that follow them
+abbrev pub IsTrunk : Known → List Header → ℕ → Type 0
+IsTrunk known blocks n = (i j : ℕ) (d : Header) → i < n → i < j → j < length blocks → IsAncestor (all_of known) known.genesis (get_or blocks i d) (get_or blocks j d)
 
 -- b is the least of these blocks that conflicts with a
 pub record IsLeastAgainst (known : Known) (a : Header) (blocks : List Header) (b : Header) : Type 0 where

@@ -1,12 +1,12 @@
 //! Commits that conflict.
 
-ghost use Rattle.std.specs.Prelude.{◌≡◌, ◌↔◌, IfOk, IsTrue, MatchOption};
+ghost use Rattle.std.specs.Prelude.{◌≡◌, ◌≤◌, ◌↔◌, length, IfOk, IsTrue, MatchOption};
 ghost use Rattle.std.specs.List.{All, AllPairs, Contains};
 ghost use Rattle.accountability.specs.Committees.{committee_of};
 ghost use Rattle.accountability.specs.Commits.{AreProvedCommits, AreFirstConflict, HasNoConflict, IsLowerBlock};
 ghost use Rattle.blocks.specs.Chains.{IsAncestor};
 ghost use Rattle.ancestry.specs.Known.{all_of, IsKnown};
-ghost use Rattle.commit_search.specs.Pairs.{Agree, AreFirstIn, DoConflict, IsLeastAgainst, IsNoAncestor, StandInOneChain};
+ghost use Rattle.commit_search.specs.Pairs.{Agree, AreFirstIn, DoConflict, FirstAreAbove, IsLeastAgainst, IsNoAncestor, IsTrunk, StandInOneChain};
 
 use crate::same::are_same;
 use ancestry::Ancestry;
@@ -59,19 +59,36 @@ fn is_ancestor(chains: &Ancestry, a: &NamedHeader, b: &NamedHeader) -> bool
     }
 }
 
-// Whether each of these blocks is an ancestor of all that follow. Neighbours are enough: an ancestor of an
-// ancestor is one.
-fn stand_in_one_chain(chains: &Ancestry, blocks: &[NamedHeader]) -> bool
+// How many of these blocks, which stand in one chain, are ancestors of b. They are the first ones, for an ancestor
+// of an ancestor is one: so the last of them tells.
+fn ancestors_among(chains: &Ancestry, blocks: &[NamedHeader], b: &NamedHeader) -> usize
     requires known { IsKnown chains.now }
     requires there { All (Contains (all_of chains.now)) blocks.now }
-    ensures { IsTrue result ↔ StandInOneChain chains.now blocks.now }
+    requires other { Contains (all_of chains.now) b.now }
+    requires chain { StandInOneChain chains.now blocks.now }
+    ensures at_most { result ≤ length blocks.now }
+    ensures ancestors { FirstAreAbove chains.now blocks.now result b.now }
 {
-    for k in 1..blocks.len() {
-        if !is_ancestor(chains, &blocks[k - 1], &blocks[k]) {
-            return false;
-        }
+    let mut count = blocks.len();
+    while count > 0 && !is_ancestor(chains, &blocks[count - 1], b) {
+        count -= 1;
     }
-    true
+    count
+}
+
+// How many of the first blocks are ancestors of all that follow them, so that they conflict with none.
+fn trunk_length(chains: &Ancestry, blocks: &[NamedHeader]) -> usize
+    requires known { IsKnown chains.now }
+    requires there { All (Contains (all_of chains.now)) blocks.now }
+    ensures at_most { result ≤ length blocks.now }
+    ensures trunk { IsTrunk chains.now blocks.now result }
+{
+    let mut trunk = 0;
+    for k in 0..blocks.len() {
+        let shared = ancestors_among(chains, &blocks[..trunk], &blocks[k]);
+        trunk = if shared == k { k + 1 } else { shared };
+    }
+    trunk
 }
 
 // The first of these blocks that conflicts with a.
@@ -90,14 +107,15 @@ fn conflict_with(chains: &Ancestry, a: &NamedHeader, blocks: &[NamedHeader]) -> 
     None
 }
 
-// The first two of these blocks that conflict.
+// The first two of these blocks that conflict. The trunk below the first fork is passed over: in a long ledger all
+// but a few blocks stand there.
 fn first_pair(chains: &Ancestry, blocks: &[NamedHeader]) -> Option<ConflictingCommits>
     requires known { IsKnown chains.now }
     requires there { All (Contains (all_of chains.now)) blocks.now }
     requires rising { AllPairs IsLowerBlock blocks.now }
     ensures { MatchOption result (AllPairs (Agree chains.now) blocks.now) (λ pair. AreFirstIn chains.now blocks.now pair.first pair.second) }
 {
-    let mut rest = blocks;
+    let mut rest = &blocks[trunk_length(chains, blocks)..];
     while let [first, later @ ..] = rest {
         if let Some(second) = conflict_with(chains, first, later) {
             return Some(ConflictingCommits {
@@ -112,7 +130,7 @@ fn first_pair(chains: &Ancestry, blocks: &[NamedHeader]) -> Option<ConflictingCo
 
 /// The first two of these commits, the proved ones of the evidence, that conflict: of all pairs with the lower
 /// commit first that with the least first commit, and of those that with the least second one. None where no
-/// two conflict: at once where all stand in one chain, as those of an honest ledger do. Memory is refused where the headers of the evidence could not be copied.
+/// two conflict. Memory is refused where the headers of the evidence could not be copied.
 pub fn first_conflict(
     alloc: Global,
     evidence: &Evidence,
@@ -124,9 +142,5 @@ pub fn first_conflict(
 {
     let genesis = NamedHeader::of(evidence.committee().genesis());
     let chains = Ancestry::build(alloc, genesis, evidence.headers())?;
-    // Commits of an honest ledger are answered by a look at neighbours alone.
-    if stand_in_one_chain(&chains, commits) {
-        return Ok(None);
-    }
     Ok(first_pair(&chains, commits))
 }

@@ -1,7 +1,9 @@
 //! Audits of exports in files. The logs, the verdicts and the printed texts are those of an independent program.
 
 use crate::tests::{Outcome, new_folder, outcome_of};
-use fixtures::{equal_parent_views_log, fork_logs, gap_logs, lying_parent_logs, verdicts};
+use fixtures::{
+    equal_parent_views_log, fork_logs, gap_logs, last_views_fork, lying_parent_logs, verdicts,
+};
 use std::alloc::Global;
 use std::fs;
 use std::process::Abort;
@@ -236,6 +238,29 @@ culprits 0
     ];
     prints(&rt, alloc, &words, 0, &text)?;
     fs::remove_dir_all(&rt, "lying")?;
+    Ok(())
+}
+
+// Sums of views would not fit here: the fork is in the last eight views that there are.
+#[test]
+fn fork_in_the_last_views(rt: HostRuntime) -> Result<(), Fail> {
+    let alloc = rt.alloc();
+    let logs = [last_views_fork::log_0(), last_views_fork::log_3()];
+    folder_of(&rt, "last", &logs)?;
+    let text = "source 0 replica 0 Whole frames 4 entries 4
+source 1 replica 3 Whole frames 4 entries 4
+commit 18446744073709551608 a21ddad9bda020b6d6ed119df08ebb111697d0b9f37efa440e2a28e42cd96afc
+commit 18446744073709551611 ce15fef12d507f338c398b83680a33295202229e49421c1c1c34fe44708ffd49
+conflict a21ddad9bda020b6d6ed119df08ebb111697d0b9f37efa440e2a28e42cd96afc ce15fef12d507f338c398b83680a33295202229e49421c1c1c34fe44708ffd49
+culprit 1 rule 2 views 18446744073709551610 18446744073709551611
+culprit 2 rule 2 views 18446744073709551610 18446744073709551611
+culprits 2
+";
+    let words = ["audit", "last/c", "last", "0=file:last/0", "3=file:last/1"];
+    prints(&rt, alloc, &words, 3, text)?;
+    holds_verdict(&rt, "last/verdict-1.hsx", last_views_fork::verdict_1())?;
+    holds_verdict(&rt, "last/verdict-2.hsx", last_views_fork::verdict_2())?;
+    fs::remove_dir_all(&rt, "last")?;
     Ok(())
 }
 
