@@ -10,8 +10,8 @@ use Rattle.accountability.specs.Committees.{Committee, total_weight, weight_of, 
 use Rattle.accountability.specs.Commits.{IsProvedCommit}
 use Rattle.accountability.specs.Culprits.{AreCulprits, IsNamedPair}
 
--- by weight: of a committee whose quorums have more than two thirds of the weight; what is not one of its replicas weighs
--- nothing
+-- by weight: of a committee whose quorums have more than two thirds of the weight; what is not one of its replicas
+-- weighs nothing
 abbrev pub AConflictAccusesMoreThanAThird : Type 0
 AConflictAccusesMoreThanAThird =
     (c : Committee) (e : Evidence) (a b : Header) (culprits : List ℕ)

@@ -16,7 +16,7 @@ use Rattle.ancestry.specs.Parents.{IsParent}
 pub head_or_later : (x : Header) (xs : List Header) (y : Header) → Contains (x ∷ xs) y → (x ≡ y) ⊎ Contains xs y
 head_or_later x xs y c = elim (Has-from_Contains (x ∷ xs) y c) [ inl here ↦ inl here | inr later ↦ inr (Contains-from_Has xs y later) ]
 
-pub not_in_none : (y : Header) → Contains [] y → ⊥
+pub not_in_none : {X : Type 0} (y : X) → Contains [] y → ⊥
 not_in_none y c = let l = c.1 in absurd (omega arith)
 
 all_in_cons : (hs : List Header) (x : Header) (xs : List Header) → Contains hs x → AllIn hs xs → AllIn hs (x ∷ xs)

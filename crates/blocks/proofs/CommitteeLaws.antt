@@ -4,6 +4,7 @@ use Rattle.std.specs.Prelude.{IsOk, is_ok, nat_le, ◌==◌, codes, if◌then◌
 use Rattle.std.specs.List.{All, concat}
 use Rattle.std.specs.Str.{bytes_eq}
 use Rattle.std.specs.Cmp.Lexicographic.{same_text}
+use Rattle.std.proofs.lemmas.Bool.{false_from_ne_true}
 use Rattle.std.proofs.lemmas.Bool.Decides.{nat_tests}
 use Rattle.std.proofs.lemmas.List.{take_at, drop_at, drop_all, drop-drop, length-append, append-nil, take_more}
 use Rattle.std.proofs.lemmas.List.Folds.{concat-append}
@@ -24,10 +25,6 @@ use Rattle.blocks.specs.Committees.{AreMembers, committee_text, IsCommittee, f_o
 
 -- ---- public keys
 
-false_from : (b : Bool) → (b ≡ true → ⊥) → b ≡ false
-false_from true h = absurd (h refl)
-false_from false h = refl
-
 types_from : (tree ots : ℕ) → (tree == 6 && ots == 4) ≡ true → (tree ≡ 6) × (ots ≡ 4)
 types_from tree ots e = (grind (arith, nat_tests), grind (arith, nat_tests))
 
@@ -47,7 +44,7 @@ is_key-public_key key is = types_true _ _ is.tree_type is.ots_type
 -- what the reader of keys answers
 pub key_told : (key : List ℕ) (r : Result PublicKey KeyRefusal) → length key ≡ 56 → IsOk r ↔ IsPublicKey key → is_ok r ≡ is_key key
 key_told key (Ok k) long exact = sym (is_key-public_key key (exact.0 refl))
-key_told key (Err x) long exact = sym (false_from (is_key key) (λ t. let ok = exact.1 (public_key key long t) in absurd cc))
+key_told key (Err x) long exact = sym (false_from_ne_true (is_key key) (λ t. let ok = exact.1 (public_key key long t) in absurd cc))
 
 -- ---- keys, one after the other
 
@@ -206,7 +203,7 @@ choice_false true r e = absurd cc
 choice_false false r e = refl
 
 unequal : (xs ys : List ℕ) → xs ≢ ys → bytes_eq xs ys ≡ false
-unequal xs ys apart = false_from (bytes_eq xs ys) (λ t. apart ((bytes_eq-Decides xs ys).0 t))
+unequal xs ys apart = false_from_ne_true (bytes_eq xs ys) (λ t. apart ((bytes_eq-Decides xs ys).0 t))
 
 magic_at : (f : ℕ) (keys : List (List ℕ)) → piece 4 (committee_text f keys) 0 ≡ codes "HSC1"
 unfolding committee_text

@@ -1,7 +1,7 @@
 -- When two votes of one replica break a voting rule, and that no run of a correct replica has two such
--- votes: of the second rule where ids do not collide. The aim, to name more than a third of the replicas where two commits conflict, is that of BFT
--- Protocol Forensics (Sheng and others, CCS 2021); the two rules are this project's own. Others call the
--- first offence equivocation, and the second amnesia or a surround vote.
+-- votes: of the second rule where ids do not collide. The aim, to name more than a third of the replicas where
+-- two commits conflict, is that of BFT Protocol Forensics (Sheng and others, CCS 2021); the two rules are this
+-- project's own. Others call the first offence equivocation, and the second amnesia or a surround vote.
 use Rattle.std.specs.Prelude.{◌≡◌, ◌≢◌, ◌<◌, List, ◌∷◌}
 use Rattle.std.specs.List.{Contains}
 use Rattle.blocks.specs.Headers.{Header, NamesParent, header_id, IsGenesis}

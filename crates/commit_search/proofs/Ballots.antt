@@ -9,7 +9,7 @@ use Rattle.std.specs.Result.{is_ok}
 use Rattle.std.specs.Str.{bytes_eq}
 use Rattle.std.specs.declared.cmp.Ordering.{Ordering}
 use Rattle.std.specs.declared.cmp.Ordering.TheVariants.{Less, Equal, Greater}
-use Rattle.std.proofs.lemmas.Bool.{and_parts, cases_lt, eqb-true}
+use Rattle.std.proofs.lemmas.Bool.{and_parts, cases_lt, eqb-true, false_from_ne_true}
 use Rattle.std.proofs.lemmas.Cmp.{nat_cmp_total, nat_eq_equiv, nat_list_cmp_total, on_total, then_total, tied_itself}
 use Rattle.std.proofs.lemmas.List.Folds.{list_any_at, list_any_none}
 use Rattle.std.proofs.lemmas.List.Sorted.{searchable_from_sorted}
@@ -17,6 +17,7 @@ use Rattle.std.proofs.lemmas.Map.Lookups.{exact_bytes, exact_unsigned}
 use Rattle.std.proofs.lemmas.Slice.Eq.{bytes_eq-Decides}
 use Rattle.certificates.specs.declared.vote.SignedVote.{SignedVote}
 use Rattle.parallel_verify.specs.Votes.{IsLowerVote}
+use Rattle.parallel_verify.proofs.VoteOrder.{both_equal}
 use Rattle.accountability.specs.Commits.{has_vote, is_vote_on}
 
 -- ---- ballots
@@ -35,11 +36,6 @@ ballots_total : IsTotalOrder ballot_cmp
 ballots_total =
     then_total (then_total (on_total (λ (x : Ballot). x.0) nat_cmp_total) (on_total (λ (x : Ballot). x.1) nat_cmp_total))
     (on_total (λ (x : Ballot). x.2) nat_list_cmp_total)
-
-both_equal : (a b : Ordering) → ordering_then a b ≡ Equal → (a ≡ Equal) × (b ≡ Equal)
-both_equal Less b e = absurd cc
-both_equal Equal b e = (refl, e)
-both_equal Greater b e = absurd cc
 
 ballots_apart : (x y : Ballot) → ballot_cmp x y ≡ Equal → x ≡ y
 ballots_apart x y e =
@@ -75,10 +71,6 @@ both_true : (a b : Bool) → a ≡ true → b ≡ true → (a && b) ≡ true
 both_true true b p q = q
 both_true false b p q = p
 
-not_true : (a : Bool) → (a ≡ true → ⊥) → a ≡ false
-not_true true none = absurd (none refl)
-not_true false none = refl
-
 is_ballot : (view : ℕ) (id : List ℕ) (r : ℕ) (v : SignedVote) → ballot_of v ≡ (r, view, id) → is_vote_on view id r v ≡ true
 is_ballot view id r v same =
     subst (λ (x : Ballot). (nat_eq v.replica x.0 && (nat_eq v.view x.1 && bytes_eq v.id x.2)) ≡ true) same
@@ -110,7 +102,7 @@ found vs view id r k there ties =
 missing : (vs : List SignedVote) (view : ℕ) (id : List ℕ) (r p : ℕ) → AllPairs IsLowerVote vs → Finds vs (r, view, id) (Err p) → has_vote vs view id r ≡ false
 missing vs view id r p rising parted =
     let parts = parted (searchable vs (r, view, id) rising) in
-    list_any_none (is_vote_on view id r) vs (λ k d there. not_true _ (λ t.
+    list_any_none (is_vote_on view id r) vs (λ k d there. false_from_ne_true _ (λ t.
     let same = ballot_is view id r (get_or vs k d) t in
     let tie : ballot_cmp (ballot_of (get_or vs k d)) (r, view, id) ≡ Equal = ap (λ (x : Ballot). ballot_cmp x (r, view, id)) same ∙ tied_itself ballots_total (r, view, id) in
     not_equal _ tie (elim (cases_lt k p) [

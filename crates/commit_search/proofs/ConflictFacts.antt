@@ -16,7 +16,7 @@ use Rattle.parallel_verify.specs.Evidence.{Evidence, IsEvidence}
 use Rattle.accountability.specs.Committees.{committee_of}
 use Rattle.accountability.specs.Commits.{AreConflicting, AreFirstConflict, AreProvedCommits, HasNoConflict, IsAtMost, IsLowerBlock}
 use Rattle.commit_search.specs.declared.conflicts.ConflictingCommits.{ConflictingCommits}
-use Rattle.commit_search.specs.Pairs.{Agree, AreConflictingIn, AreFirstIn, DoConflict, IsLeastAgainst, IsNoAncestor}
+use Rattle.commit_search.specs.Pairs.{Agree, AreConflictingIn, AreFirstIn, DoConflict, IsLeastConflictWith, IsNoAncestor}
 use Rattle.commit_search.proofs.CommitFacts.{with_genesis}
 use Rattle.commit_search.proofs.Orders.{not_lower, lower_lower}
 
@@ -40,7 +40,7 @@ by_answer known x y a b false is in_a in_b named_a named_b linked test =
 -- ---- the least of rising blocks
 
 pub least_at : (known : Known) (a : Header) (bs : List Header) (i : ℕ) (b : Header) → AllPairs IsLowerBlock bs → i < length bs → b ≡ get_or bs i b → All (Agree known a) (take i bs) → DoConflict known a b
-    → IsLeastAgainst known a bs b
+    → IsLeastConflictWith known a bs b
 least_at known a bs i b rising there is before conflict = record {
   there = (i, there, sym is);
   conflict = conflict;
@@ -77,7 +77,7 @@ rises_later x xs rising i j d less there = rising (suc i) (suc j) d (omega arith
 pub none_before : (known : Known) (x : Header) (xs : List Header) → All (Agree known x) xs → AllPairs (Agree known) xs → AllPairs (Agree known) (x ∷ xs)
 none_before known x xs none others = AllPairs-cons (Agree known) x xs none others
 
-pub found_here : (known : Known) (x : Header) (xs : List Header) (b : Header) → AllPairs IsLowerBlock (x ∷ xs) → IsLeastAgainst known x xs b → AreFirstIn known (x ∷ xs) x b
+pub found_here : (known : Known) (x : Header) (xs : List Header) (b : Header) → AllPairs IsLowerBlock (x ∷ xs) → IsLeastConflictWith known x xs b → AreFirstIn known (x ∷ xs) x b
 found_here known x xs b rising least = record {
   conflicting = record {
     first = Contains-first x xs;

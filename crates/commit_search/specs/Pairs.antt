@@ -30,10 +30,12 @@ FirstAreAbove known blocks n b = All (λ a. IsAncestor (all_of known) known.gene
 
 -- .. and of all blocks that follow them
 abbrev pub IsTrunk : Known → List Header → ℕ → Type 0
-IsTrunk known blocks n = (i j : ℕ) (d : Header) → i < n → i < j → j < length blocks → IsAncestor (all_of known) known.genesis (get_or blocks i d) (get_or blocks j d)
+IsTrunk known blocks n =
+    (i j : ℕ) (d : Header) → i < n → i < j → j < length blocks
+    → IsAncestor (all_of known) known.genesis (get_or blocks i d) (get_or blocks j d)
 
 -- b is the least of these blocks that conflicts with a
-pub record IsLeastAgainst (known : Known) (a : Header) (blocks : List Header) (b : Header) : Type 0 where
+pub record IsLeastConflictWith (known : Known) (a : Header) (blocks : List Header) (b : Header) : Type 0 where
   pub there : Contains blocks b
   pub conflict : DoConflict known a b
   pub least : (y : Header) → Contains blocks y → DoConflict known a y → IsAtMost b y

@@ -6,7 +6,7 @@ ghost use Rattle.accountability.specs.Committees.{committee_of};
 ghost use Rattle.accountability.specs.Commits.{AreProvedCommits, AreFirstConflict, HasNoConflict, IsLowerBlock};
 ghost use Rattle.blocks.specs.Chains.{IsAncestor};
 ghost use Rattle.ancestry.specs.Known.{all_of, IsKnown};
-ghost use Rattle.commit_search.specs.Pairs.{Agree, AreFirstIn, DoConflict, FirstAreAbove, IsLeastAgainst, IsNoAncestor, IsTrunk, StandInOneChain};
+ghost use Rattle.commit_search.specs.Pairs.{Agree, AreFirstIn, DoConflict, FirstAreAbove, IsLeastConflictWith, IsNoAncestor, IsTrunk, StandInOneChain};
 
 use crate::same::are_same;
 use ancestry::Ancestry;
@@ -60,7 +60,7 @@ fn is_ancestor(chains: &Ancestry, a: &NamedHeader, b: &NamedHeader) -> bool
 }
 
 // How many of these blocks, which stand in one chain, are ancestors of b. They are the first ones, for an ancestor
-// of an ancestor is one: so the last of them tells.
+// of an ancestor is one: so the last of them tells. That none is left out is no clause; it only saves time.
 fn ancestors_among(chains: &Ancestry, blocks: &[NamedHeader], b: &NamedHeader) -> usize
     requires known { IsKnown chains.now }
     requires there { All (Contains (all_of chains.now)) blocks.now }
@@ -76,7 +76,8 @@ fn ancestors_among(chains: &Ancestry, blocks: &[NamedHeader], b: &NamedHeader) -
     count
 }
 
-// How many of the first blocks are ancestors of all that follow them, so that they conflict with none.
+// How many of the first blocks are ancestors of all that follow them, so that they conflict with none: the trunk
+// below the first fork. That it is no longer is no clause; it only saves time.
 fn trunk_length(chains: &Ancestry, blocks: &[NamedHeader]) -> usize
     requires known { IsKnown chains.now }
     requires there { All (Contains (all_of chains.now)) blocks.now }
@@ -97,7 +98,7 @@ fn conflict_with(chains: &Ancestry, a: &NamedHeader, blocks: &[NamedHeader]) -> 
     requires first { Contains (all_of chains.now) a.now }
     requires others { All (Contains (all_of chains.now)) blocks.now }
     requires rising { AllPairs IsLowerBlock blocks.now }
-    ensures { MatchOption result (All (Agree chains.now a.now) blocks.now) (IsLeastAgainst chains.now a.now blocks.now) }
+    ensures { MatchOption result (All (Agree chains.now a.now) blocks.now) (IsLeastConflictWith chains.now a.now blocks.now) }
 {
     for b in blocks {
         if do_conflict(chains, a, b) {
@@ -107,8 +108,8 @@ fn conflict_with(chains: &Ancestry, a: &NamedHeader, blocks: &[NamedHeader]) -> 
     None
 }
 
-// The first two of these blocks that conflict. The trunk below the first fork is passed over: in a long ledger all
-// but a few blocks stand there.
+// The first two of these blocks that conflict. The trunk conflicts with nothing and is passed over; the block behind
+// it is the first that does, so only that one is compared with all later ones.
 fn first_pair(chains: &Ancestry, blocks: &[NamedHeader]) -> Option<ConflictingCommits>
     requires known { IsKnown chains.now }
     requires there { All (Contains (all_of chains.now)) blocks.now }

@@ -26,6 +26,15 @@ fn raised(alloc: Global, block: &str, parent: &str, certificate: &str) -> Result
     Ok(entry)
 }
 
+// The entries of these blocks, their parents and certificates.
+fn raised_all(alloc: Global, texts: &[[&str; 3]]) -> Result<Vec<Vec<u8>>, Fail> {
+    let mut entries = Vec::new(alloc);
+    for [block, parent, certificate] in texts {
+        entries.push(raised(alloc, block, parent, certificate)?)?;
+    }
+    Ok(entries)
+}
+
 // The stream in which these payloads go out, as the log of replica 0.
 fn log(alloc: Global, payloads: &[Vec<u8>]) -> Result<SourceText, Fail> {
     let mut text = b"HSL1".to_vec(alloc)?;
@@ -67,46 +76,39 @@ fn no_sources_prove_no_commit(rt: HostRuntime) -> Result<(), Fail> {
 #[test]
 fn three_certified_blocks_commit_the_first(rt: HostRuntime) -> Result<(), Fail> {
     let alloc = rt.alloc();
-    let chain = [
-        raised(
-            alloc,
-            certificates::header_a2(),
-            blocks_of::a1(),
-            blocks_of::certificate_of_a1(),
-        )?,
-        raised(
-            alloc,
-            blocks_of::a3(),
-            certificates::header_a2(),
-            blocks_of::certificate_of_a2(),
-        )?,
-        raised(
-            alloc,
-            blocks_of::a4(),
-            blocks_of::a3(),
-            blocks_of::certificate_of_a3(),
-        )?,
+    let a1 = [
+        certificates::header_a2(),
+        blocks_of::a1(),
+        blocks_of::certificate_of_a1(),
     ];
-    let beside = [
-        raised(
-            alloc,
-            blocks_of::x5(),
-            blocks_of::w4(),
-            blocks_of::certificate_of_w4(),
-        )?,
-        raised(
-            alloc,
-            blocks_of::x6(),
-            blocks_of::x5(),
-            blocks_of::certificate_of_x5(),
-        )?,
+    let a2 = [
+        blocks_of::a3(),
+        certificates::header_a2(),
+        blocks_of::certificate_of_a2(),
     ];
+    let a3 = [
+        blocks_of::a4(),
+        blocks_of::a3(),
+        blocks_of::certificate_of_a3(),
+    ];
+    let w4 = [
+        blocks_of::x5(),
+        blocks_of::w4(),
+        blocks_of::certificate_of_w4(),
+    ];
+    let x5 = [
+        blocks_of::x6(),
+        blocks_of::x5(),
+        blocks_of::certificate_of_x5(),
+    ];
+    let chain = raised_all(alloc, &[a1, a2, a3])?;
+    let beside = raised_all(alloc, &[w4, x5])?;
     let sources = [log(alloc, &chain)?, log(alloc, &beside)?];
     assert_eq!(rt;
         committed_views(alloc, &sources)?.as_slice(),
         [1].as_slice()
     );
-    let two = [log(alloc, &chain[..2])?];
+    let two = [log(alloc, &raised_all(alloc, &[a1, a2])?)?];
     assert_eq!(rt; committed_views(alloc, &two)?.len(), 0);
     Ok(())
 }

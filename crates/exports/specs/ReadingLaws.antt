@@ -38,8 +38,8 @@ ALongExportIsTooLong =
 abbrev pub AreFirstOf : List (List ℕ) → List (List ℕ) → Type 0
 AreFirstOf xs ys = (more : List (List ℕ)) × (ys ≡ xs ++ more)
 
--- what came of an export that was cut anywhere reads as the first of its frames. It is Whole only where all of it came, and
--- else unfinished, so never Broken or TooLong
+-- what came of an export that was cut anywhere reads as the first of its frames. It is Whole only where all of it
+-- came, and else unfinished, so never Broken or TooLong
 abbrev pub ACutExportHasTheFirstFrames : Type 0
 ACutExportHasTheFirstFrames =
     (held first most : ℕ) (payloads : List (List ℕ)) (failed : Bool) (came lost : List ℕ) (frames : List (List ℕ)) (status : Status)

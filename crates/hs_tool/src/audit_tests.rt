@@ -2,7 +2,8 @@
 
 use crate::tests::{Outcome, new_folder, outcome_of};
 use fixtures::{
-    equal_parent_views_log, fork_logs, gap_logs, last_views_fork, lying_parent_logs, verdicts,
+    double_vote_logs, equal_parent_views_log, fork_logs, gap_logs, last_views_fork,
+    lying_parent_logs, verdicts,
 };
 use std::alloc::Global;
 use std::fs;
@@ -241,14 +242,22 @@ culprits 0
     Ok(())
 }
 
-// Sums of views would not fit here: the fork is in the last eight views that there are.
+// The fork is in the last eight views that there are, and the block of the very last is certified by own votes: a view
+// and one more would not fit.
 #[test]
 fn fork_in_the_last_views(rt: HostRuntime) -> Result<(), Fail> {
     let alloc = rt.alloc();
-    let logs = [last_views_fork::log_0(), last_views_fork::log_3()];
+    let logs = [
+        last_views_fork::log_0(),
+        last_views_fork::log_1(),
+        last_views_fork::log_2(),
+        last_views_fork::log_3(),
+    ];
     folder_of(&rt, "last", &logs)?;
     let text = "source 0 replica 0 Whole frames 4 entries 4
-source 1 replica 3 Whole frames 4 entries 4
+source 1 replica 1 Whole frames 1 entries 1
+source 2 replica 2 Whole frames 1 entries 1
+source 3 replica 3 Whole frames 4 entries 4
 commit 18446744073709551608 a21ddad9bda020b6d6ed119df08ebb111697d0b9f37efa440e2a28e42cd96afc
 commit 18446744073709551611 ce15fef12d507f338c398b83680a33295202229e49421c1c1c34fe44708ffd49
 conflict a21ddad9bda020b6d6ed119df08ebb111697d0b9f37efa440e2a28e42cd96afc ce15fef12d507f338c398b83680a33295202229e49421c1c1c34fe44708ffd49
@@ -256,11 +265,46 @@ culprit 1 rule 2 views 18446744073709551610 18446744073709551611
 culprit 2 rule 2 views 18446744073709551610 18446744073709551611
 culprits 2
 ";
-    let words = ["audit", "last/c", "last", "0=file:last/0", "3=file:last/1"];
+    let words = [
+        "audit",
+        "last/c",
+        "last",
+        "0=file:last/0",
+        "1=file:last/1",
+        "2=file:last/2",
+        "3=file:last/3",
+    ];
     prints(&rt, alloc, &words, 3, text)?;
     holds_verdict(&rt, "last/verdict-1.hsx", last_views_fork::verdict_1())?;
     holds_verdict(&rt, "last/verdict-2.hsx", last_views_fork::verdict_2())?;
     fs::remove_dir_all(&rt, "last")?;
+    Ok(())
+}
+
+// The log of a replica that the committee does not have shows nothing.
+#[test]
+fn double_vote_is_named(rt: HostRuntime) -> Result<(), Fail> {
+    let alloc = rt.alloc();
+    let logs = [double_vote_logs::log_of_a1(), double_vote_logs::log_of_b1()];
+    folder_of(&rt, "double", &logs)?;
+    let text = "source 0 replica 2 Whole frames 1 entries 1
+source 1 replica 2 Whole frames 1 entries 1
+source 2 replica 4 Whole frames 1 entries 1
+no conflict
+culprit 2 rule 1 views 1 1
+culprits 1
+";
+    let words = [
+        "audit",
+        "double/c",
+        "double",
+        "2=file:double/0",
+        "2=file:double/1",
+        "4=file:double/0",
+    ];
+    prints(&rt, alloc, &words, 3, text)?;
+    holds_verdict(&rt, "double/verdict-2.hsx", double_vote_logs::verdict())?;
+    fs::remove_dir_all(&rt, "double")?;
     Ok(())
 }
 
@@ -320,7 +364,7 @@ fn words_of_an_audit(rt: HostRuntime) -> Result<(), Fail> {
         let words = ["audit", "missing", "o", "65535=file:a", word, word];
         faults(&rt, alloc, &words, "fault source 1\n")?;
     }
-    let tries = ["audit", "missing", "o", "0=file:a", "--tries", "2"];
+    let tries = ["audit", "missing", "o", "x", "--tries", "2"];
     faults(&rt, alloc, &tries, "fault usage\n")?;
     faults(&rt, alloc, &["audit", "missing"], "fault usage\n")?;
     faults(
@@ -335,7 +379,14 @@ fn words_of_an_audit(rt: HostRuntime) -> Result<(), Fail> {
 fn files_of_an_audit(rt: HostRuntime) -> Result<(), Fail> {
     let alloc = rt.alloc();
     folder_of(&rt, "files", &[fork_logs::log_0(), fork_logs::log_3()])?;
-    let words = ["audit", "files/c", "files", "0=file:files/0", "3=file:gone"];
+    let words = [
+        "audit",
+        "files/c",
+        "files",
+        "0=file:files/0",
+        "3=file:gone",
+        "1=file:gone2",
+    ];
     faults(&rt, alloc, &words, "fault file gone\n")?;
     for committee in ["files/0", "/dev/zero"] {
         let words = ["audit", committee, "files", "3=file:gone"];

@@ -66,9 +66,9 @@ impl SigningTree {
         self.nodes[sibling((LEAVES + q) as usize >> level)]
     }
 
-    /// The signature of a message with leaf `q`, which must be below 1,024. It has 1,452 bytes: `q` at 0, the one-time signature at 4,
-    /// the tree's type at 1128 and the path from 1132 on (RFC 8554, section 5.4.1). A leaf may sign
-    /// one message only.
+    /// The signature of a message with leaf `q`, which must be below 1,024. It has 1,452 bytes: `q` at 0, the
+    /// one-time signature at 4, the tree's type at 1128 and the path from 1132 on (RFC 8554, section 5.4.1). A leaf
+    /// may sign one message only.
     #[tactic(auto, using(lmots::proofs::ChainLemmas::joined_none, lmots::proofs::ChainLemmas::joined_more))]
     pub fn sign_at(&self, q: u32, message: &[u8]) -> [u8; SIGNATURE_LEN]
         requires { q < 1024 }

@@ -1,21 +1,26 @@
 -- Verdicts on culprits in turn.
 use Rattle.std.proofs.Common.{◌≡◌, ◌⊎◌, ℕ, ◌+◌, ◌<◌, ◌≤◌, List, [], ◌∷◌, ◌++◌, length, get_or, map, inl, inr, sym, ◌∙◌, ap, subst, arith}
-use Rattle.std.specs.List.{AllPairs, Contains}
+use Rattle.std.specs.List.{All, AllPairs, Contains}
 use Rattle.std.proofs.lemmas.Bool.{cases_lt}
 use Rattle.std.proofs.lemmas.List.{get_or-map, length-map}
 use Rattle.std.proofs.lemmas.List.Elements.{All-push, All-nil, Contains-append_left, Contains-get_or, Contains-push, Contains-push_cases}
 use Rattle.std.proofs.lemmas.List.Quantifiers.{all_pairs_push}
 use Rattle.blocks.specs.Committees.{n_of}
+use Rattle.ancestry.proofs.Walks.{not_in_none}
 use Rattle.parallel_verify.specs.Evidence.{Evidence, IsEvidence}
 use Rattle.verdict_format.specs.Proofs.{IsProof}
 use Rattle.verdict_format.specs.Verdicts.{replica_in}
 use Rattle.accountability.specs.Culprits.{AreCulprits, IsCulprit}
-use Rattle.offence_search.specs.Searches.{AreVerdictsBelow}
 use Rattle.offence_search.specs.Verdicts.{Accuses, AreVerdicts, IsOnLowerReplica}
 use Rattle.offence_search.proofs.Written.{accused}
 
-not_in_none : {X : Type 0} (x : X) → Contains [] x → ⊥
-not_in_none x c = let l = c.1 in absurd (omega arith)
+-- one verdict on each culprit below n and no other, by rising replica, each of them a proof
+pub record AreVerdictsBelow (e : Evidence) (n : ℕ) (verdicts : List (List ℕ)) : Type 0 where
+  pub rising : AllPairs IsOnLowerReplica verdicts
+  pub below : (bytes : List ℕ) → Contains verdicts bytes → replica_in bytes < n
+  pub each : (bytes : List ℕ) → Contains verdicts bytes → Accuses e (replica_in bytes) bytes
+  pub all : (r : ℕ) → r < n → IsCulprit e r → (bytes : List ℕ) × Contains verdicts bytes × Accuses e r bytes
+  pub accepted : All (IsProof e.committee) verdicts
 
 pub none_yet : (e : Evidence) → AreVerdictsBelow e 0 []
 none_yet e = record {

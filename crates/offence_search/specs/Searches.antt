@@ -1,17 +1,15 @@
 -- Searching evidence for the pairs of votes that break a rule. docs/DEFINITIONS.md, "Culprits".
-use Rattle.std.specs.Prelude.{◌≡◌, ◌↔◌, ◌<◌, ◌≤◌, ℕ, List, Option, Some, None}
-use Rattle.std.specs.List.{All, AllPairs, Contains}
+use Rattle.std.specs.Prelude.{◌≡◌, ◌↔◌, ◌≤◌, ℕ, List, Option, Some, None}
+use Rattle.std.specs.List.{AllPairs, Contains}
 use Rattle.blocks.specs.Headers.{Header, header_id}
 use Rattle.certificates.specs.declared.vote.SignedVote.{SignedVote}
 use Rattle.parallel_verify.specs.Evidence.{Evidence}
 use Rattle.parallel_verify.specs.Votes.{IsLowerVote}
 use Rattle.verdict_format.specs.declared.parts.VerdictParts.{VerdictParts}
 use Rattle.verdict_format.specs.VerdictText.{IsVerdictOf}
-use Rattle.verdict_format.specs.Proofs.{IsLockViolationBy, IsProof}
-use Rattle.verdict_format.specs.Verdicts.{VotedHeaders, replica_in}
-use Rattle.accountability.specs.Culprits.{AreKnown, BreakARule, IsCulprit, IsVoteAtMost, Shows, ballot_of}
+use Rattle.verdict_format.specs.Verdicts.{VotedHeaders}
+use Rattle.accountability.specs.Culprits.{BreakARule, IsVoteAtMost, Shows}
 use Rattle.offence_search.specs.declared.pairs.Offence.{Offence}
-use Rattle.offence_search.specs.Verdicts.{Accuses, IsOnLowerReplica}
 
 -- ---- headers
 
@@ -41,7 +39,7 @@ IsNotBelowParent h = h.parent_view ≤ h.view
 
 -- the headers show that the votes are a lock violation
 abbrev pub ShowsViolation : Evidence → SignedVote → SignedVote → VotedHeaders → Type 0
-ShowsViolation e v w h = AreKnown e h × IsLockViolationBy (ballot_of v) (ballot_of w) h
+ShowsViolation e v w h = Shows e v w (Some h)
 
 -- none do
 abbrev pub IsNoViolation : Evidence → SignedVote → SignedVote → Type 0
@@ -77,14 +75,6 @@ pub record IsLeastPair (e : Evidence) (own : List SignedVote) (o : Offence) : Ty
   pub least_later : (x y : SignedVote) → Contains own x → Contains own y → BreakARule e x y → IsVoteAtMost o.later y
 
 -- ---- verdicts
-
--- one verdict on each culprit below n and no other, by rising replica, each of them a proof
-pub record AreVerdictsBelow (e : Evidence) (n : ℕ) (verdicts : List (List ℕ)) : Type 0 where
-  pub rising : AllPairs IsOnLowerReplica verdicts
-  pub below : (bytes : List ℕ) → Contains verdicts bytes → replica_in bytes < n
-  pub each : (bytes : List ℕ) → Contains verdicts bytes → Accuses e (replica_in bytes) bytes
-  pub all : (r : ℕ) → r < n → IsCulprit e r → (bytes : List ℕ) × Contains verdicts bytes × Accuses e r bytes
-  pub accepted : All (IsProof e.committee) verdicts
 
 -- the bytes are those of some verdict
 abbrev pub SpellsAVerdict : List ℕ → Type 0

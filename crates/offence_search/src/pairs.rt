@@ -7,7 +7,7 @@ ghost use Rattle.parallel_verify.specs.Votes.{IsLowerVote};
 ghost use Rattle.accountability.specs.Culprits.{IsCulprit, IsNamedPair, Shows};
 ghost use Rattle.offence_search.specs.Searches.{AreOwnVotes, IsLeastAgainst, IsLeastPair, IsNotBelowParent, NoTwoBreak, NoneBreaksWith};
 
-use crate::breach::{block_of, breach_of, views_fall};
+use crate::breach::{block_of, breach_of};
 use certificates::SignedVote;
 use parallel_verify::Evidence;
 use verdict_format::VotedHeaders;
@@ -69,9 +69,9 @@ fn least_pair(evidence: &Evidence, own: &[SignedVote]) -> Option<Offence>
 
 /// The pair of the replica's votes that is named, if the replica is a culprit.
 pub fn named_pair(evidence: &Evidence, replica: u16) -> Option<Offence>
+    requires falling { All IsNotBelowParent evidence.now.headers }
     ensures { MatchOption result (IsCulprit evidence.now replica → ⊥)
         (λ o. IsNamedPair evidence.now replica o.earlier o.later × Shows evidence.now o.earlier o.later o.headers) }
 {
-    views_fall(evidence);
     least_pair(evidence, own_votes(evidence, replica))
 }

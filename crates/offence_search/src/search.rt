@@ -7,6 +7,7 @@ ghost use Rattle.offence_search.specs.Verdicts.{AreVerdicts};
 ghost use Rattle.verdict_format.specs.Proofs.{IsProof};
 ghost use Rattle.verdict_format.specs.Verdicts.{replica_in};
 
+use crate::breach::views_fall;
 use crate::pairs::named_pair;
 use crate::verdict::{Verdict, verdict_on};
 use parallel_verify::Evidence;
@@ -21,6 +22,7 @@ pub fn verdicts_of(alloc: Global, evidence: &Evidence) -> Result<Vec<Verdict>, A
     ensures accepted { IfOk result (λ vs. All (IsProof evidence.now.committee) vs.items) }
     ensures culprits { IfOk result (λ vs. AreCulprits evidence.now (map replica_in vs.items)) }
 {
+    views_fall(evidence);
     let mut verdicts = Vec::new(alloc);
     for replica in 0..evidence.committee().n() {
         if let Some(offence) = named_pair(evidence, replica) {

@@ -47,8 +47,8 @@ pub trait Disk: Drop {
             (images_since self.new) (images self.new) }
         ensures cause { Counts (failed self.old) (failed self.new) result };
 
-    /// Writes at offset `at`, which must be at or before the end, over what is there and past the end. After a fault any part of the piece may be
-    /// there.
+    /// Writes at offset `at`, which must be at or before the end, over what is there and past the end. After a
+    /// fault any part of the piece may be there.
     fn write_at(&mut self, at: u64, piece: &[u8]) -> Result<(), Fault>
         requires { IfSome (bytes self.old) (λ bs. at ≤ length bs) }
         ensures told { OnOk result (bytes self.new ≡ option_map (λ bs.

@@ -125,9 +125,9 @@ impl<D: Disk> Journal<D> {
         }
     }
 
-    /// Adds a payload, which must not be empty. At `Ok` it is durable: from then on each crash leaves it. After `Device` the journal is
-    /// stopped, its list as before: take the disk out and recover it. Any other refusal changes nothing. In this
-    /// order: `Memory`, `Stopped`, `Full`, `TooLong`, `Device`.
+    /// Adds a payload, which must not be empty. At `Ok` it is durable: from then on each crash leaves it. After
+    /// `Device` the journal is stopped, its list as before: take the disk out and recover it. Any other refusal
+    /// changes nothing. In this order: `Memory`, `Stopped`, `Full`, `TooLong`, `Device`.
     pub fn append(&mut self, payload: &[u8]) -> Result<(), JournalError>
         requires { 0 < length payload.now }
 

@@ -1,4 +1,4 @@
-use Rattle.offence_search.specs.Searches.{AreVerdictsBelow}
+use Rattle.offence_search.proofs.Named.{AreVerdictsBelow}
 use Rattle.offence_search.proofs.search.verdicts_of.Given as goal
 
 abbrev pub invariant-loop-replica : goal.invariant-loop-replica
