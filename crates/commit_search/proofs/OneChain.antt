@@ -69,9 +69,6 @@ first_above known bs n a b is chain some there at_a above k d below =
       | inr past ↦ let at : n - 1 ≡ k = omega arith in subst (λ (h : Header). IsAncestor (all_of known) known.genesis h b) (last ∙ ap (λ (m : ℕ). get_or bs m d) at) above
     ])
 
-pub none_above : (known : Known) (bs : List Header) (b : Header) → FirstAreAbove known bs 0 b
-none_above known bs b k d below = absurd (omega (arith, below))
-
 -- ---- the trunk
 
 -- the first n blocks are ancestors of those that follow, up to the place k
