@@ -9,6 +9,3 @@ pub use ancestry::{Ancestry, header_of};
 pub use laws::{
     an_id_names_one_header, chains_end_in_genesis, genesis_may_stand_among_the_headers,
 };
-
-#[cfg(test)]
-mod tests;

@@ -6,8 +6,6 @@ mod committee;
 mod header;
 mod laws;
 mod refusal_text;
-#[cfg(test)]
-mod tests;
 
 pub use committee::{CommitteeRefusal, CommitteeView, write_committee};
 pub use header::{HEADER_LEN, Header, HeaderRefusal, Id, NamedHeader};

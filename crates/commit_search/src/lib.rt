@@ -5,8 +5,6 @@ mod certified;
 mod commits;
 mod conflicts;
 mod same;
-#[cfg(test)]
-mod tests;
 
 pub use commits::proved_commits;
 pub use conflicts::{ConflictingCommits, first_conflict};

@@ -14,6 +14,3 @@ pub use laws::{
 };
 pub use request::{REQUEST_LEN, Request};
 pub use status::Status;
-
-#[cfg(test)]
-mod tests;

@@ -1,78 +1,63 @@
-//! Blocks, checked with the certificate of their parent.
+//! Blocks, checked with the certificate of their parent: bytes of an independent program.
 
-use crate::stored::{bytes_of, certificate, of_a1, with_entries};
-use blocks::{HEADER_LEN, Header};
-use certificates::{BlockRefusal, CommitteeView, LmsVerifier, check_block};
-use fixtures::{certificates as texts, verdicts};
+use crate::stored::{certificate, committee, with_byte, with_entries};
+use blocks::Header;
+use certificates::{BlockRefusal, LmsVerifier, check_block};
+use fixtures::certificates as texts;
 use std::alloc::Global;
+use std::process::Abort;
 use std::test::Fail;
 
-fn header(text: &str) -> Result<Header, Fail> {
-    let bytes: [u8; HEADER_LEN] = bytes_of(text)?;
-    Ok(
-        Header::from_bytes(&bytes)
-            .ok()
-            .ok_or("the header is refused")?,
-    )
+// What refuses a header with this certificate of its parent, under the stored committee.
+fn refusal_of(alloc: Global, block: &[u8], parent: &[u8]) -> Result<Option<BlockRefusal>, Fail> {
+    let header = Header::from_bytes(block).ok();
+    let header = header.ok_or("the header is refused")?;
+    let parent = certificate(alloc, parent)?;
+    let checked = check_block(&committee()?, &LmsVerifier, header, parent);
+    Ok(checked.err())
 }
 
-// What refuses a header with this certificate of its parent, under the stored committee.
-fn refusal_of(alloc: Global, block: &str, parent: &[u8]) -> Result<Option<BlockRefusal>, Fail> {
-    let bytes: [u8; 232] = bytes_of(verdicts::committee())?;
-    let committee = CommitteeView::parse(&bytes)
-        .ok()
-        .ok_or("the committee is refused")?;
-    let checked = check_block(
-        &committee,
-        &LmsVerifier,
-        header(block)?,
-        certificate(alloc, parent)?,
-    );
-    Ok(checked.err())
+// Asserts what refuses A2, a block on A1, with this certificate.
+fn is_refused<R: Abort>(
+    rt: &R,
+    alloc: Global,
+    parent: &[u8],
+    want: BlockRefusal,
+) -> Result<(), Fail> {
+    let refusal = refusal_of(alloc, texts::header_a2(), parent)?;
+    assert_eq!(rt; refusal, Some(want));
+    Ok(())
 }
 
 #[test]
 fn block_refusals(rt: HostRuntime) -> Result<(), Fail> {
-    let good = of_a1()?;
-    let a2 = texts::header_a2();
-    assert_eq!(rt; refusal_of(rt.alloc(), a2, &good)?, None);
-    assert_eq!(rt;
-        refusal_of(rt.alloc(), texts::header_on_genesis(), &good)?,
-        Some(BlockRefusal::WrongBlock)
-    );
-
-    let two = with_entries(rt.alloc(), &good, &[0, 1])?;
-    assert_eq!(rt;
-        refusal_of(rt.alloc(), a2, &two)?,
-        Some(BlockRefusal::Count)
-    );
-    Ok(())
+    let alloc = rt.alloc();
+    let good = refusal_of(alloc, texts::header_a2(), texts::of_a1())?;
+    assert!(rt; good == None);
+    let on_genesis = refusal_of(alloc, texts::header_on_genesis(), texts::of_a1())?;
+    assert!(rt; on_genesis == Some(BlockRefusal::WrongBlock));
+    is_refused(
+        &rt,
+        alloc,
+        &with_entries(alloc, &[0, 1])?,
+        BlockRefusal::Count,
+    )
 }
 
+// The replica of the third entry, and the last byte of the second signature.
 #[test]
 fn votes_that_are_not_good(rt: HostRuntime) -> Result<(), Fail> {
-    let good = of_a1()?;
-    let a2 = texts::header_a2();
-    let mut stranger = good;
-    stranger[2951] = 9;
-    assert_eq!(rt;
-        refusal_of(rt.alloc(), a2, &stranger)?,
-        Some(BlockRefusal::UnknownReplica)
-    );
-
-    let mut changed = good;
-    changed[2949] ^= 1;
-    assert_eq!(rt;
-        refusal_of(rt.alloc(), a2, &changed)?,
-        Some(BlockRefusal::Signature(1))
-    );
-    Ok(())
+    let alloc = rt.alloc();
+    let stranger = with_byte(alloc, 2951, 9)?;
+    is_refused(&rt, alloc, &stranger, BlockRefusal::UnknownReplica)?;
+    let last = *texts::of_a1().get(2949).ok_or("too short")?;
+    let changed = with_byte(alloc, 2949, last ^ 1)?;
+    is_refused(&rt, alloc, &changed, BlockRefusal::Signature(1))
 }
 
 #[test]
 fn genesis_needs_no_votes(rt: HostRuntime) -> Result<(), Fail> {
-    let genesis: [u8; 42] = bytes_of(texts::of_genesis())?;
-    let on_genesis = texts::header_on_genesis();
-    assert_eq!(rt; refusal_of(rt.alloc(), on_genesis, &genesis)?, None);
+    let refusal = refusal_of(rt.alloc(), texts::header_on_genesis(), texts::of_genesis())?;
+    assert!(rt; refusal == None);
     Ok(())
 }

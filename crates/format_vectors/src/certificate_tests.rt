@@ -1,56 +1,59 @@
-//! Certificates, read, written and put together.
+//! Certificates, read, written and put together: bytes of an independent program.
 
-use crate::stored::{ENTRY, HEAD, bytes_of, certificate, of_a1, with_entries};
+use crate::stored::{ENTRY, HEAD, certificate, committee, with_entries};
 use certificates::{
     AssembleRefusal, Certificate, CertificateRefusal, CommitteeView, SignedVote, assemble,
     check_vote,
 };
-use fixtures::{certificates as texts, verdicts};
+use fixtures::certificates as texts;
 use std::alloc::Global;
+use std::process::Abort;
 use std::test::Fail;
 
 fn refusal_of(alloc: Global, bytes: &[u8]) -> Option<CertificateRefusal> {
     Certificate::read(alloc, bytes).err()
 }
 
+fn is_read_and_written<R: Abort>(
+    rt: &R,
+    alloc: Global,
+    bytes: &[u8],
+    count: usize,
+) -> Result<(), Fail> {
+    let read = certificate(alloc, bytes)?;
+    let written = read.write(alloc)?;
+    assert!(rt; read.count() == count);
+    assert!(rt; written.as_slice() == bytes);
+    Ok(())
+}
+
 // 32 entries of replicas 0 to 31, each with the first stored signature.
-fn thirty_two(alloc: Global, from: &[u8; 4404]) -> Result<Vec<u8>, Fail> {
-    let mut bytes = with_entries(alloc, from, &[0; 32])?;
+fn thirty_two(alloc: Global) -> Result<Vec<u8>, Fail> {
+    let mut bytes = with_entries(alloc, &[0; 32])?;
     for k in 0..32u8 {
-        let replica = bytes
-            .get_mut(HEAD + ENTRY * k as usize + 1)
-            .ok_or("no such entry")?;
-        *replica = k;
+        let at = HEAD + ENTRY * k as usize + 1;
+        *bytes.get_mut(at).ok_or("no such entry")? = k;
     }
     Ok(bytes)
 }
 
 #[test]
 fn certificate_refusals(rt: HostRuntime) -> Result<(), Fail> {
-    let genesis: [u8; 42] = bytes_of(texts::of_genesis())?;
-    let read = certificate(rt.alloc(), &genesis)?;
-    assert_eq!(rt; read.count(), 0);
-    assert_eq!(rt; read.write(rt.alloc())?.as_slice(), genesis.as_slice());
+    let alloc = rt.alloc();
+    is_read_and_written(&rt, alloc, texts::of_genesis(), 0)?;
+    is_read_and_written(&rt, alloc, texts::of_a1(), 3)?;
+    let short = texts::of_a1().get(..4403).ok_or("too short")?;
+    assert!(rt; refusal_of(alloc, short) == Some(CertificateRefusal::Length));
+    let falling = with_entries(alloc, &[2, 1, 0])?;
+    assert!(rt; refusal_of(alloc, &falling) == Some(CertificateRefusal::Order));
+    Ok(())
+}
 
-    let three = of_a1()?;
-    let read = certificate(rt.alloc(), &three)?;
-    assert_eq!(rt; read.count(), 3);
-    assert_eq!(rt; read.write(rt.alloc())?.as_slice(), three.as_slice());
-
-    assert_eq!(rt;
-        refusal_of(rt.alloc(), three.get(..4403).ok_or("too short")?),
-        Some(CertificateRefusal::Length)
-    );
-    assert_eq!(rt;
-        refusal_of(rt.alloc(), &with_entries(rt.alloc(), &three, &[2, 1, 0])?),
-        Some(CertificateRefusal::Order)
-    );
-    let many = thirty_two(rt.alloc(), &three)?;
-    assert_eq!(rt; many.len(), 46570);
-    assert_eq!(rt;
-        refusal_of(rt.alloc(), &many),
-        Some(CertificateRefusal::Count)
-    );
+#[test]
+fn thirty_two_entries_are_refused(rt: HostRuntime) -> Result<(), Fail> {
+    let many = thirty_two(rt.alloc())?;
+    assert!(rt; many.len() == 46570);
+    assert!(rt; refusal_of(rt.alloc(), &many) == Some(CertificateRefusal::Count));
     Ok(())
 }
 
@@ -67,21 +70,20 @@ fn assembled(
     Ok(assemble(alloc, committee, votes))
 }
 
-fn refusal_of_votes(
+fn is_refused<R: Abort>(
+    rt: &R,
     alloc: Global,
-    committee: &CommitteeView,
     votes: &[SignedVote],
-) -> Result<Option<AssembleRefusal>, Fail> {
-    Ok(assembled(alloc, committee, votes)?.err())
-}
-
-fn committee_bytes() -> Result<[u8; 232], Fail> {
-    bytes_of(verdicts::committee())
+    want: AssembleRefusal,
+) -> Result<(), Fail> {
+    let refusal = assembled(alloc, &committee()?, votes)?.err();
+    assert_eq!(rt; refusal, Some(want));
+    Ok(())
 }
 
 // The three votes for A1.
 fn votes(alloc: Global) -> Result<[SignedVote; 3], Fail> {
-    let read = certificate(alloc, &of_a1()?)?;
+    let read = certificate(alloc, texts::of_a1())?;
     if read.count() != 3 {
         return Err("not three votes".into());
     }
@@ -90,10 +92,7 @@ fn votes(alloc: Global) -> Result<[SignedVote; 3], Fail> {
 
 #[test]
 fn votes_are_good(rt: HostRuntime) -> Result<(), Fail> {
-    let bytes = committee_bytes()?;
-    let committee = CommitteeView::parse(&bytes)
-        .ok()
-        .ok_or("the committee is refused")?;
+    let committee = committee()?;
     for vote in votes(rt.alloc())? {
         assert_eq!(rt; check_vote(&committee, &vote), Ok(()));
     }
@@ -103,30 +102,27 @@ fn votes_are_good(rt: HostRuntime) -> Result<(), Fail> {
 #[test]
 fn assembled_votes(rt: HostRuntime) -> Result<(), Fail> {
     let alloc = rt.alloc();
-    let bytes = committee_bytes()?;
-    let committee = CommitteeView::parse(&bytes)
-        .ok()
-        .ok_or("the committee is refused")?;
     let [first, second, third] = votes(alloc)?;
     let other = SignedVote {
         id: [7; 32],
         ..third
     };
-    assert_eq!(rt;
-        refusal_of_votes(alloc, &committee, &[first, second])?,
-        Some(AssembleRefusal::TooFew)
-    );
-    assert_eq!(rt;
-        refusal_of_votes(alloc, &committee, &[first, second, second])?,
-        Some(AssembleRefusal::Double)
-    );
-    assert_eq!(rt;
-        refusal_of_votes(alloc, &committee, &[first, second, other])?,
-        Some(AssembleRefusal::Mixed)
-    );
-    let made = assembled(alloc, &committee, &[third, first, second])?
-        .ok()
-        .ok_or("refused")?;
-    assert_eq!(rt; made.write(alloc)?.as_slice(), of_a1()?.as_slice());
+    is_refused(&rt, alloc, &[first, second], AssembleRefusal::TooFew)?;
+    is_refused(
+        &rt,
+        alloc,
+        &[first, second, second],
+        AssembleRefusal::Double,
+    )?;
+    is_refused(&rt, alloc, &[first, second, other], AssembleRefusal::Mixed)
+}
+
+#[test]
+fn votes_in_any_order_are_assembled(rt: HostRuntime) -> Result<(), Fail> {
+    let alloc = rt.alloc();
+    let [first, second, third] = votes(alloc)?;
+    let made = assembled(alloc, &committee()?, &[third, first, second])?;
+    let text = made.ok().ok_or("refused")?.write(alloc)?;
+    assert!(rt; text.as_slice() == texts::of_a1());
     Ok(())
 }

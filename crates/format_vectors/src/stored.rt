@@ -1,7 +1,7 @@
-//! The stored certificate of A1, and what the tests share.
+//! What the tests share, over bytes of an independent program.
 
-use certificates::Certificate;
-use fixtures::certificates as texts;
+use certificates::{Certificate, CommitteeView};
+use fixtures::{certificates as texts, verdicts};
 use std::alloc::Global;
 use std::test::Fail;
 
@@ -11,35 +11,33 @@ pub const HEAD: usize = 42;
 /// The length in bytes of an entry.
 pub const ENTRY: usize = 1454;
 
-/// The bytes that a hex text spells.
-pub fn bytes_of<const N: usize>(text: &str) -> Result<[u8; N], Fail> {
-    let mut bytes = [0; N];
-    hex::decode_to_slice(text, &mut bytes).map_err(|_| "not hex of this length")?;
-    Ok(bytes)
-}
-
-/// The certificate of A1 with the votes of replicas 0, 1 and 2.
-pub fn of_a1() -> Result<[u8; 4404], Fail> {
-    bytes_of(texts::of_a1())
+/// The stored committee.
+pub fn committee() -> Result<CommitteeView<'static>, Fail> {
+    let committee = CommitteeView::parse(verdicts::committee()).ok();
+    Ok(committee.ok_or("the committee is refused")?)
 }
 
 /// The certificate that the bytes spell.
 pub fn certificate(alloc: Global, bytes: &[u8]) -> Result<Certificate, Fail> {
-    Ok(
-        Certificate::read(alloc, bytes)
-            .ok()
-            .ok_or("the certificate is refused")?,
-    )
+    let certificate = Certificate::read(alloc, bytes).ok();
+    Ok(certificate.ok_or("the certificate is refused")?)
 }
 
-/// The stored entries at these places, under a head that names as many.
-pub fn with_entries(alloc: Global, from: &[u8; 4404], places: &[usize]) -> Result<Vec<u8>, Fail> {
-    let mut bytes = from[..HEAD].to_vec(alloc)?;
+/// The certificate of A1 with this byte at a place.
+pub fn with_byte(alloc: Global, at: usize, byte: u8) -> Result<Vec<u8>, Fail> {
+    let mut bytes = texts::of_a1().to_vec(alloc)?;
+    *bytes.get_mut(at).ok_or("no such byte")? = byte;
+    Ok(bytes)
+}
+
+/// The entries at these places of the certificate of A1, under a head that names as many.
+pub fn with_entries(alloc: Global, places: &[usize]) -> Result<Vec<u8>, Fail> {
+    let from = texts::of_a1();
+    let mut bytes = from.get(..HEAD).ok_or("too short")?.to_vec(alloc)?;
     for k in places {
         let entry = from.get(HEAD + ENTRY * (*k % 3)..).ok_or("no such entry")?;
         bytes.extend_from_slice(entry.get(..ENTRY).ok_or("no such entry")?)?;
     }
-    let count = bytes.get_mut(41).ok_or("no count")?;
-    *count = (places.len() % 256) as u8;
+    *bytes.get_mut(41).ok_or("no count")? = (places.len() % 256) as u8;
     Ok(bytes)
 }

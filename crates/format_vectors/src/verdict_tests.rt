@@ -1,9 +1,15 @@
-//! Verdicts, read and written.
+//! Verdicts, read and written: bytes of an independent program.
 
-use crate::stored::bytes_of;
 use fixtures::verdicts;
+use std::alloc::Global;
+use std::process::Abort;
 use std::test::Fail;
-use verdict_format::{BoundVote, VerdictParts, VerdictView, VoteView, write_verdict};
+use verdict_format::{BoundVote, Rule, VerdictParts, VerdictView, VoteView, write_verdict};
+
+fn parsed(bytes: &[u8]) -> Result<VerdictView<'_>, Fail> {
+    let verdict = VerdictView::parse(bytes).ok();
+    Ok(verdict.ok_or("the verdict is refused")?)
+}
 
 fn bound(vote: &VoteView) -> Result<BoundVote, Fail> {
     let mut signature = [0; 1452];
@@ -18,46 +24,44 @@ fn bound(vote: &VoteView) -> Result<BoundVote, Fail> {
     })
 }
 
-#[test]
-fn lock_violation_written_again(rt: HostRuntime) -> Result<(), Fail> {
-    let bytes: [u8; 3275] = bytes_of(verdicts::lock_violation())?;
-    let verdict = VerdictView::parse(&bytes)
-        .ok()
-        .ok_or("the verdict is refused")?;
-    let headers = verdict.headers().ok_or("a header is unreadable")?;
-    assert_eq!(rt; headers.earlier.view, 3);
-    assert_eq!(rt; headers.parent.parent_view, 1);
-    assert_eq!(rt; headers.later.parent_view, 0);
-    let parts = VerdictParts {
+fn parts_of(verdict: &VerdictView) -> Result<VerdictParts, Fail> {
+    Ok(VerdictParts {
         chain: verdict.chain(),
         replica: verdict.replica(),
         earlier: bound(&verdict.earlier())?,
         later: bound(&verdict.later())?,
-        headers: Some(headers),
-    };
-    assert_eq!(rt;
-        write_verdict(rt.alloc(), &parts)?.as_slice(),
-        bytes.as_slice()
-    );
+        headers: verdict.headers(),
+    })
+}
+
+fn is_written_again<R: Abort>(
+    rt: &R,
+    alloc: Global,
+    verdict: &VerdictView,
+    bytes: &[u8],
+) -> Result<(), Fail> {
+    let text = write_verdict(alloc, &parts_of(verdict)?)?;
+    assert!(rt; text.as_slice() == bytes);
     Ok(())
 }
 
 #[test]
+fn lock_violation_written_again(rt: HostRuntime) -> Result<(), Fail> {
+    let verdict = parsed(verdicts::lock_violation())?;
+    let headers = verdict.headers().ok_or("a header is unreadable")?;
+    assert!(rt; headers.earlier.view == 3);
+    assert!(rt; headers.parent.parent_view == 1);
+    assert!(rt; headers.later.parent_view == 0);
+    is_written_again(&rt, rt.alloc(), &verdict, verdicts::lock_violation())
+}
+
+#[test]
 fn double_vote_written_again(rt: HostRuntime) -> Result<(), Fail> {
-    let bytes: [u8; 3023] = bytes_of(verdicts::double_vote())?;
-    let verdict = VerdictView::parse(&bytes)
-        .ok()
-        .ok_or("the verdict is refused")?;
-    let parts = VerdictParts {
-        chain: verdict.chain(),
-        replica: verdict.replica(),
-        earlier: bound(&verdict.earlier())?,
-        later: bound(&verdict.later())?,
-        headers: None,
-    };
-    assert_eq!(rt;
-        write_verdict(rt.alloc(), &parts)?.as_slice(),
-        bytes.as_slice()
-    );
-    Ok(())
+    let verdict = parsed(verdicts::double_vote())?;
+    assert!(rt; verdict.rule() == Rule::DoubleVote);
+    assert!(rt; verdict.replica() == 2);
+    assert!(rt; verdict.earlier().view == 7);
+    assert!(rt; verdict.later().view == 7);
+    assert!(rt; verdict.headers().is_none());
+    is_written_again(&rt, rt.alloc(), &verdict, verdicts::double_vote())
 }

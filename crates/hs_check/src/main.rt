@@ -2,18 +2,7 @@
 //! hex digits on standard input. docs/hs_check.md is its manual page.
 #![tactic(auto)]
 
-mod fault;
-mod input;
-mod judge;
-mod line;
-mod program;
-#[cfg(test)]
-mod program_tests;
-#[cfg(test)]
-mod tests;
-
-use fault::Fault;
-use input::unless_memory;
+use check_command::{FAULT, Fault, run_program, unless_memory};
 use std::env;
 use std::process::ExitCode;
 use streams::StdSink;
@@ -25,12 +14,12 @@ fn main(rt: HostRuntime) -> ExitCode {
         Ok(words) => words.skip(1).collect::<Vec<String>>(rt.alloc()),
         Err(error) => {
             unless_memory(&error, Fault::Usage).tell(&mut faults);
-            return ExitCode::from(judge::FAULT);
+            return ExitCode::from(FAULT);
         }
     };
     let Ok(words) = words else {
         Fault::Memory.tell(&mut faults);
-        return ExitCode::from(judge::FAULT);
+        return ExitCode::from(FAULT);
     };
-    ExitCode::from(program::run(&rt, rt.alloc(), &words, rt.stdin(), &mut out, &mut faults))
+    ExitCode::from(run_program(&rt, rt.alloc(), &words, rt.stdin(), &mut out, &mut faults))
 }

@@ -1,25 +1,10 @@
 //! The operator's tool: `hs_tool COMMAND ..`. docs/hs_tool.md is its manual page.
 #![tactic(auto)]
 
-mod audit;
-#[cfg(test)]
-mod audit_tests;
-mod committee;
-#[cfg(test)]
-mod committee_tests;
-mod fault;
-mod files;
-mod folder;
-mod keygen;
-#[cfg(test)]
-mod tests;
-mod tool;
-mod words;
-
-use fault::Fault;
 use std::env;
 use std::process::ExitCode;
 use streams::{StdFeed, StdSink};
+use tool_commands::{FAULT, Fault, run_tool};
 
 fn main(rt: HostRuntime) -> ExitCode {
     let mut lines = StdFeed::new(rt.stdin());
@@ -29,15 +14,15 @@ fn main(rt: HostRuntime) -> ExitCode {
         Ok(words) => words.skip(1).collect::<Vec<String>>(rt.alloc()),
         Err(error) => {
             Fault::unless_memory(&error, Fault::Usage).tell(&mut faults);
-            return ExitCode::from(tool::FAULT);
+            return ExitCode::from(FAULT);
         }
     };
     let words = match words {
         Ok(words) => words,
         Err(error) => {
             Fault::Memory(error).tell(&mut faults);
-            return ExitCode::from(tool::FAULT);
+            return ExitCode::from(FAULT);
         }
     };
-    ExitCode::from(tool::run_tool(&rt, rt.alloc(), &words, &mut lines, &mut out, &mut faults))
+    ExitCode::from(run_tool(&rt, rt.alloc(), &words, &mut lines, &mut out, &mut faults))
 }

@@ -6,6 +6,3 @@ mod store;
 
 pub use error::IndexError;
 pub use store::IndexStore;
-
-#[cfg(test)]
-mod tests;

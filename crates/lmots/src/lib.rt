@@ -8,4 +8,6 @@ mod signatures;
 
 pub use chains::prefix;
 pub use keys::{PrivateSeed, ots_public};
-pub use signatures::{OTS_SIGNATURE_LEN, OTS_TYPE, OtsRefusal, ots_candidate, ots_sign};
+pub use signatures::{
+    OTS_SIGNATURE_LEN, OTS_TYPE, OtsRefusal, coefficients, ots_candidate, ots_sign,
+};

@@ -50,8 +50,10 @@ fn checksum(hash: &[u8; 32]) -> u16
     steps_left
 }
 
+/// How many steps each chain goes for a digest, 34 bytes: the 32 bytes of the digest, and then the two bytes
+/// of its checksum, which counts the steps that the digest leaves out (RFC 8554, sections 4.4 to 4.6).
 #[tactic(auto, using(wire::proofs::Numbers::filled), unfolding(crate::specs::Signatures::coefficients))]
-fn coefficients(hash: &[u8; 32]) -> [u8; 34]
+pub fn coefficients(hash: &[u8; 32]) -> [u8; 34]
     ensures { result ≡ coefficients hash.now }
 {
     let mut all = [0; 34];
@@ -158,17 +160,4 @@ pub fn ots_candidate(
         hasher.update(continued(key_id, q, &coefficients, signature, i));
     }
     Ok(hasher.finalize())
-}
-
-#[cfg(test)]
-mod tests {
-    use super::*;
-
-    #[test]
-    fn checksum_extremes(rt: HostRuntime) {
-        let none_stepped = coefficients(&[0x00; 32]);
-        assert_eq!(rt; (none_stepped[32], none_stepped[33]), (0x1f, 0xe0));
-        let all_stepped = coefficients(&[0xff; 32]);
-        assert_eq!(rt; (all_stepped[32], all_stepped[33]), (0x00, 0x00));
-    }
 }

@@ -4,8 +4,6 @@
 mod breach;
 mod pairs;
 mod search;
-#[cfg(test)]
-mod tests;
 mod verdict;
 
 pub use search::verdicts_of;

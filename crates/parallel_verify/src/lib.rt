@@ -4,14 +4,10 @@
 
 mod batch;
 mod evidence;
-#[cfg(test)]
-mod fork_tests;
 mod gathering;
 mod headers;
 mod refusal;
 mod source;
-#[cfg(test)]
-mod tests;
 mod votes;
 
 pub use batch::verify_all;

@@ -9,8 +9,6 @@ mod replica;
 mod restart;
 mod stored;
 mod table;
-#[cfg(test)]
-mod tests;
 
 pub use durable::{Durable, Lock};
 pub use plan::{Act, Plan};

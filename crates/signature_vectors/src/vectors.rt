@@ -4,14 +4,21 @@ ghost use Rattle.std.specs.Prelude.{◌<◌};
 
 use fixtures::{one_time_keys, signatures};
 use lmots::PrivateSeed;
-use std::test::Fail;
 
-/// A one-time key and a signature under it, in hex.
-#[derive(Drop)]
+/// A one-time key and a signature under it.
+#[derive(Clone, Copy)]
 pub struct Vector {
     pub leaf: u32,
-    pub one_time_key: &'static str,
-    pub signature: &'static str,
+    pub one_time_key: &'static [u8],
+    pub signature: &'static [u8],
+}
+
+fn vector_of(leaf: u32, one_time_key: &'static [u8], signature: &'static [u8]) -> Vector {
+    Vector {
+        leaf,
+        one_time_key,
+        signature,
+    }
 }
 
 /// The messages, one for each leaf that is used.
@@ -54,13 +61,6 @@ fn rising<const N: usize>(by: u8) -> [u8; N] {
     bytes
 }
 
-/// The bytes that a hex text spells.
-pub fn bytes_of<const N: usize>(text: &str) -> Result<[u8; N], Fail> {
-    let mut bytes = [0; N];
-    hex::decode_to_slice(text, &mut bytes).map_err(|_| "not hex of this length")?;
-    Ok(bytes)
-}
-
 /// The seed of replica `r`.
 pub fn seed(r: u8) -> PrivateSeed
     requires { r < 100 }
@@ -89,122 +89,98 @@ pub fn counting_seed() -> PrivateSeed {
 /// The vectors of key 0.
 pub fn key_0() -> [Vector; 7] {
     [
-        Vector {
-            leaf: 0,
-            one_time_key: one_time_keys::key_0_leaf_0(),
-            signature: signatures::key_0_leaf_0(),
-        },
-        Vector {
-            leaf: 1,
-            one_time_key: one_time_keys::key_0_leaf_1(),
-            signature: signatures::key_0_leaf_1(),
-        },
-        Vector {
-            leaf: 2,
-            one_time_key: one_time_keys::key_0_leaf_2(),
-            signature: signatures::key_0_leaf_2(),
-        },
-        Vector {
-            leaf: 511,
-            one_time_key: one_time_keys::key_0_leaf_511(),
-            signature: signatures::key_0_leaf_511(),
-        },
-        Vector {
-            leaf: 512,
-            one_time_key: one_time_keys::key_0_leaf_512(),
-            signature: signatures::key_0_leaf_512(),
-        },
-        Vector {
-            leaf: 1022,
-            one_time_key: one_time_keys::key_0_leaf_1022(),
-            signature: signatures::key_0_leaf_1022(),
-        },
-        Vector {
-            leaf: 1023,
-            one_time_key: one_time_keys::key_0_leaf_1023(),
-            signature: signatures::key_0_leaf_1023(),
-        },
+        vector_of(0, one_time_keys::key_0_leaf_0(), signatures::key_0_leaf_0()),
+        vector_of(1, one_time_keys::key_0_leaf_1(), signatures::key_0_leaf_1()),
+        vector_of(2, one_time_keys::key_0_leaf_2(), signatures::key_0_leaf_2()),
+        vector_of(
+            511,
+            one_time_keys::key_0_leaf_511(),
+            signatures::key_0_leaf_511(),
+        ),
+        vector_of(
+            512,
+            one_time_keys::key_0_leaf_512(),
+            signatures::key_0_leaf_512(),
+        ),
+        vector_of(
+            1022,
+            one_time_keys::key_0_leaf_1022(),
+            signatures::key_0_leaf_1022(),
+        ),
+        vector_of(
+            1023,
+            one_time_keys::key_0_leaf_1023(),
+            signatures::key_0_leaf_1023(),
+        ),
     ]
 }
 
 /// The vectors of key 2.
 pub fn key_2() -> [Vector; 7] {
     [
-        Vector {
-            leaf: 0,
-            one_time_key: one_time_keys::key_2_leaf_0(),
-            signature: signatures::key_2_leaf_0(),
-        },
-        Vector {
-            leaf: 1,
-            one_time_key: one_time_keys::key_2_leaf_1(),
-            signature: signatures::key_2_leaf_1(),
-        },
-        Vector {
-            leaf: 2,
-            one_time_key: one_time_keys::key_2_leaf_2(),
-            signature: signatures::key_2_leaf_2(),
-        },
-        Vector {
-            leaf: 511,
-            one_time_key: one_time_keys::key_2_leaf_511(),
-            signature: signatures::key_2_leaf_511(),
-        },
-        Vector {
-            leaf: 512,
-            one_time_key: one_time_keys::key_2_leaf_512(),
-            signature: signatures::key_2_leaf_512(),
-        },
-        Vector {
-            leaf: 1022,
-            one_time_key: one_time_keys::key_2_leaf_1022(),
-            signature: signatures::key_2_leaf_1022(),
-        },
-        Vector {
-            leaf: 1023,
-            one_time_key: one_time_keys::key_2_leaf_1023(),
-            signature: signatures::key_2_leaf_1023(),
-        },
+        vector_of(0, one_time_keys::key_2_leaf_0(), signatures::key_2_leaf_0()),
+        vector_of(1, one_time_keys::key_2_leaf_1(), signatures::key_2_leaf_1()),
+        vector_of(2, one_time_keys::key_2_leaf_2(), signatures::key_2_leaf_2()),
+        vector_of(
+            511,
+            one_time_keys::key_2_leaf_511(),
+            signatures::key_2_leaf_511(),
+        ),
+        vector_of(
+            512,
+            one_time_keys::key_2_leaf_512(),
+            signatures::key_2_leaf_512(),
+        ),
+        vector_of(
+            1022,
+            one_time_keys::key_2_leaf_1022(),
+            signatures::key_2_leaf_1022(),
+        ),
+        vector_of(
+            1023,
+            one_time_keys::key_2_leaf_1023(),
+            signatures::key_2_leaf_1023(),
+        ),
     ]
 }
 
 /// The vectors of the counting key.
 pub fn counting_key() -> [Vector; 7] {
     [
-        Vector {
-            leaf: 0,
-            one_time_key: one_time_keys::counting_key_leaf_0(),
-            signature: signatures::counting_key_leaf_0(),
-        },
-        Vector {
-            leaf: 1,
-            one_time_key: one_time_keys::counting_key_leaf_1(),
-            signature: signatures::counting_key_leaf_1(),
-        },
-        Vector {
-            leaf: 2,
-            one_time_key: one_time_keys::counting_key_leaf_2(),
-            signature: signatures::counting_key_leaf_2(),
-        },
-        Vector {
-            leaf: 511,
-            one_time_key: one_time_keys::counting_key_leaf_511(),
-            signature: signatures::counting_key_leaf_511(),
-        },
-        Vector {
-            leaf: 512,
-            one_time_key: one_time_keys::counting_key_leaf_512(),
-            signature: signatures::counting_key_leaf_512(),
-        },
-        Vector {
-            leaf: 1022,
-            one_time_key: one_time_keys::counting_key_leaf_1022(),
-            signature: signatures::counting_key_leaf_1022(),
-        },
-        Vector {
-            leaf: 1023,
-            one_time_key: one_time_keys::counting_key_leaf_1023(),
-            signature: signatures::counting_key_leaf_1023(),
-        },
+        vector_of(
+            0,
+            one_time_keys::counting_key_leaf_0(),
+            signatures::counting_key_leaf_0(),
+        ),
+        vector_of(
+            1,
+            one_time_keys::counting_key_leaf_1(),
+            signatures::counting_key_leaf_1(),
+        ),
+        vector_of(
+            2,
+            one_time_keys::counting_key_leaf_2(),
+            signatures::counting_key_leaf_2(),
+        ),
+        vector_of(
+            511,
+            one_time_keys::counting_key_leaf_511(),
+            signatures::counting_key_leaf_511(),
+        ),
+        vector_of(
+            512,
+            one_time_keys::counting_key_leaf_512(),
+            signatures::counting_key_leaf_512(),
+        ),
+        vector_of(
+            1022,
+            one_time_keys::counting_key_leaf_1022(),
+            signatures::counting_key_leaf_1022(),
+        ),
+        vector_of(
+            1023,
+            one_time_keys::counting_key_leaf_1023(),
+            signatures::counting_key_leaf_1023(),
+        ),
     ]
 }

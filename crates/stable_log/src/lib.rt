@@ -16,8 +16,3 @@ pub use file_disk::FileDisk;
 pub use journal::Journal;
 pub use laws::an_image_stands_for_one_list;
 pub use memory_disk::{Choice, MemoryDisk};
-
-#[cfg(test)]
-mod order_tests;
-#[cfg(test)]
-mod tests;

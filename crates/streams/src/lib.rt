@@ -9,8 +9,6 @@ mod memory_sink;
 mod sink;
 mod std_feed;
 mod std_sink;
-#[cfg(test)]
-mod tests;
 mod text;
 
 pub use feed::Feed;

@@ -2,16 +2,10 @@
 #![tactic(auto)]
 
 mod entry;
-#[cfg(test)]
-mod entry_tests;
 mod export;
 mod export_error;
-#[cfg(test)]
-mod export_tests;
 mod log;
 mod log_error;
-#[cfg(test)]
-mod log_tests;
 mod reading;
 
 pub use entry::{Entry, EntryRefusal, entries_have_one_spelling};

@@ -1,0 +1,5 @@
+//! Tests of headers and committees, with ids and roots of an independent program. No handle.
+#![tactic(auto)]
+
+#[cfg(test)]
+mod header_tests;

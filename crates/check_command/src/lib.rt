@@ -1,0 +1,14 @@
+//! The judgement of a verdict, from words, files and streams to the line that is printed. Needs no threads or network;
+//! files and streams are handed in.
+#![tactic(auto)]
+
+mod fault;
+mod input;
+mod judge;
+mod line;
+mod program;
+
+pub use fault::Fault;
+pub use input::{Texts, unless_memory};
+pub use judge::{ACCEPTED, FAULT, REFUSED, run_check};
+pub use program::run_program;

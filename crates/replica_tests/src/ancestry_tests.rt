@@ -1,0 +1,205 @@
+//! Ancestors in a stored fork. Headers and ids are those of an independent program.
+
+ghost use Rattle.std.specs.Prelude.{IsTrue};
+ghost use Rattle.std.specs.List.{AllPairs};
+ghost use Rattle.blocks.specs.Headers.{HasLowerId, IsGenesis};
+ghost use Rattle.ancestry.specs.Known.{IsAloneAmong};
+
+use ancestry::Ancestry;
+use blocks::{Header, Id, NamedHeader};
+use fixtures::fork_headers as fork;
+use std::alloc::Global;
+use std::cmp::Ordering;
+use std::test::Fail;
+
+fn stored(text: &[u8]) -> Result<NamedHeader, Fail> {
+    let header = Header::from_bytes(text).ok();
+    Ok(NamedHeader::of(header.ok_or("the header is refused")?))
+}
+
+fn is_genesis(h: &NamedHeader) -> bool
+    ensures { IsTrue result → IsGenesis h.now }
+{
+    h.header().view == 0 && h.header().parent_view == 0
+}
+
+fn is_lower(a: &NamedHeader, b: &NamedHeader) -> bool
+    ensures { IsTrue result → HasLowerId a.now b.now }
+{
+    match a.id().cmp(b.id()) {
+        Ordering::Less => true,
+        _ => false,
+    }
+}
+
+// Whether ids rise.
+fn rise(headers: &[NamedHeader]) -> bool
+    ensures { IsTrue result → AllPairs HasLowerId headers.now }
+{
+    for k in 1..headers.len() {
+        if !is_lower(&headers[k - 1], &headers[k]) {
+            return false;
+        }
+    }
+    true
+}
+
+// Whether none has the id of genesis.
+fn are_others(genesis: &NamedHeader, headers: &[NamedHeader]) -> bool
+    ensures { IsTrue result → IsAloneAmong genesis.now headers.now }
+{
+    for h in headers {
+        if h.id() == genesis.id() {
+            return false;
+        }
+    }
+    true
+}
+
+// The headers that the texts spell.
+fn headers(alloc: Global, texts: &[&'static [u8]]) -> Result<Vec<NamedHeader>, Fail> {
+    let mut headers = Vec::new(alloc);
+    for text in texts {
+        headers.push(stored(text)?)?;
+    }
+    Ok(headers)
+}
+
+// The index of genesis and of these headers.
+fn index(alloc: Global, mut headers: Vec<NamedHeader>) -> Result<Ancestry, Fail> {
+    let genesis = stored(fork::genesis())?;
+    headers.sort_unstable_by_key(|h| *h.id());
+    if is_genesis(&genesis) && rise(&headers) && are_others(&genesis, &headers) {
+        Ok(Ancestry::build(alloc, genesis, &headers)?)
+    } else {
+        Err("no index".into())
+    }
+}
+
+// The index of both branches.
+fn fork_index(alloc: Global) -> Result<Ancestry, Fail> {
+    let texts = [
+        fork::a1(),
+        fork::a2(),
+        fork::a3(),
+        fork::a7(),
+        fork::b4(),
+        fork::b5(),
+        fork::b6(),
+        fork::b8(),
+    ];
+    index(alloc, headers(alloc, &texts)?)
+}
+
+// Whether the block of the first header is an ancestor of that of the second.
+fn is_ancestor(known: &Ancestry, first: &[u8], second: &[u8]) -> Result<Option<bool>, Fail> {
+    let first = stored(first)?;
+    let second = stored(second)?;
+    Ok(known.is_ancestor(first.id(), second.id()))
+}
+
+// Whether the block of this header has a chain.
+fn is_linked(known: &Ancestry, text: &[u8]) -> Result<bool, Fail> {
+    Ok(known.linked(stored(text)?.id()))
+}
+
+// An id that no block has.
+const STRANGE: Id = [7; 32];
+
+// Each block is an ancestor of those on it, on its side alone.
+#[test]
+fn ancestors_of_a_fork(rt: HostRuntime) -> Result<(), Fail> {
+    let known = fork_index(rt.alloc())?;
+    for (case, first, second, want) in [
+        ("A1 of A3", fork::a1(), fork::a3(), true),
+        ("A3 of A3", fork::a3(), fork::a3(), false),
+        ("A1 of B4", fork::a1(), fork::b4(), false),
+        ("A3 of A1", fork::a3(), fork::a1(), false),
+        ("A1 of A7", fork::a1(), fork::a7(), true),
+        ("B4 of B8", fork::b4(), fork::b8(), true),
+        ("genesis of B8", fork::genesis(), fork::b8(), true),
+        ("B8 of genesis", fork::b8(), fork::genesis(), false),
+    ] {
+        let found = is_ancestor(&known, first, second)?;
+        assert!(rt; found == Some(want), "{case}");
+    }
+    Ok(())
+}
+
+#[test]
+fn a_strange_id_has_no_place(rt: HostRuntime) -> Result<(), Fail> {
+    let known = fork_index(rt.alloc())?;
+    let a1 = stored(fork::a1())?;
+    assert!(rt; known.is_ancestor(a1.id(), &STRANGE) == None);
+    assert!(rt; known.is_ancestor(&STRANGE, a1.id()) == None);
+    assert!(rt; !known.linked(&STRANGE));
+    Ok(())
+}
+
+// The stored ids are those of an independent program.
+#[test]
+fn a_block_is_found_by_its_id(rt: HostRuntime) -> Result<(), Fail> {
+    let known = fork_index(rt.alloc())?;
+    let a3 = fork::id_of_a3().as_array().ok_or("no id")?;
+    assert!(rt; known.linked(a3));
+    let b8 = is_linked(&known, fork::b8())?;
+    assert!(rt; b8);
+    Ok(())
+}
+
+// Genesis is linked though it is not among the headers, and without its parent a block is not.
+#[test]
+fn a_missing_parent_ends_the_chain(rt: HostRuntime) -> Result<(), Fail> {
+    let headers = headers(rt.alloc(), &[fork::a1(), fork::a3(), fork::a7()])?;
+    let known = index(rt.alloc(), headers)?;
+    for (case, text, want) in [
+        ("genesis", fork::genesis(), true),
+        ("A1", fork::a1(), true),
+        ("A3", fork::a3(), false),
+        ("A7", fork::a7(), false),
+    ] {
+        let linked = is_linked(&known, text)?;
+        assert!(rt; linked == want, "{case}");
+    }
+    let found = is_ancestor(&known, fork::a3(), fork::a7())?;
+    assert!(rt; found == None);
+    Ok(())
+}
+
+// A header on this parent, which it says has the view 2.
+fn lying_on(parent: &NamedHeader) -> NamedHeader {
+    NamedHeader::of(Header {
+        view: 9,
+        parent_view: 2,
+        parent: *parent.id(),
+        payload: [0; 32],
+    })
+}
+
+// A header on this parent, which has the view 9.
+fn above(parent: &NamedHeader) -> NamedHeader {
+    NamedHeader::of(Header {
+        view: 10,
+        parent_view: 9,
+        parent: *parent.id(),
+        payload: [0; 32],
+    })
+}
+
+// A header whose parent's view is not that of its parent has no chain, and nothing that stands on it has one.
+#[test]
+fn lying_parent_view(rt: HostRuntime) -> Result<(), Fail> {
+    let a1 = stored(fork::a1())?;
+    let a3 = stored(fork::a3())?;
+    let lying = lying_on(&a3);
+    let above = above(&lying);
+    let mut headers = headers(rt.alloc(), &[fork::a1(), fork::a2(), fork::a3()])?;
+    headers.push(lying)?;
+    headers.push(above)?;
+    let known = index(rt.alloc(), headers)?;
+    assert!(rt; known.linked(a3.id()));
+    assert!(rt; !known.linked(lying.id()));
+    assert!(rt; !known.linked(above.id()));
+    assert!(rt; known.is_ancestor(a1.id(), lying.id()) == None);
+    Ok(())
+}

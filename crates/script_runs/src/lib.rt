@@ -1,0 +1,11 @@
+//! Runs scripts of commands over files, and prints a transcript of what each did. Needs no threads or network; files,
+//! input and output are handed in.
+#![tactic(auto)]
+
+mod file_commands;
+mod line;
+mod programs;
+mod script;
+
+pub use programs::Programs;
+pub use script::run_script;

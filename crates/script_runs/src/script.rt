@@ -1,0 +1,84 @@
+//! The script as a whole, and its transcript.
+
+use crate::file_commands::answer;
+use crate::line::{Line, line_of};
+use crate::programs::Programs;
+use std::fs::{File, Files};
+use std::io::Write;
+use std::{fs, io};
+use streams::MemorySink;
+
+/// Runs the script on standard input, and prints a transcript: each line behind `> `, and then what it did. Comments
+/// (`#`) and empty lines are printed as they are. What fails says so, and the script goes on.
+///
+/// `NAME WORD.. [< FILE] [> full]` runs a program, and prints its output, behind `! ` its faults, and its status; `''` is
+/// the empty word, `< FILE` its standard input, and with `> full` its standard output takes nothing. The other lines are
+/// commands about files: `same FILE FILE`, `absent FILE`, `length FILE`, `mode FILE`, `folder FOLDER` for a new one,
+/// `join FILE PART..` to make a file of others, one behind the other, and `zeros COUNT FILE` to make one of digits 0.
+pub fn run_script<R: Files<File = File> + Input + Print + AllocGlobal, P: Programs>(
+    rt: &R,
+    programs: &P,
+) -> io::Result<()> {
+    for line in rt.lines(rt.alloc()) {
+        let line = line?;
+        if line.is_empty() || line.starts_with('#') {
+            println!(rt; "{line}")?;
+        } else {
+            println!(rt; "> {line}")?;
+            run_line(rt, programs, &line)?;
+        }
+    }
+    Ok(())
+}
+
+fn run_line<R: Files<File = File> + Print + AllocGlobal, P: Programs>(
+    rt: &R,
+    programs: &P,
+    line: &str,
+) -> io::Result<()> {
+    let words = line.split(' ').collect::<Vec<&str>>(rt.alloc())?;
+    match answer(rt, &words) {
+        Ok(Some(answer)) => println!(rt; "{answer}"),
+        Ok(None) => run_program(rt, programs, &words),
+        Err(_) => println!(rt; "failed"),
+    }
+}
+
+fn run_program<R: Files<File = File> + Print + AllocGlobal, P: Programs>(
+    rt: &R,
+    programs: &P,
+    words: &[&str],
+) -> io::Result<()> {
+    let alloc = rt.alloc();
+    let line = line_of(alloc, words)?;
+    let Ok(input) = input_of(rt, &line) else {
+        return println!(rt; "no input");
+    };
+    let mut out = MemorySink::new(alloc);
+    if line.is_full {
+        out.fuse(0, true);
+    }
+    let mut faults = MemorySink::new(alloc);
+    let status = programs.run(line.name, &line.words, &input, &mut out, &mut faults);
+    print_run(rt, out.bytes(), faults.bytes(), status)
+}
+
+fn print_run<R: Print>(rt: &R, out: &[u8], faults: &[u8], status: Option<u8>) -> io::Result<()> {
+    io::writer(rt).write_all(out)?;
+    if !faults.is_empty() {
+        print!(rt; "! ")?;
+        io::writer(rt).write_all(faults)?;
+    }
+    match status {
+        Some(status) => println!(rt; "status {status}"),
+        None => println!(rt; "no such program"),
+    }
+}
+
+// The bytes of the file that the line names, or none.
+fn input_of<R: Files<File = File> + AllocGlobal>(rt: &R, line: &Line<'_>) -> io::Result<Vec<u8>> {
+    match line.input {
+        Some(path) => fs::read(rt, path),
+        None => Ok(Vec::new(rt.alloc())),
+    }
+}

@@ -1,0 +1,12 @@
+//! The commands of the operator's tool, over handed-in words, files and streams. Needs no threads or network.
+#![tactic(auto)]
+
+mod audit;
+mod committee;
+mod fault;
+mod files;
+mod keygen;
+mod tool;
+
+pub use fault::{Fault, Place};
+pub use tool::{CULPRITS, DONE, FAULT, run_tool};

@@ -1,0 +1,49 @@
+//! The grammar of the command line, as `clap` is told it.
+
+use clap::{Arg, ArgAction, ArgMatches, Command as Grammar, Error};
+use std::alloc::{AllocError, Global};
+
+/// Reads the words, without the program's name, by the grammar.
+pub(crate) fn parsed<'a>(alloc: Global, words: &'a [String]) -> Result<ArgMatches<'a>, Error> {
+    let grammar = with_keygen(alloc, grammar(alloc))?;
+    let grammar = with_committee(alloc, grammar)?;
+    let grammar = with_audit(alloc, grammar)?;
+    grammar.try_get_matches_from(words)
+}
+
+// The program alone. It wants a subcommand.
+fn grammar<'a>(alloc: Global) -> Grammar<'a> {
+    Grammar::new(alloc, "hs_tool")
+        .no_binary_name(true)
+        .subcommand_required(true)
+}
+
+fn with_keygen<'a>(alloc: Global, grammar: Grammar<'a>) -> Result<Grammar<'a>, AllocError> {
+    let keygen = Grammar::new(alloc, "keygen")
+        .arg(Arg::new(alloc, "SEED").required(true))?
+        .arg(Arg::new(alloc, "DIR").required(true))?;
+    grammar.subcommand(keygen)
+}
+
+fn with_committee<'a>(alloc: Global, grammar: Grammar<'a>) -> Result<Grammar<'a>, AllocError> {
+    let keys = Arg::new(alloc, "KEY")
+        .required(true)
+        .num_args(1..)
+        .action(ArgAction::Append);
+    let committee = Grammar::new(alloc, "committee")
+        .arg(Arg::new(alloc, "F").required(true))?
+        .arg(Arg::new(alloc, "OUT").required(true))?
+        .arg(keys)?;
+    grammar.subcommand(committee)
+}
+
+fn with_audit<'a>(alloc: Global, grammar: Grammar<'a>) -> Result<Grammar<'a>, AllocError> {
+    let sources = Arg::new(alloc, "SOURCE")
+        .num_args(0..)
+        .action(ArgAction::Append);
+    let audit = Grammar::new(alloc, "audit")
+        .arg(Arg::new(alloc, "COMMITTEE").required(true))?
+        .arg(Arg::new(alloc, "OUTDIR").required(true))?
+        .arg(sources)?;
+    grammar.subcommand(audit)
+}

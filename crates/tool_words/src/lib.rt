@@ -1,0 +1,10 @@
+//! The words of the operator's command line. No other crate of this repository knows `clap`. Needs no threads, files or
+//! network.
+#![tactic(auto)]
+
+mod command;
+mod grammar;
+mod reading;
+
+pub use command::Command;
+pub use reading::{WordsFault, read_words};

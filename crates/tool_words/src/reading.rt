@@ -1,0 +1,99 @@
+//! From words to what they ask for.
+
+use crate::command::Command;
+use crate::grammar::parsed;
+use clap::ArgMatches;
+use clap::error::ErrorKind;
+use std::alloc::{AllocError, Global};
+
+/// Why words ask for nothing.
+#[derive(Clone, Copy, Debug)]
+pub enum WordsFault {
+    /// They are not written as docs/hs_tool.md says.
+    Usage,
+    /// Memory was refused.
+    Memory,
+}
+
+impl From<AllocError> for WordsFault {
+    fn from(_error: AllocError) -> WordsFault {
+        WordsFault::Memory
+    }
+}
+
+/// Reads the words, without the program's name. Refused as usage where they are not written as
+/// docs/hs_tool.md says.
+pub fn read_words<'a>(alloc: Global, words: &'a [String]) -> Result<Command<'a>, WordsFault> {
+    if words.is_empty() {
+        return Ok(Command::Usage);
+    }
+    match parsed(alloc, words) {
+        Ok(matches) => command(alloc, &matches),
+        Err(error) if error.kind() == ErrorKind::OutOfMemory => Err(WordsFault::Memory),
+        Err(_) => Err(WordsFault::Usage),
+    }
+}
+
+fn command<'a>(alloc: Global, matches: &ArgMatches<'a>) -> Result<Command<'a>, WordsFault> {
+    match matches.subcommand() {
+        Some(("keygen", given)) => keygen(given),
+        Some(("committee", given)) => committee(alloc, given),
+        Some(("audit", given)) => audit(alloc, given),
+        _ => Err(WordsFault::Usage),
+    }
+}
+
+fn keygen<'a>(given: &ArgMatches<'a>) -> Result<Command<'a>, WordsFault> {
+    match (given.get_str("SEED"), given.get_str("DIR")) {
+        (Some(seed), Some(folder)) => Ok(Command::Keygen { seed, folder }),
+        _ => Err(WordsFault::Usage),
+    }
+}
+
+// F of 1 to 10, and 3F + 1 key files.
+fn committee<'a>(alloc: Global, given: &ArgMatches<'a>) -> Result<Command<'a>, WordsFault> {
+    let (Some(f), Some(out), Some(keys)) = (
+        given.get_str("F"),
+        given.get_str("OUT"),
+        given.get_strs("KEY"),
+    ) else {
+        return Err(WordsFault::Usage);
+    };
+    let Some(f) = faulty(f) else {
+        return Err(WordsFault::Usage);
+    };
+    if keys.len() != 3 * f as usize + 1 {
+        return Err(WordsFault::Usage);
+    }
+    Ok(Command::Committee {
+        f,
+        out,
+        keys: keys.to_vec(alloc)?,
+    })
+}
+
+// None or more sources. What each says is not judged here.
+fn audit<'a>(alloc: Global, given: &ArgMatches<'a>) -> Result<Command<'a>, WordsFault> {
+    let (Some(committee), Some(folder)) = (given.get_str("COMMITTEE"), given.get_str("OUTDIR"))
+    else {
+        return Err(WordsFault::Usage);
+    };
+    let sources = match given.get_strs("SOURCE") {
+        Some(sources) => sources.to_vec(alloc)?,
+        None => Vec::new(alloc),
+    };
+    Ok(Command::Audit {
+        committee,
+        folder,
+        sources,
+    })
+}
+
+// A number of 1 to 10, in its one spelling.
+fn faulty(word: &str) -> Option<u16> {
+    if word.starts_with('0') || word.starts_with('+') {
+        return None;
+    }
+    let f = word.parse::<u16>().ok()?;
+    (1 <= f && f <= 10).then_some(f)
+}
