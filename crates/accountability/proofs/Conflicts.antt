@@ -9,9 +9,9 @@ use Rattle.blocks.specs.Chains.{IsChain, NoCollision}
 use Rattle.blocks.proofs.CommitteeLaws.{size_of}
 use Rattle.blocks.proofs.Members.{Contains-first, Contains-later, Contains-from_Has, Has-from_Contains}
 use Rattle.certificates.specs.declared.vote.SignedVote.{SignedVote}
-use Rattle.parallel_verify.specs.Evidence.{Evidence}
+use Rattle.evidence.specs.Evidence.{Evidence}
 use Rattle.ancestry.proofs.Ids.{apart_in}
-use Rattle.accountability.specs.Committees.{Committee, total_weight, weight_of, is_among, counts_once, committee_of}
+use Rattle.blocks.specs.Weights.{Committee, total_weight, weight_of, is_among, counts_once, committee_of}
 use Rattle.accountability.specs.Commits.{is_vote_on, has_vote, IsCertified, IsProvedCommit}
 use Rattle.accountability.specs.Culprits.{IsCulprit}
 use Rattle.accountability.specs.AccountabilityLaws.{AConflictAccusesMoreThanAThird, AConflictNamesMoreThanF, EvidenceNamesEachHeaderOnce}

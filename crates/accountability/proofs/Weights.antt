@@ -4,7 +4,7 @@ use Rattle.std.specs.List.{list_any, sum_by}
 use Rattle.std.proofs.lemmas.Bool.{or_cases, eq-eqb, ne_eqb, cases_eq, false≢true}
 use Rattle.std.proofs.lemmas.List.Sums.{sum_by-cons}
 use Rattle.blocks.proofs.Members.{Has}
-use Rattle.accountability.specs.Committees.{weight_of, is_any, is_among, counts_once}
+use Rattle.blocks.specs.Weights.{weight_of, is_any, is_among, counts_once}
 
 both_at : (a b : Bool) (w : ℕ) → cond a w 0 + cond b w 0 ≤ w + cond (a && b) w 0
 both_at true true w = omega arith

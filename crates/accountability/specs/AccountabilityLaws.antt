@@ -5,8 +5,8 @@ use Rattle.blocks.specs.Chains.{Conflict, NoCollision}
 use Rattle.blocks.specs.Committees.{IsCommittee, f_of}
 use Rattle.blocks.specs.Headers.{Header, IsGenesis}
 use Rattle.certificates.specs.declared.vote.SignedVote.{SignedVote}
-use Rattle.parallel_verify.specs.Evidence.{Evidence, IsEvidence}
-use Rattle.accountability.specs.Committees.{Committee, total_weight, weight_of, is_among, committee_of}
+use Rattle.evidence.specs.Evidence.{Evidence, IsEvidence}
+use Rattle.blocks.specs.Weights.{Committee, total_weight, weight_of, is_among, committee_of}
 use Rattle.accountability.specs.Commits.{IsProvedCommit}
 use Rattle.accountability.specs.Culprits.{AreCulprits, IsNamedPair}
 

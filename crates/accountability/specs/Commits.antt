@@ -10,8 +10,8 @@ use Rattle.std.specs.declared.cmp.Ordering.TheVariants.{Less}
 use Rattle.blocks.specs.Headers.{Header, NamesParent, header_id}
 use Rattle.blocks.specs.Chains.{IsChain, Conflict}
 use Rattle.certificates.specs.declared.vote.SignedVote.{SignedVote}
-use Rattle.parallel_verify.specs.Evidence.{Evidence}
-use Rattle.accountability.specs.Committees.{Committee, weight_of}
+use Rattle.evidence.specs.Evidence.{Evidence}
+use Rattle.blocks.specs.Weights.{Committee, weight_of}
 
 -- ---- certified blocks
 

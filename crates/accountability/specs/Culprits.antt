@@ -4,8 +4,8 @@ use Rattle.std.specs.List.{AllPairs, Contains}
 use Rattle.blocks.specs.Replica.{Ballot}
 use Rattle.blocks.specs.Rules.{IsDoubleVote}
 use Rattle.certificates.specs.declared.vote.SignedVote.{SignedVote}
-use Rattle.parallel_verify.specs.Evidence.{Evidence}
-use Rattle.parallel_verify.specs.Votes.{IsLowerVote}
+use Rattle.evidence.specs.Evidence.{Evidence}
+use Rattle.evidence.specs.Votes.{IsLowerVote}
 use Rattle.verdict_format.specs.Proofs.{IsLockViolationBy}
 use Rattle.verdict_format.specs.Verdicts.{VotedHeaders}
 

@@ -1,4 +1,4 @@
-pub mod Committees
+pub use Rattle.blocks.specs.Weights
 pub mod Commits
 pub mod Culprits
 pub mod AccountabilityLaws

@@ -1,8 +1,8 @@
 //! Evidence of stored entries, under the stored committee: bytes of an independent program.
 
 use crate::sources::{committee, of_logs, report, shows, stream};
-use exports::Status;
 use fixtures::log_entries;
+use log_format::Status;
 use parallel_verify::Evidence;
 use std::alloc::Global;
 use std::test::Fail;

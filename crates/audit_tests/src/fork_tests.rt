@@ -2,8 +2,9 @@
 
 use crate::sources::{committee, gathered, report, shows, sources, stream};
 use certificates::SignedVote;
-use exports::Status;
+use evidence::{Gathered, SourceLog};
 use fixtures::{fork_logs, log_entries};
+use log_format::{Frames, Status};
 use parallel_verify::{Evidence, SourceReport, SourceText, verify_all};
 use std::alloc::Global;
 use std::test::Fail;
@@ -58,6 +59,32 @@ fn a_fork_is_in_evidence(rt: HostRuntime) -> Result<(), Fail> {
     let evidence = of_fork(alloc)?;
     let views = [0, 1, 2, 3, 4, 5, 6, 7, 8];
     shows(&rt, alloc, &evidence, &views, &VOTES, &reports())
+}
+
+// What one log shows.
+fn alone(alloc: Global, replica: u16, text: &'static [u8]) -> Result<Gathered<'static>, Fail> {
+    let committee = committee()?;
+    let mut gathered = Gathered::new(alloc, &committee)?;
+    let log = SourceLog {
+        replica,
+        frames: Frames::of(alloc, text)?,
+    };
+    let report = gathered.add_log(alloc, &log).ok();
+    let _ = report.ok_or("the log is refused")?;
+    Ok(gathered)
+}
+
+#[test]
+fn logs_gathered_apart_are_merged(rt: HostRuntime) -> Result<(), Fail> {
+    let alloc = rt.alloc();
+    let mut both = alone(alloc, 0, fork_logs::log_0())?;
+    let other = alone(alloc, 3, fork_logs::log_3())?;
+    assert!(rt; both.merge(alloc, other).is_ok());
+    let (_, headers, votes) = both.into_parts(alloc)?;
+    let evidence = of_fork(alloc)?;
+    assert!(rt; headers.as_slice() == evidence.headers());
+    assert!(rt; votes.as_slice() == evidence.votes());
+    Ok(())
 }
 
 // A log of one frame too many.

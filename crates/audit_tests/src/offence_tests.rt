@@ -1,8 +1,8 @@
 //! Verdicts as an independent program wrote them, on the evidence of its logs.
 
 use crate::sources::of_logs;
+use culprit_search::{Verdict, verdicts_of};
 use fixtures::{double_vote_logs, fork_logs, verdicts};
-use offence_search::{Verdict, verdicts_of};
 use std::alloc::Global;
 use std::test::Fail;
 use verdict_format::Rule;

@@ -1,8 +1,8 @@
 //! Logs as they are sent, and evidence from them, under the stored committee.
 
 use blocks::{CommitteeView, NamedHeader};
-use exports::Status;
 use fixtures::verdicts;
+use log_format::Status;
 use parallel_verify::{Evidence, SourceReport, SourceText, evidence_of};
 use std::alloc::Global;
 use std::process::Abort;

@@ -6,3 +6,5 @@ pub mod WorkedRunsHold
 pub mod HeaderLaws
 pub mod FirstsMore
 pub mod CommitteeLaws
+pub mod Within
+pub mod LivesHold

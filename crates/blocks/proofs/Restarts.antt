@@ -3,8 +3,8 @@ use Rattle.std.proofs.Common.{◌≡◌, ◌⊎◌, ℕ, ◌<◌, ◌≤◌, Lis
 use Rattle.std.proofs.lemmas.Bool.{cond_both, le-ltb}
 use Rattle.blocks.specs.Headers.{Header, header_id, NamesParent, AreInOrder, IsGenesis}
 use Rattle.blocks.specs.Chains.{IsChain}
-use Rattle.blocks.specs.Replica.{ReplicaState, first_state, Event, Vote, Raise, Pass, Timeout, Restart, LockIsIn, CanRaise, IsAllowed, locked_on, raised, voted_in, after, IsRunFrom, after_all, Stored, stored_on, stored_of}
-use Rattle.blocks.specs.Replay.{Durable, durable_of, moved_to, replay_entry, replay_from, IsLegalEntry, IsLegalFrom, IsOnLock, VoteRuleLooksAtTheParent, RaiseLooksAtTheParent, LockLooksAtTheParent, StoredListIsLegal, ReplayIsTheState, LockNeverFalls, VoteViewCoversTheStored, event_on, AreEventsOf, RunGoesOn, AttachedEntriesHaveEvents}
+use Rattle.blocks.specs.Replica.{Ballot, ballot_on, votes_of, ReplicaState, first_state, Event, Vote, Raise, Pass, Timeout, Restart, LockIsIn, CanRaise, IsAllowed, locked_on, raised, voted_in, after, IsRunFrom, after_all, Stored, stored_on, stored_of}
+use Rattle.blocks.specs.Replay.{Durable, durable_of, moved_to, replay_entry, replay_from, IsLegalEntry, IsLegalFrom, IsOnLock, VoteRuleLooksAtTheParent, RaiseLooksAtTheParent, LockLooksAtTheParent, StoredListIsLegal, VotesAreStored, ballots_in, ReplayIsTheState, LockNeverFalls, VoteViewCoversTheStored, event_on, AreEventsOf, RunGoesOn, AttachedEntriesHaveEvents, FittedListIsStored, IsLegal}
 use Rattle.blocks.proofs.Members.{Contains-first, Has-from_Contains}
 use Rattle.blocks.proofs.Runs.{ancestor_below, onward}
 
@@ -214,3 +214,24 @@ lock_never_falls genesis run more r =
 
 pub vote_view_covers : VoteViewCoversTheStored
 vote_view_covers genesis run r = (onwards genesis (first_state genesis) run (omega arith) r).order
+
+votes_stored : (genesis : Header) (s : ReplicaState) (es : List Event) → IsGenesis genesis → IsRunFrom genesis s es → votes_of es ≡ ballots_in (stored_of es)
+votes_stored genesis s [] g r = refl
+votes_stored genesis s (Vote b [] ∷ es) g r = let k = ap (λ (x : Header). x.view) r.0.0 in let v = r.0.1 in absurd (omega arith)
+votes_stored genesis s (Vote b (p ∷ ps) ∷ es) g r = ap (λ (vs : List Ballot). ballot_on b ∷ vs) (votes_stored genesis (after s (Vote b (p ∷ ps))) es g r.1)
+votes_stored genesis s (Raise b [] ∷ es) g r = absurd r.0.1
+votes_stored genesis s (Raise b (p ∷ ps) ∷ es) g r = votes_stored genesis (after s (Raise b (p ∷ ps))) es g r.1
+votes_stored genesis s (Pass b ps ∷ es) g r = votes_stored genesis s es g r.1
+votes_stored genesis s (Timeout v ∷ es) g r = votes_stored genesis (after s (Timeout v)) es g r.1
+votes_stored genesis s (Restart ∷ es) g r = votes_stored genesis (after s Restart) es g r.1
+
+pub votes_are_stored : VotesAreStored
+votes_are_stored genesis run g r = votes_stored genesis (first_state genesis) run g r
+
+pub fitted_is_stored : FittedListIsStored
+fitted_is_stored hs genesis run list view g r f =
+    let l : IsLegal genesis (stored_of run ++ f.more) = subst (λ (xs : List Stored). IsLegal genesis xs) f.begins f.legal in
+    let rest = legal_rest (durable_of (first_state genesis)) (stored_of run) f.more l in
+    let e = attached_have_events hs genesis view (replay_from (durable_of (first_state genesis)) (stored_of run)) f.more rest f.attached in
+    let k = run_goes_on genesis run e.0 f.more view g r l e.1 in
+    (e.0, k.0, k.1 ∙ sym f.begins)

@@ -2,9 +2,11 @@ pub mod Headers
 pub mod HeaderReading
 pub mod Genesis
 pub mod Committees
+pub mod Weights
 pub mod CommitteeReading
 pub mod Chains
 pub mod Replica
 pub mod Rules
 pub mod Replay
 pub mod WorkedRuns
+pub mod Lives

@@ -5,7 +5,7 @@ use Rattle.std.specs.Prelude.{◌≡◌, ◌⊎◌, ◌↔◌, ◌<◌, ◌≤�
 use Rattle.std.specs.List.{AllByRecursion}
 use Rattle.blocks.specs.Headers.{Header, NamesParent, AreInOrder, IsGenesis}
 use Rattle.blocks.specs.Chains.{IsChain, IsChainIn}
-use Rattle.blocks.specs.Replica.{ReplicaState, Event, Vote, Raise, Timeout, Restart, Stored, first_state, IsRun, LockIsIn, CanRaise, raised, end_of, stored_of}
+use Rattle.blocks.specs.Replica.{Ballot, ballot_on, votes_of, ReplicaState, Event, Vote, Raise, Timeout, Restart, Stored, first_state, IsRun, LockIsIn, CanRaise, raised, end_of, stored_of}
 
 -- ---- replay
 
@@ -113,6 +113,21 @@ ReplayIsTheState =
     (genesis : Header) (run : List Event) → IsGenesis genesis → IsRun genesis run
     → replay genesis (stored_of run) ≡ durable_of (end_of genesis run)
 
+-- the votes in a stored list
+abbrev pub ballot_in : Bool → Header → List Ballot
+ballot_in true b = ballot_on b ∷ []
+ballot_in false b = []
+
+abbrev pub ballots_in : List Stored → List Ballot
+ballots_in [] = []
+ballots_in (x ∷ xs) = ballot_in x.voted x.block ++ ballots_in xs
+
+-- they are the votes of the run
+abbrev pub VotesAreStored : Type 0
+VotesAreStored =
+    (genesis : Header) (run : List Event) → IsGenesis genesis → IsRun genesis run
+    → votes_of run ≡ ballots_in (stored_of run)
+
 -- as a run goes on its lock and its stored vote view never fall
 abbrev pub LockNeverFalls : Type 0
 LockNeverFalls =
@@ -170,3 +185,11 @@ AttachedEntriesHaveEvents =
     (hs : List Header) (genesis : Header) (view : ℕ) (d : Durable) (more : List Stored)
     → IsLegalFrom d more → AllByRecursion (IsAttached hs genesis) more
     → (events : List Event) × AreEventsOf genesis view more events
+
+-- a list that fits what a run stored is the stored list of a run that goes on from it, by a restart and last
+-- any timeout
+abbrev pub FittedListIsStored : Type 0
+FittedListIsStored =
+    (hs : List Header) (genesis : Header) (run : List Event) (list : List Stored) (view : ℕ)
+    → IsGenesis genesis → IsRun genesis run → FitsOpening hs genesis (stored_of run) list
+    → (events : List Event) × IsRun genesis (run ++ Restart ∷ events) × (stored_of (run ++ Restart ∷ events) ≡ list)

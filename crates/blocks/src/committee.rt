@@ -7,6 +7,7 @@ ghost use Rattle.wire.specs.Pieces.{AreBytes};
 ghost use Rattle.wire.specs.Refusals.{first_of};
 ghost use Rattle.blocks.specs.CommitteeReading.{is_key, bad_key, twin_of, committee_in, committee_refusal_number};
 ghost use Rattle.blocks.specs.Committees.{IsCommittee, WhereSpelled, committee_text, f_of, n_of, key_at, key_id_at, root_at};
+ghost use Rattle.blocks.specs.Weights.{quorum_of};
 ghost use Rattle.blocks.specs.Genesis.{genesis_of, chain_id_of};
 ghost use Rattle.blocks.specs.Headers.{IsGenesis};
 
@@ -213,6 +214,14 @@ impl<'a> CommitteeView<'a> {
         ensures most { result ≤ 31 }
     {
         u16_at(self.bytes, 6)
+    }
+
+    /// How much weight a quorum has: 2f + 1, where each replica counts once.
+    pub fn quorum(&self) -> u16
+        ensures value { result ≡ quorum_of self.now }
+        ensures few { n_of self.now ≤ 31 }
+    {
+        self.n() - self.f()
     }
 
     /// The public key of replica `r`, which must be below `n`.

@@ -2,7 +2,8 @@
 //! holds where the function is called. Nothing is computed.
 
 ghost use Rattle.blocks.specs.Chains.{BlockHasOneChain};
-ghost use Rattle.blocks.specs.Replay.{VoteRuleLooksAtTheParent, RaiseLooksAtTheParent, LockLooksAtTheParent, StoredListIsLegal, ReplayIsTheState, LockNeverFalls, VoteViewCoversTheStored, RunGoesOn, AttachedEntriesHaveEvents};
+ghost use Rattle.blocks.specs.Replay.{VoteRuleLooksAtTheParent, RaiseLooksAtTheParent, LockLooksAtTheParent, StoredListIsLegal, VotesAreStored, ReplayIsTheState, LockNeverFalls, VoteViewCoversTheStored, FittedListIsStored, RunGoesOn, AttachedEntriesHaveEvents};
+ghost use Rattle.blocks.specs.Lives.{EveryLifeIsARun, EveryRunIsALife};
 ghost use Rattle.blocks.specs.Rules.{NoRunHasADoubleVote, NoRunHasALockViolation};
 ghost use Rattle.blocks.specs.WorkedRuns.{AReplicaVotesForThreeBlocks, ARaisedLockSurvivesARestart, ATimeoutIsForgottenAtARestart, ARaiseWithoutAVoteIsStored, AVoteAcrossAForkViolatesTheLock};
 
@@ -34,6 +35,7 @@ pub fn rules_look_at_the_parent()
 pub fn stored_list_is_the_history()
     ensures legal { StoredListIsLegal }
     ensures replayed { ReplayIsTheState }
+    ensures votes { VotesAreStored }
     ensures rises { LockNeverFalls }
     ensures covers { VoteViewCoversTheStored }
 {}
@@ -43,6 +45,18 @@ pub fn stored_list_is_the_history()
 pub fn run_goes_on_from_its_list()
     ensures events { AttachedEntriesHaveEvents }
     ensures goes_on { RunGoesOn }
+    ensures fitted { FittedListIsStored }
+{}
+
+/// Over all its crashes and restarts a replica is one correct replica: whatever list is found after a life is the stored
+/// list of a run, whose votes are the voted entries of the list. All votes that were released in the life are among them.
+pub fn a_life_is_a_run()
+    ensures { EveryLifeIsARun }
+{}
+
+/// Each run is a life of one stay.
+pub fn a_run_is_a_life()
+    ensures { EveryRunIsALife }
 {}
 
 /// There are runs with votes: a replica that votes for three blocks in a row.

@@ -2,7 +2,7 @@
 use Rattle.std.specs.Prelude.{◌≡◌, ◌≢◌, ◌<◌, ◌≤◌, ◌+◌, ◌*◌, ℕ, List, length, map, ⊤}
 use Rattle.std.specs.List.{All, AllPairs}
 use Rattle.std.specs.List.Sorted.{IsPermutation}
-use Rattle.blocks.specs.Committees.{f_of}
+use Rattle.blocks.specs.Weights.{quorum_of}
 use Rattle.certificates.specs.declared.certificate.Endorsement.{Endorsement}
 use Rattle.certificates.specs.declared.vote.SignedVote.{SignedVote}
 use Rattle.certificates.specs.declared.assembling.AssembleRefusal.{AssembleRefusal}
@@ -36,16 +36,16 @@ pub record IsAssembled (votes : List SignedVote) (c : Certificate) : Type 0 wher
 
 -- the votes pass the tests before this one, and fail this one; memory is asked for behind the first two
 abbrev pub IsAssembleRefusal : AssembleRefusal → List ℕ → List SignedVote → Type 0
-IsAssembleRefusal Memory committee votes = AgreeOnBlock votes × (2 * f_of committee + 1 ≤ length votes)
+IsAssembleRefusal Memory committee votes = AgreeOnBlock votes × (quorum_of committee ≤ length votes)
 IsAssembleRefusal Mixed committee votes = AgreeOnBlock votes → ⊥
-IsAssembleRefusal TooFew committee votes = AgreeOnBlock votes × (length votes < 2 * f_of committee + 1)
+IsAssembleRefusal TooFew committee votes = AgreeOnBlock votes × (length votes < quorum_of committee)
 IsAssembleRefusal Double committee votes =
-    AgreeOnBlock votes × (2 * f_of committee + 1 ≤ length votes) × (AreByDifferent votes → ⊥)
+    AgreeOnBlock votes × (quorum_of committee ≤ length votes) × (AreByDifferent votes → ⊥)
 
 -- the votes pass each test
 pub record AreAssemblable (committee : List ℕ) (votes : List SignedVote) : Type 0 where
   pub agree : AgreeOnBlock votes
-  pub enough : 2 * f_of committee + 1 ≤ length votes
+  pub enough : quorum_of committee ≤ length votes
   pub different : AreByDifferent votes
 
 -- the number that docs/REFUSALS.md gives a refusal

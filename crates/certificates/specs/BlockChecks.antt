@@ -1,7 +1,8 @@
 -- When a block's certificate is good and on the block's parent, and why a block is refused.
 use Rattle.std.specs.Prelude.{◌≡◌, ◌⊎◌, ◌<◌, ◌≤◌, ◌+◌, ◌*◌, ℕ, List, length, take}
 use Rattle.std.specs.List.{All}
-use Rattle.blocks.specs.Committees.{f_of, n_of}
+use Rattle.blocks.specs.Committees.{n_of}
+use Rattle.blocks.specs.Weights.{quorum_of}
 use Rattle.blocks.specs.Headers.{Header}
 use Rattle.certificates.specs.declared.certificate.Endorsement.{Endorsement}
 use Rattle.certificates.specs.declared.checked_block.BlockRefusal.{BlockRefusal}
@@ -29,9 +30,9 @@ pub record CheckedBlock : Type 0 where
 
 -- ---- refusals
 
--- 2f + 1 to n entries
+-- a quorum to n entries
 pub record IsBetween (committee : List ℕ) (c : Certificate) : Type 0 where
-  pub least : 2 * f_of committee + 1 ≤ length c.entries
+  pub least : quorum_of committee ≤ length c.entries
   pub most : length c.entries ≤ n_of committee
 
 -- as many entries as a good certificate has

@@ -1,20 +1,21 @@
--- When a certificate is good: a quorum of 2f + 1 replicas voted for its view and id (HotStuff, Yin and
+-- When a certificate is good: a quorum of replicas voted for its view and id (HotStuff, Yin and
 -- others, PODC 2019). Genesis needs no votes.
 use Rattle.std.specs.Prelude.{◌≡◌, ◌⊎◌, ◌≤◌, ◌+◌, ◌*◌, ℕ, List, length}
 use Rattle.std.specs.List.{All, AllPairs}
-use Rattle.blocks.specs.Committees.{f_of, n_of}
+use Rattle.blocks.specs.Committees.{n_of}
+use Rattle.blocks.specs.Weights.{quorum_of}
 use Rattle.blocks.specs.Genesis.{chain_id_of}
 use Rattle.certificates.specs.declared.certificate.Endorsement.{Endorsement}
-use Rattle.certificates.specs.Certificates.{Certificate, IsBefore}
+use Rattle.certificates.specs.Certificates.{Certificate, IsBefore, vote_of}
 use Rattle.certificates.specs.Votes.{IsGoodVote}
 
 -- an entry is a good vote on the certificate's view and id
 abbrev pub IsGoodEntry : List ℕ → Certificate → Endorsement → Type 0
-IsGoodEntry committee c e = IsGoodVote committee e.replica c.view c.id e.signature
+IsGoodEntry committee c e = IsGoodVote committee (vote_of c e)
 
--- 2f + 1 to n entries whose replicas rise, each a good vote on the certificate's view and id
+-- a quorum to n entries whose replicas rise, each a good vote on the certificate's view and id
 pub record IsQuorum (committee : List ℕ) (c : Certificate) : Type 0 where
-  pub least : 2 * f_of committee + 1 ≤ length c.entries
+  pub least : quorum_of committee ≤ length c.entries
   pub most : length c.entries ≤ n_of committee
   pub rising : AllPairs IsBefore c.entries
   pub good : All (IsGoodEntry committee c) c.entries

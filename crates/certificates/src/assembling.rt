@@ -9,9 +9,9 @@ ghost use Rattle.certificates.specs.Certificates.{IsEndorsement};
 ghost use Rattle.certificates.specs.declared.assembling.AssembleRefusal.TheVariants.{Memory};
 
 use crate::certificate::{Certificate, Endorsement, is_rising};
-use crate::quorum::quorum;
 use crate::vote::SignedVote;
 use blocks::{CommitteeView, Id};
+use lms_tree::Signature;
 use std::alloc::{AllocError, AllocFailed, Global};
 
 /// Why votes make no certificate, in the order of the tests.
@@ -60,7 +60,7 @@ fn are_for(votes: &[SignedVote], view: u64, id: &Id) -> bool
 }
 
 // An entry of a certificate.
-fn endorsement(replica: u16, signature: [u8; 1452]) -> Endorsement
+fn endorsement(replica: u16, signature: Signature) -> Endorsement
     ensures value { result ≡ record { replica = replica; signature = signature } }
     ensures fits { IsEndorsement result }
 {
@@ -109,7 +109,7 @@ pub fn assemble(
     if !are_for(votes, first.view, &first.id) {
         return Err(AssembleRefusal::Mixed);
     }
-    if votes.len() < quorum(committee) {
+    if votes.len() < committee.quorum() as usize {
         return Err(AssembleRefusal::TooFew);
     }
     let mut entries = endorsements_of(alloc, votes)?;

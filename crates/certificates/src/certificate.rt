@@ -8,6 +8,7 @@ ghost use Rattle.certificates.specs.declared.certificate.CertificateRefusal.TheV
 
 use crate::vote::SignedVote;
 use blocks::Id;
+use lms_tree::Signature;
 use std::alloc::{AllocError, AllocFailed, Global};
 use std::marker::Model;
 use wire::{array_at, u16_at, u64_at};
@@ -27,7 +28,7 @@ pub struct Endorsement {
     /// The number of the replica in its committee, from 0.
     pub replica: u16,
     /// Its LMS signature of the statement (RFC 8554, section 5.4).
-    pub signature: [u8; 1452],
+    pub signature: Signature,
 }
 
 /// Signatures of replicas on one view and id, by rising replica: 1 to 31 of them in a view above 0, none in

@@ -8,7 +8,6 @@ ghost use Rattle.certificates.specs.Certificates.{IsBefore};
 ghost use Rattle.certificates.specs.GoodCertificates.{IsOnGenesis};
 
 use crate::certificate::{Certificate, Endorsement};
-use crate::quorum::quorum;
 use crate::vote::{Verifier, is_signed_by};
 use blocks::{CommitteeView, Header};
 use std::marker::Model;
@@ -82,7 +81,7 @@ fn has_count(committee: &CommitteeView, certificate: &Certificate) -> bool
     ensures rising { AllPairs IsBefore certificate.now.entries }
 {
     let count = certificate.count();
-    if quorum(committee) <= count && count <= committee.n() as usize {
+    if committee.quorum() as usize <= count && count <= committee.n() as usize {
         return true;
     }
     is_on_genesis(committee, certificate)

@@ -4,7 +4,6 @@
 mod assembling;
 mod certificate;
 mod checked_block;
-mod quorum;
 mod statement;
 mod vote;
 
@@ -13,4 +12,6 @@ pub use blocks::CommitteeView;
 pub use certificate::{Certificate, CertificateRefusal};
 pub use checked_block::{BlockRefusal, CheckedBlock, check_block};
 pub use statement::{STATEMENT_LEN, Statement, statements_have_one_spelling};
-pub use vote::{LmsVerifier, SignedVote, Verifier, VoteRefusal, check_vote, is_signed_by};
+pub use vote::{
+    LmsVerifier, SignedVote, VOTE_LEN, Verifier, VoteRefusal, check_vote, is_signed_by,
+};

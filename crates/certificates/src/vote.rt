@@ -4,11 +4,15 @@ ghost use Rattle.std.specs.Prelude.{◌≡◌, ◌<◌, ◌≤◌, ◌↔◌, Is
 ghost use Rattle.lms_tree.specs.Tree.{Verifies};
 ghost use Rattle.blocks.specs.Committees.{n_of};
 ghost use Rattle.certificates.specs.VoteChecks.{IsVoteRefusal, vote_refusal_number};
-ghost use Rattle.certificates.specs.Votes.{IsSignedBy, IsGoodVote};
+ghost use Rattle.certificates.specs.Votes.{IsGoodVote, IsSignedBy, vote_text};
 
 use crate::statement::Statement;
 use blocks::{CommitteeView, Id};
-use lms_tree::{PublicKey, verify};
+use lms_tree::{PublicKey, Signature, verify};
+use wire::put;
+
+/// The length of a vote in bytes.
+pub const VOTE_LEN: usize = 1494;
 
 /// A replica's signed vote for a block. Votes are ordered by replica, view, id and signature.
 #[derive(Clone, Copy, Debug, PartialEq, Eq, PartialOrd, Ord)]
@@ -20,7 +24,23 @@ pub struct SignedVote {
     /// The block's id.
     pub id: Id,
     /// The LMS signature of the statement, 1,452 bytes (RFC 8554, section 5.4).
-    pub signature: [u8; 1452],
+    pub signature: Signature,
+}
+
+impl SignedVote {
+    /// The bytes of the vote: its replica (2 bytes at 0), its view (8 at 2), its block's id (32 at 10) and its signature
+    /// (1,452 at 42).
+    #[tactic(auto, using(wire::proofs::Numbers::filled), unfolding(crate::specs::Votes::vote_text))]
+    pub fn to_bytes(&self) -> [u8; VOTE_LEN]
+        ensures { result ≡ vote_text self.now }
+    {
+        let mut bytes = [0; VOTE_LEN];
+        put(&mut bytes, 0, &self.replica.to_be_bytes());
+        put(&mut bytes, 2, &self.view.to_be_bytes());
+        put(&mut bytes, 10, &self.id);
+        put(&mut bytes, 42, &self.signature);
+        bytes
+    }
 }
 
 /// Why a vote is refused, in the order of the tests.
@@ -83,7 +103,7 @@ pub fn is_signed_by<V: Verifier>(
 /// Checks that a vote is good: its replica is one of the committee, and signed the vote's view and id in
 /// the committee's chain. Refused in this order: UnknownReplica, Signature.
 pub fn check_vote(committee: &CommitteeView, vote: &SignedVote) -> Result<(), VoteRefusal>
-    ensures exact { IsOk result ↔ IsGoodVote committee.now vote.now.replica vote.now.view vote.now.id vote.now.signature }
+    ensures exact { IsOk result ↔ IsGoodVote committee.now vote.now }
     ensures first_refusal { IfErr result (IsVoteRefusal committee.now vote.now) }
 {
     if vote.replica >= committee.n() {

@@ -12,8 +12,8 @@ use Rattle.blocks.proofs.Members.{Contains-first, Contains-later}
 use Rattle.ancestry.specs.Known.{Known, IsAloneAmong, IsKnown, all_of}
 use Rattle.ancestry.proofs.Ids.{apart_in}
 use Rattle.ancestry.proofs.Walks.{head_or_later, linked_is}
-use Rattle.parallel_verify.specs.Evidence.{Evidence, IsEvidence}
-use Rattle.accountability.specs.Committees.{committee_of}
+use Rattle.evidence.specs.Evidence.{Evidence, IsEvidence}
+use Rattle.blocks.specs.Weights.{committee_of}
 use Rattle.accountability.specs.Commits.{AreProvedCommits, IsCertified, IsLowerBlock, IsProvedCommit, Stands}
 use Rattle.commit_search.specs.Chosen.{AreThose}
 use Rattle.commit_search.specs.Successors.{HasNext, HasTwoNext, IsCommitAmong}

@@ -12,8 +12,8 @@ use Rattle.blocks.specs.Headers.{Header, header_id}
 use Rattle.blocks.proofs.Members.{Contains-first, Contains-later}
 use Rattle.ancestry.specs.Known.{Known, IsKnown, all_of, IsLinkedId, IsAncestorId}
 use Rattle.ancestry.proofs.Walks.{ancestor_is, chain_with, head_or_later, linked_is}
-use Rattle.parallel_verify.specs.Evidence.{Evidence, IsEvidence}
-use Rattle.accountability.specs.Committees.{committee_of}
+use Rattle.evidence.specs.Evidence.{Evidence, IsEvidence}
+use Rattle.blocks.specs.Weights.{committee_of}
 use Rattle.accountability.specs.Commits.{AreConflicting, AreFirstConflict, AreProvedCommits, HasNoConflict, IsAtMost, IsLowerBlock}
 use Rattle.commit_search.specs.declared.conflicts.ConflictingCommits.{ConflictingCommits}
 use Rattle.commit_search.specs.Pairs.{Agree, AreConflictingIn, AreFirstIn, DoConflict, IsLeastConflictWith, IsNoAncestor}

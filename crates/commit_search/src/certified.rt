@@ -3,14 +3,14 @@
 ghost use Rattle.std.specs.Prelude.{◌≡◌, ◌≤◌, ◌↔◌, IfOk, IsTrue};
 ghost use Rattle.std.specs.List.{AllPairs};
 ghost use Rattle.blocks.specs.Headers.{header_id};
-ghost use Rattle.parallel_verify.specs.Votes.{IsLowerVote};
-ghost use Rattle.accountability.specs.Committees.{committee_of, counts_once, weight_of};
+ghost use Rattle.evidence.specs.Votes.{IsLowerVote};
+ghost use Rattle.blocks.specs.Weights.{committee_of, counts_once, weight_of};
 ghost use Rattle.accountability.specs.Commits.{IsCertified, has_vote};
 ghost use Rattle.commit_search.specs.Chosen.{AreThose};
 
 use blocks::NamedHeader;
 use certificates::SignedVote;
-use parallel_verify::Evidence;
+use evidence::Evidence;
 use std::alloc::{AllocError, Global};
 
 // Whether the replica has a vote on this block. Votes rise, so a binary search finds one.
@@ -46,7 +46,7 @@ pub fn is_certified(evidence: &Evidence, b: &NamedHeader) -> bool
 {
     let committee = evidence.committee();
     let voters = count_voters(evidence.votes(), b, committee.n());
-    2 * committee.f() + 1 <= voters
+    committee.quorum() <= voters
 }
 
 /// The certified headers of the evidence by rising id. Memory is refused where they could not be copied.

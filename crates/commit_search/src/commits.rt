@@ -3,7 +3,7 @@
 ghost use Rattle.std.specs.Prelude.{◌≡◌, ◌+◌, ◌↔◌, IfOk, IsTrue};
 ghost use Rattle.std.specs.List.{AllPairs, Contains};
 ghost use Rattle.blocks.specs.Headers.{Header as HeaderValue, HasLowerId};
-ghost use Rattle.accountability.specs.Committees.{committee_of};
+ghost use Rattle.blocks.specs.Weights.{committee_of};
 ghost use Rattle.accountability.specs.Commits.{AreProvedCommits, IsLowerBlock};
 ghost use Rattle.commit_search.specs.Chosen.{AreThose};
 ghost use Rattle.commit_search.specs.Successors.{IsNext, HasNext, HasTwoNext, IsCommitAmong};
@@ -12,7 +12,7 @@ use crate::certified::certified_headers;
 use crate::same::are_same;
 use ancestry::Ancestry;
 use blocks::NamedHeader;
-use parallel_verify::Evidence;
+use evidence::Evidence;
 use std::alloc::{AllocError, Global};
 
 // Whether h is on b, and in the view after.

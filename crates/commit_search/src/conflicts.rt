@@ -2,7 +2,7 @@
 
 ghost use Rattle.std.specs.Prelude.{◌≡◌, ◌≤◌, ◌↔◌, length, IfOk, IsTrue, MatchOption};
 ghost use Rattle.std.specs.List.{All, AllPairs, Contains};
-ghost use Rattle.accountability.specs.Committees.{committee_of};
+ghost use Rattle.blocks.specs.Weights.{committee_of};
 ghost use Rattle.accountability.specs.Commits.{AreProvedCommits, AreFirstConflict, HasNoConflict, IsLowerBlock};
 ghost use Rattle.blocks.specs.Chains.{IsAncestor};
 ghost use Rattle.ancestry.specs.Known.{all_of, IsKnown};
@@ -11,7 +11,7 @@ ghost use Rattle.commit_search.specs.Pairs.{Agree, AreFirstIn, DoConflict, First
 use crate::same::are_same;
 use ancestry::Ancestry;
 use blocks::NamedHeader;
-use parallel_verify::Evidence;
+use evidence::Evidence;
 use std::alloc::{AllocError, Global};
 
 /// Two proved commits that conflict, the lower one first.

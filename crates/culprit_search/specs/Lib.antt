@@ -1,3 +1,5 @@
+pub mod Verdicts
+pub mod Searches
 pub mod Reports
 pub mod ReportText
 pub mod ReportErrors

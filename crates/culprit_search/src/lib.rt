@@ -1,11 +1,17 @@
-//! The audit: what evidence proves, and whom it accuses. No handle.
+//! The audit: what evidence proves, and whom it accuses, with a verdict on each. Needs no threads, files or network.
 #![tactic(auto)]
 
 mod auditing;
+mod breach;
 mod lines;
+mod pairs;
 mod report;
+mod search;
+mod verdict;
 mod writing;
 
 pub use auditing::audit;
 pub use report::{Commit, Conflict, Report};
+pub use search::verdicts_of;
+pub use verdict::Verdict;
 pub use writing::{ReportError, write_report};

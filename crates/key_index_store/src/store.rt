@@ -1,6 +1,6 @@
 //! The indices of a key.
 ghost use Rattle.std.specs.Prelude.{◌≡◌, ◌≢◌, ◌<◌, ◌≤◌, ◌+◌, ◌-◌, ◌*◌, ◌%◌, [], ℕ, List, IsTrue, true, false, if◌then◌else◌, IfSome, IsSome, ◌↔◌, option_map, length, IfOk, IfErr, OnErr, OnOk, IsErrOf};
-ghost use Rattle.stable_log.specs.Disk.{HasFailed};
+ghost use Rattle.faults.specs.Counting.{HasFailed};
 ghost use Rattle.stable_log.specs.Crash.{LeavesOnly, Unwritten, Torn, Follows};
 ghost use Rattle.stable_log.specs.Image.{empty_journal};
 ghost use Rattle.key_index_store.specs.Boundary.{reservation, reservations, IsBoundary, IsBoundedBy, LeavesBoundary};

@@ -107,14 +107,17 @@ same-end id seed q message i lt =
     let small : slice_index a i < 256 = AreBytes-coefficients _ (AreBytes-sha256 _) i in
     rw (signature-value id seed q message i lt) (chain-cut (prefix id q i) (slice_index a i) (ots_private id seed q i) small)
 
+-- keys of the same ends are the same
+pub key-same : (id : List ℕ) (q : ℕ) (f g : ℕ → List ℕ) → ((i : ℕ) → i < 34 → f i ≡ g i) → key_of_ends id q f ≡ key_of_ends id q g
+unfolding key_of_ends
+key-same id q f g same = ap (λ (ends : List ℕ). sha256 (prefix id q 0x8080 ++ ends)) (joined-same f g 34 same)
+
 same-key : (id seed : List ℕ) (q : ℕ) (message : List ℕ)
     → key_of_ends id q (continued id q (message_coefficients id q (randomizer id seed q) message) (ots_signature id seed q message))
     ≡ ots_public_key id seed q
-unfolding key_of_ends
 same-key id seed q message =
     let a = message_coefficients id q (randomizer id seed q) message in
-    ap (λ (ends : List ℕ). sha256 (prefix id q 0x8080 ++ ends))
-    (joined-same (continued id q a (ots_signature id seed q message)) (chain_end id seed q) 34 (same-end id seed q message))
+    key-same id q (continued id q a (ots_signature id seed q message)) (chain_end id seed q) (same-end id seed q message)
 
 -- the candidate of what is signed is the signer's key
 pub signed_verifies : (id seed : List ℕ) (q : ℕ) (message : List ℕ)

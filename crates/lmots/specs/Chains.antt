@@ -1,7 +1,7 @@
 -- The keys of LM-OTS with LMOTS_SHA256_N32_W8 (RFC 8554, sections 3 and 4 and Appendix A), as functions
 -- on lists of bytes. `id` is a key's id of 16 bytes, `seed` its seed of 32 bytes, and q the number of
 -- one of its one-time keys. Each one-time key has 34 chains of 255 steps.
-use Rattle.std.specs.Prelude.{ℕ, zero, suc, List, [], ◌∷◌, ◌++◌, nat_le, if◌then◌else◌}
+use Rattle.std.specs.Prelude.{◌≡◌, ◌<◌, ℕ, zero, suc, List, [], ◌∷◌, ◌++◌, nat_le, slice_index_or, if◌then◌else◌}
 use Rattle.byteorder.specs.Endian.{big_bytes}
 use Rattle.sha2.specs.Sha256.{sha256}
 
@@ -39,3 +39,13 @@ key_of_ends id q y = sha256 (prefix id q 0x8080 ++ joined y 34)
 -- the public key of a seed's one-time key q (section 4.3)
 abbrev pub ots_public_key : List ℕ → List ℕ → ℕ → List ℕ
 ots_public_key id seed q = key_of_ends id q (chain_end id seed q)
+
+-- ---- ends that were computed apart
+
+-- the end of chain i among these
+abbrev pub end_in : List (List ℕ) → ℕ → List ℕ
+end_in ends i = slice_index_or ends i []
+
+-- each is where the chain of its number ends
+abbrev pub AreEndsOf : List ℕ → List ℕ → ℕ → List (List ℕ) → Type 0
+AreEndsOf id seed q ends = (i : ℕ) → i < 34 → end_in ends i ≡ chain_end id seed q i

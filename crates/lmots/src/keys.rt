@@ -1,7 +1,7 @@
 //! The keys that a seed gives.
 
-ghost use Rattle.std.specs.Prelude.{◌≡◌};
-ghost use Rattle.lmots.specs.Chains.{ots_private, chain_end, ots_public_key};
+ghost use Rattle.std.specs.Prelude.{◌≡◌, ℕ, List, length};
+ghost use Rattle.lmots.specs.Chains.{AreEndsOf, chain_end, end_in, key_of_ends, ots_private, ots_public_key};
 
 use crate::chains::{Chain, chain_steps, prefix};
 use sha2::{Digest, Sha256};
@@ -30,8 +30,9 @@ pub(crate) fn ots_private(secret: &PrivateSeed, q: u32, i: u16) -> [u8; 32]
     chain.value()
 }
 
+/// Where chain `i` of the one-time key `q` ends, 32 bytes (RFC 8554, section 4.3). A one-time key has 34 chains.
 #[tactic(auto, unfolding(crate::specs::Chains::chain_end))]
-fn chain_end(secret: &PrivateSeed, q: u32, i: u16) -> [u8; 32]
+pub fn chain_end(secret: &PrivateSeed, q: u32, i: u16) -> [u8; 32]
     ensures { result ≡ chain_end secret.now.key_id secret.now.seed q i }
 {
     let start = ots_private(secret, q, i);
@@ -49,4 +50,30 @@ pub fn ots_public(secret: &PrivateSeed, q: u32) -> [u8; 32]
         hasher.update(chain_end(secret, q, i));
     }
     hasher.finalize()
+}
+
+// The hash of the ends of the one-time key `q`.
+#[tactic(auto, using(crate::proofs::ChainLemmas::joined_none, crate::proofs::ChainLemmas::joined_more), unfolding(crate::specs::Chains::key_of_ends))]
+fn hash_of_ends(key_id: &[u8; 16], q: u32, ends: &[[u8; 32]]) -> [u8; 32]
+    requires { length ends.now ≡ 34 }
+    ensures { result ≡ key_of_ends key_id.now q (end_in ends.now) }
+{
+    let mut hasher = Sha256::new();
+    hasher.update(prefix(key_id, q, PUBLIC_KEY_USE));
+    for end in ends {
+        hasher.update(end);
+    }
+    hasher.finalize()
+}
+
+/// The public key of the one-time key `q` whose 34 chains end so, 32 bytes (RFC 8554, section 4.3, algorithm 1), so that
+/// the ends can be computed apart.
+pub fn key_of_ends(key_id: &[u8; 16], q: u32, ends: &[[u8; 32]]) -> [u8; 32]
+    requires { length ends.now ≡ 34 }
+    ensures value { result ≡ key_of_ends key_id.now q (end_in ends.now) }
+
+    // Of the ends of a seed's chains it is the key that the seed gives.
+    ensures of_seed { (seed : List ℕ) → AreEndsOf key_id.now seed q ends.now → result ≡ ots_public_key key_id.now seed q }
+{
+    hash_of_ends(key_id, q, ends)
 }

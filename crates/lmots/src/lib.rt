@@ -7,7 +7,7 @@ mod keys;
 mod signatures;
 
 pub use chains::prefix;
-pub use keys::{PrivateSeed, ots_public};
+pub use keys::{PrivateSeed, chain_end, key_of_ends, ots_public};
 pub use signatures::{
     OTS_SIGNATURE_LEN, OTS_TYPE, OtsRefusal, coefficients, ots_candidate, ots_sign,
 };

@@ -166,3 +166,8 @@ signature_verifies id seed q message small =
       same_root = root_from id message s q (ots_public_key id seed q) (tree_node id seed (1024 + q)) (tree_node id seed 1)
           (sym parts.leaf) (sym candidate) (sym (leaf_is_node id seed q)) (sym climb);
     }
+
+-- the number of the one-time key stands in front
+pub index_of_signature : (id seed : List ℕ) (q : ℕ) (message : List ℕ) → q < 1024 → number_at 4 (lms_signature id seed q message) 0 ≡ q
+unfolding lms_signature
+index_of_signature id seed q message h = leaf_number q _ h

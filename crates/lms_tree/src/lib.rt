@@ -14,6 +14,9 @@ pub use verification::{SigRefusal, verify};
 /// The length of a signature, in bytes.
 pub const SIGNATURE_LEN: usize = 1452;
 
+/// The bytes of a signature.
+pub type Signature = [u8; SIGNATURE_LEN];
+
 /// Where the one-time signature stands in a signature.
 pub(crate) const OTS_AT: usize = 4;
 

@@ -1,6 +1,7 @@
 //! A seed's tree, from which its owner signs.
 
 ghost use Rattle.std.specs.Prelude.{◌≡◌, ◌<◌, length, IfOk};
+ghost use Rattle.wire.specs.Pieces.{number_at};
 ghost use Rattle.lms_tree.specs.Tree.{IsFilled, lms_signature, path_node, tree_root, Verifies};
 
 use crate::nodes::{inner_hash, leaf_hash, sibling};
@@ -74,6 +75,7 @@ impl SigningTree {
         requires { q < 1024 }
         ensures exact { result ≡ lms_signature self.now.key_id self.now.seed q message.now }
         ensures verifies { Verifies self.now.key_id (tree_root self.now.key_id self.now.seed) message.now result }
+        ensures index { number_at 4 result 0 ≡ q }
     {
         let mut signature = [0; SIGNATURE_LEN];
         put(&mut signature, 0, &q.to_be_bytes());

@@ -1,5 +1,4 @@
-pub mod Sets
+pub use Rattle.evidence.specs.Evidence
+pub use Rattle.evidence.specs.Logs
+pub use Rattle.evidence.specs.Sets
 pub mod Sources
-pub mod Votes
-pub mod Keyed
-pub mod Evidence

@@ -2,7 +2,8 @@
 
 ghost use Rattle.std.specs.Prelude.{◌↔◌, IfOk, IsTrue};
 ghost use Rattle.std.specs.List.{AllZip};
-ghost use Rattle.parallel_verify.specs.Sources.{IsAnswerOn, IsGood};
+ghost use Rattle.certificates.specs.Votes.{IsGoodVote};
+ghost use Rattle.parallel_verify.specs.Sources.{IsAnswerOn};
 
 use blocks::CommitteeView;
 use certificates::{SignedVote, check_vote};
@@ -11,7 +12,7 @@ use std::thread::Threads;
 
 // Whether the vote is good.
 fn is_good(committee: &CommitteeView, vote: &SignedVote) -> bool
-    ensures { IsTrue result ↔ IsGood committee.now vote.now }
+    ensures { IsTrue result ↔ IsGoodVote committee.now vote.now }
 {
     check_vote(committee, vote).is_ok()
 }

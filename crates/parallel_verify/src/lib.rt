@@ -1,16 +1,12 @@
-//! Evidence: the headers and the good votes that the logs of replicas show together; and votes that are verified
-//! together. `verify_all` takes a runtime with `Threads`, and starts none yet; the rest has no handle.
+//! Evidence of streams, and votes that are verified together. `verify_all` takes a runtime with `Threads`, and starts none
+//! yet.
 #![tactic(auto)]
 
 mod batch;
-mod evidence;
-mod gathering;
-mod headers;
-mod refusal;
 mod source;
-mod votes;
+mod texts;
 
 pub use batch::verify_all;
-pub use evidence::{Evidence, evidence_of};
-pub use refusal::EvidenceRefusal;
-pub use source::{SourceReport, SourceText};
+pub use evidence::{Evidence, EvidenceRefusal, SourceReport};
+pub use source::SourceText;
+pub use texts::evidence_of;

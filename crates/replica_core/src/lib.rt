@@ -14,4 +14,5 @@ pub use durable::{Durable, Lock};
 pub use plan::{Act, Plan};
 pub use refusal::CoreRefusal;
 pub use replica::{Core, MOST_HEADERS};
+pub use restart::replay;
 pub use stored::Stored;

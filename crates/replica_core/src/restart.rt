@@ -16,7 +16,7 @@ use crate::table::HeaderTable;
 use blocks::{Header, NamedHeader};
 use std::alloc::{AllocError, Global};
 
-/// What the entries leave.
+/// What the entries leave, one after the other.
 #[tactic(auto, using(crate::proofs::Known::replay_more))]
 pub fn replay(genesis: &NamedHeader, entries: &[Stored]) -> Durable
     ensures { result ≡ replay genesis.now entries.now }

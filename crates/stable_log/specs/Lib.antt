@@ -1,6 +1,8 @@
+pub use Rattle.faults.specs.Counting
+pub use Rattle.faults.specs.Fuse
 pub mod Crash
 pub mod Disk
-pub mod Fuse
+pub mod MemoryParts
 pub mod Image
 pub mod Memory
 pub mod MemoryLaws

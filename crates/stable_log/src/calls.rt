@@ -1,10 +1,12 @@
 //! Runs of calls of a disk.
 ghost use Rattle.std.specs.Prelude.{◌≡◌, ◌<◌, ◌≤◌, ◌+◌, ◌^◌, ℕ, List, take, drop, Some, IfSome, IsSome, ◌↔◌, option_map, length, IfOk, OnOk};
-ghost use Rattle.stable_log.specs.Disk.{Counts, written};
+ghost use Rattle.stable_log.specs.Disk.{written};
+ghost use Rattle.faults.specs.Counting.{Counts};
 ghost use Rattle.stable_log.specs.Crash.{Torn, Follows, Stepped, Only, LeavesOnly, Unwritten};
 ghost use Rattle.stable_log.specs.Places.{with_entry, IsEntryStep};
 
-use crate::{Disk, Fault};
+use crate::Disk;
+use faults::Fault;
 
 // Writes a piece and syncs.
 pub(crate) fn write_synced<D: Disk>(disk: &mut D, at: u64, piece: &[u8]) -> Result<(), Fault>

@@ -1,8 +1,9 @@
 //! A file as a disk.
 ghost use Rattle.std.specs.Prelude.{◌≡◌, None};
-ghost use Rattle.stable_log.specs.Disk.{Counts};
+ghost use Rattle.faults.specs.Counting.{Counts};
 
-use crate::{Disk, Fault};
+use crate::Disk;
+use faults::Fault;
 use std::fs::File;
 use std::io;
 use std::io::{Read, Seek, SeekFrom, Write};

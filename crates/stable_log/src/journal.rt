@@ -1,6 +1,6 @@
 //! A list of payloads on a disk.
 ghost use Rattle.std.specs.Prelude.{◌≡◌, ◌≢◌, ◌<◌, ◌≤◌, ◌+◌, ◌++◌, ◌∷◌, [], ℕ, List, true, false, Some, IfSome, IsSome, ◌↔◌, option_map, length, slice_get, take, IfOk, IfErr, OnErr, OnOk, IsErrOf};
-ghost use Rattle.stable_log.specs.Disk.{HasFailed};
+ghost use Rattle.faults.specs.Counting.{HasFailed};
 ghost use Rattle.stable_log.specs.Crash.{Only, LeavesOnly, Unwritten, Torn, Follows};
 ghost use Rattle.stable_log.specs.Image.{empty_journal, staged_text, StandsFor, IsBeforeOrAfter, LeavesList};
 ghost use Rattle.stable_log.specs.Refusals.{IsCreateRefusal, IsRecoverRefusal, MayAppend, IsAppendRefusal, MayRead, IsEntryRefusal, IsEntryIntoRefusal};

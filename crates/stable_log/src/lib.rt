@@ -10,8 +10,9 @@ mod laws;
 mod memory_disk;
 mod reading;
 
-pub use disk::{Disk, Fault};
+pub use disk::Disk;
 pub use error::JournalError;
+pub use faults::Fault;
 pub use file_disk::FileDisk;
 pub use journal::Journal;
 pub use laws::an_image_stands_for_one_list;

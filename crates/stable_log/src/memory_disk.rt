@@ -1,11 +1,13 @@
 //! A disk in memory, for tests. It keeps its first bytes and each call since, from which its crash images follow.
 ghost use Rattle.std.specs.Prelude.{◌≡◌, ◌≤◌, ◌+◌, ◌-◌, ◌^◌, min, ℕ, Some, None, IfOk, IfSome, OnOk, OnErr, List, length, take, drop, [], ◌∷◌, ◌++◌, replicate};
-ghost use Rattle.stable_log.specs.Disk.{written, risen, Counts};
+ghost use Rattle.stable_log.specs.Disk.{written};
+ghost use Rattle.faults.specs.Counting.{Counts, one_more};
 ghost use Rattle.stable_log.specs.Crash.{Torn, Only, Unwritten};
 ghost use Rattle.stable_log.specs.Memory.{state_of, IsImageOf, WasImage};
 ghost use Rattle.stable_log.specs.MemoryLaws.{counts_now_of, only_now_of, as_read_of};
 
-use crate::{Disk, Fault};
+use crate::Disk;
+use faults::{Fault, Fuse};
 use std::alloc::{AllocError, Global};
 
 // A call that changed the disk.
@@ -13,13 +15,6 @@ use std::alloc::{AllocError, Global};
 enum Call {
     Write(usize, Vec<u8>),
     Sync,
-}
-
-// The next `pass` calls succeed and the one behind them fails, and all later ones too where `forever`.
-#[derive(Clone, Copy)]
-struct Fuse {
-    pass: u32,
-    forever: bool,
 }
 
 /// What a crash leaves of each range written since the last sync.
@@ -46,7 +41,7 @@ pub struct MemoryDisk {
     // the writes and syncs since, in order
     calls: Vec<Call>,
     bytes: Vec<u8>,
-    fuse: Option<Fuse>,
+    fuse: Fuse,
     failures: u64,
     pub ghost replayed: { bytes.items ≡ (state_of first.items calls.items).bytes },
 }
@@ -112,7 +107,8 @@ fn torn(
 }
 
 impl MemoryDisk {
-    ghost use Rattle.stable_log.specs.Fuse.{fuse_of, is_burning, after_call, synced_of};
+    ghost use Rattle.faults.specs.Fuse.{after_call, is_burning};
+    ghost use Rattle.stable_log.specs.MemoryParts.{fuse_of, synced_of};
 
     /// A disk of these bytes, all of them synced, with no failure and no fuse.
     pub fn new(alloc: Global, bytes: Vec<u8>) -> Result<MemoryDisk, AllocError>
@@ -127,7 +123,7 @@ impl MemoryDisk {
             first,
             calls: Vec::new(alloc),
             bytes,
-            fuse: None,
+            fuse: Fuse::none(),
             failures: 0,
         })
     }
@@ -147,7 +143,7 @@ impl MemoryDisk {
             ⟦<MemoryDisk as Disk>⟧.moment ⟦<MemoryDisk as Disk>⟧.images_since self.old self.new }
         ensures failed { ⟦<MemoryDisk as Disk>⟧.failed self.new ≡ ⟦<MemoryDisk as Disk>⟧.failed self.old }
     {
-        self.fuse = Some(Fuse { pass, forever });
+        self.fuse = Fuse::set(pass, forever);
     }
 
     /// The disk that a crash at this moment leaves, all of it synced, with no failure and no fuse.
@@ -186,22 +182,7 @@ impl MemoryDisk {
         ensures calls { self.new.calls ≡ self.old.calls }
         ensures failures { self.new.failures ≡ self.old.failures }
     {
-        match self.fuse {
-            None => false,
-            Some(Fuse { pass: 0, forever }) => {
-                if !forever {
-                    self.fuse = None;
-                }
-                true
-            }
-            Some(Fuse { pass, forever }) => {
-                self.fuse = Some(Fuse {
-                    pass: pass - 1,
-                    forever,
-                });
-                false
-            }
-        }
+        self.fuse.burns()
     }
 
     // Counts a failure.
@@ -209,7 +190,7 @@ impl MemoryDisk {
         ensures bytes { self.new.bytes ≡ self.old.bytes }
         ensures first { self.new.first ≡ self.old.first }
         ensures calls { self.new.calls ≡ self.old.calls }
-        ensures risen { self.new.failures ≡ risen self.old.failures }
+        ensures risen { self.new.failures ≡ one_more self.old.failures }
     {
         self.failures = self.failures.saturating_add(1);
         Fault

@@ -1,7 +1,7 @@
 //! Reads what a file stands for. Nothing here writes.
 ghost use Rattle.std.specs.Prelude.{◌≡◌, ◌≢◌, ◌<◌, ◌≤◌, ◌+◌, ℕ, List, IsTrue, ◌↔◌, MatchOption, take, drop, Some, IfSome, length, IfOk, IfErr, OnOk, IsErrOf};
 ghost use Rattle.byteorder.specs.Endian.{big_bytes};
-ghost use Rattle.stable_log.specs.Disk.{HasFailed};
+ghost use Rattle.faults.specs.Counting.{HasFailed};
 ghost use Rattle.stable_log.specs.Crash.{Only, Unwritten};
 ghost use Rattle.stable_log.specs.Image.{magic};
 ghost use Rattle.stable_log.specs.Places.{IsClosedAt, IsEntryAt, IsRead, ArePlaces, IsEntryFault, IsEntriesFault};

@@ -1,8 +1,8 @@
 //! Frames of streams, and requests for them. The stored export is an independent program's; what streams of a few
 //! bytes hold is worked out by hand, from docs/FORMATS.md.
 
-use exports::{Frames, Request, Status};
 use fixtures::exports::nine_entries;
+use log_format::{Frames, Request, Status};
 use std::alloc::{AllocError, Global};
 
 // The stored export has nine frames, each of a length of 4 bytes and a payload of 1,703.

@@ -1,5 +1,5 @@
--- What a sink was given, what a feed has left, and how their failures are counted.
-use Rattle.std.specs.Prelude.{Bool, ◌≡◌, ◌≤◌, ◌<◌, ◌+◌, ◌-◌, ◌^◌, ◌++◌, [], ℕ, List, Option, Some, IfSome, Result, OnOk, OnErr, length, min, take, drop}
+-- What a sink was given, and what a feed has left.
+use Rattle.std.specs.Prelude.{Bool, ◌≡◌, ◌≤◌, ◌<◌, ◌++◌, [], ℕ, List, Option, Some, IfSome, length, take, drop}
 
 -- the sink was given these bytes, where it tells what it was given
 abbrev pub Wrote : Option (List ℕ) → Option (List ℕ) → List ℕ → Type 0
@@ -18,15 +18,6 @@ pub record Gave (n room : ℕ) (filled rest left : List ℕ) : Type 0 where
 
 abbrev pub Read : Option (List ℕ) → Option (List ℕ) → ℕ → List ℕ → Type 0
 Read before after n filled = IfSome before (λ rest. (left : List ℕ) × (after ≡ Some left) × Gave n (length filled) filled rest left)
-
--- a failure is counted, up to the last number of 64 bits
-abbrev pub one_more : ℕ → ℕ
-one_more failures = min (failures + 1) (2 ^ 64 - 1)
-
--- a call that fails is counted, and no other
-pub record Counts {T E : Type 0} (before after : ℕ) (outcome : Result T E) : Type 0 where
-  pub kept : OnOk outcome (after ≡ before)
-  pub risen : OnErr outcome (after ≡ one_more before)
 
 -- bytes in memory: those that a sink was given, or those that a feed has left; and the fuse that is set
 pub record Memory : Type 0 where

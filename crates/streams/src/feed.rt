@@ -2,9 +2,10 @@
 
 ghost use Rattle.std.specs.Prelude.{◌≡◌, ◌≤◌, ℕ, List, Option, IfOk, OnErr, length};
 ghost use Rattle.std.specs.Io.KnownBytes.{Keeps};
-ghost use Rattle.streams.specs.Streams.{Read, Counts};
+ghost use Rattle.streams.specs.Streams.{Read};
+ghost use Rattle.faults.specs.Counting.{Counts};
 
-use crate::sink::Fault;
+use faults::Fault;
 
 /// Gives bytes in order. A contract names what a feed has left, where the feed tells it, and how many of
 /// its reads failed.

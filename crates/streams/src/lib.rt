@@ -3,7 +3,6 @@
 #![tactic(auto)]
 
 mod feed;
-mod fuse;
 mod memory_feed;
 mod memory_sink;
 mod sink;
@@ -11,10 +10,11 @@ mod std_feed;
 mod std_sink;
 mod text;
 
+pub use faults::Fault;
 pub use feed::Feed;
 pub use memory_feed::MemoryFeed;
 pub use memory_sink::MemorySink;
-pub use sink::{Fault, Sink, write_all};
+pub use sink::{Sink, write_all};
 pub use std_feed::StdFeed;
 pub use std_sink::StdSink;
 pub use text::SinkText;

@@ -3,8 +3,7 @@
 ghost use Rattle.std.specs.Prelude.{◌≡◌, None, Some};
 
 use crate::feed::Feed;
-use crate::fuse::Fuse;
-use crate::sink::Fault;
+use faults::{Fault, Fuse};
 use std::marker::Model;
 
 /// Gives bytes that it holds, and fails where it is told to. A contract sees the bytes that are left and

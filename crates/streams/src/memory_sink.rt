@@ -2,8 +2,8 @@
 
 ghost use Rattle.std.specs.Prelude.{◌≡◌, [], None, Some};
 
-use crate::fuse::Fuse;
-use crate::sink::{Fault, Sink};
+use crate::sink::Sink;
+use faults::{Fault, Fuse};
 use std::alloc::Global;
 use std::marker::Model;
 

@@ -3,7 +3,7 @@
 ghost use Rattle.std.specs.Prelude.{◌≡◌};
 
 use crate::feed::Feed;
-use crate::sink::Fault;
+use faults::Fault;
 use std::io::Read;
 use std::marker::Model;
 

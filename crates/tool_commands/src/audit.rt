@@ -3,8 +3,7 @@
 use crate::fault::{Fault, Place};
 use crate::files::read_at_most;
 use blocks::CommitteeView;
-use culprit_search::{ReportError, audit, write_report};
-use offence_search::Verdict;
+use culprit_search::{ReportError, Verdict, audit, write_report};
 use parallel_verify::{Evidence, EvidenceRefusal, SourceText, evidence_of};
 use std::alloc::{AllocError, Global};
 use std::fs;

@@ -7,12 +7,12 @@ ghost use Rattle.blocks.specs.Rules.{IsDoubleVote};
 ghost use Rattle.certificates.specs.Votes.{IsSignedBy};
 ghost use Rattle.verdict_format.specs.Verdicts.{kind_in, replica_in};
 ghost use Rattle.verdict_format.specs.VerdictReading.{IsReadable};
-ghost use Rattle.verdict_format.specs.Proofs.{IsProof, IsLockViolationBy, BreaksRule, NoRunHasBothVotes, NoRunApartHasBothVotes};
+ghost use Rattle.verdict_format.specs.Proofs.{IsProof, IsLockViolationBy, BreaksRule, NoRunHasBothVotes, NoRunApartHasBothVotes, NoLifeReleasedBothVotes, NoLifeApartReleasedBothVotes};
 ghost use Rattle.verdict_checker.specs.Checks.{AreOfVotes, HeadersMatch, IsRefused, PassesAll};
 ghost use Rattle.verdict_checker.specs.Findings.{IsFindingOf};
 
 use crate::refusal::Refusal;
-use blocks::{Header, no_run_has_a_double_vote, no_run_has_a_lock_violation};
+use blocks::{Header, a_life_is_a_run, no_run_has_a_double_vote, no_run_has_a_lock_violation};
 use certificates::{CommitteeView, LmsVerifier, is_signed_by};
 use verdict_format::{Rule, VerdictView, VoteView, VotedHeaders};
 
@@ -137,9 +137,13 @@ pub fn check(committee: &CommitteeView, bytes: &[u8]) -> Result<Finding, Refusal
     ensures sound { OnOk result (NoRunApartHasBothVotes committee.now bytes.now) }
     // For a double vote there is no premise on ids.
     ensures sound_of_double_votes { OnOk result (kind_in bytes.now ≡ 1 → NoRunHasBothVotes committee.now bytes.now) }
+    // The same of a replica over all its crashes and restarts.
+    ensures sound_of_lives { OnOk result (NoLifeApartReleasedBothVotes committee.now bytes.now) }
+    ensures sound_of_lives_and_double_votes { OnOk result (kind_in bytes.now ≡ 1 → NoLifeReleasedBothVotes committee.now bytes.now) }
 {
     no_run_has_a_double_vote();
     no_run_has_a_lock_violation();
+    a_life_is_a_run();
     let verdict = VerdictView::parse(bytes)?;
     judge(committee, &verdict)?;
     Ok(Finding {

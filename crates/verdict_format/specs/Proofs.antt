@@ -8,9 +8,10 @@ use Rattle.blocks.specs.Headers.{Header}
 use Rattle.blocks.specs.Chains.{NoCollision}
 use Rattle.blocks.specs.Genesis.{genesis_of, chain_id_of}
 use Rattle.blocks.specs.Replica.{Event, Ballot, IsRun, votes_of, headers_of}
+use Rattle.blocks.specs.Lives.{Stay, IsLife, released_in, headers_in as headers_of_life}
 use Rattle.blocks.specs.Rules.{IsDoubleVote, IsLockViolation}
 use Rattle.certificates.specs.Votes.{IsGoodVote}
-use Rattle.verdict_format.specs.Verdicts.{VotedHeaders, IsVerdict, kind_in, chain_in, replica_in, earlier_in, later_in, earlier_signature_in, later_signature_in, headers_in}
+use Rattle.verdict_format.specs.Verdicts.{VotedHeaders, IsVerdict, kind_in, chain_in, earlier_in, later_in, earlier_vote_in, later_vote_in, headers_in}
 
 -- two votes and the headers behind them are a lock violation
 abbrev pub IsLockViolationBy : Ballot → Ballot → VotedHeaders → Type 0
@@ -28,8 +29,8 @@ pub record IsProof (committee bytes : List ℕ) : Type 0 where
   pub verdict : IsVerdict bytes
   pub chain : chain_in bytes ≡ chain_id_of committee
   pub broken : BreaksRule bytes
-  pub earlier : IsGoodVote committee (replica_in bytes) (earlier_in bytes).view (earlier_in bytes).id (earlier_signature_in bytes)
-  pub later : IsGoodVote committee (replica_in bytes) (later_in bytes).view (later_in bytes).id (later_signature_in bytes)
+  pub earlier : IsGoodVote committee (earlier_vote_in bytes)
+  pub later : IsGoodVote committee (later_vote_in bytes)
 
 -- ---- what a proof means
 
@@ -49,3 +50,17 @@ abbrev pub NoRunApartHasBothVotes : List ℕ → List ℕ → Type 0
 NoRunApartHasBothVotes committee bytes =
     (run : List Event) → IsRun (genesis_of committee) run → NoCollision (shown_by (headers_in bytes) ++ headers_of run)
     → Contains (votes_of run) (earlier_in bytes) → Contains (votes_of run) (later_in bytes) → ⊥
+
+-- ---- .. of a replica over all its restarts
+
+-- no life over the committee's genesis released both votes of the verdict
+abbrev pub NoLifeReleasedBothVotes : List ℕ → List ℕ → Type 0
+NoLifeReleasedBothVotes committee bytes =
+    (life : List Stay) → IsLife (genesis_of committee) life
+    → Contains (released_in life) (earlier_in bytes) → Contains (released_in life) (later_in bytes) → ⊥
+
+-- the same of the lives among whose headers and the verdict's no two different ones have one id
+abbrev pub NoLifeApartReleasedBothVotes : List ℕ → List ℕ → Type 0
+NoLifeApartReleasedBothVotes committee bytes =
+    (life : List Stay) → IsLife (genesis_of committee) life → NoCollision (shown_by (headers_in bytes) ++ headers_of_life life)
+    → Contains (released_in life) (earlier_in bytes) → Contains (released_in life) (later_in bytes) → ⊥

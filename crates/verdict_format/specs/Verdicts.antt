@@ -1,6 +1,7 @@
 -- The text of a verdict, as docs/FORMATS.md, "Verdict", lays it out: what stands where in it.
 use Rattle.std.specs.Prelude.{◌≡◌, ◌⊎◌, ◌+◌, ◌==◌, ℕ, List, length, slice_index, codes, Option, Some, None, Result, Ok, Err, if◌then◌else◌}
 use Rattle.wire.specs.Pieces.{piece, number_at}
+use Rattle.certificates.specs.declared.vote.SignedVote.{SignedVote}
 use Rattle.blocks.specs.Headers.{Header}
 use Rattle.blocks.specs.HeaderReading.{header_in}
 use Rattle.blocks.specs.Replica.{Ballot}
@@ -32,6 +33,16 @@ earlier_signature_in bytes = piece 1452 bytes 79
 
 unfoldable pub later_signature_in : List ℕ → List ℕ
 later_signature_in bytes = piece 1452 bytes 1571
+
+-- a vote with the number of its replica and its signature
+abbrev pub signed_by : ℕ → Ballot → List ℕ → SignedVote
+signed_by replica vote signature = record { replica = replica; view = vote.view; id = vote.id; signature = signature }
+
+abbrev pub earlier_vote_in : List ℕ → SignedVote
+earlier_vote_in bytes = signed_by (replica_in bytes) (earlier_in bytes) (earlier_signature_in bytes)
+
+abbrev pub later_vote_in : List ℕ → SignedVote
+later_vote_in bytes = signed_by (replica_in bytes) (later_in bytes) (later_signature_in bytes)
 
 -- ---- what a verdict of a lock violation says besides
 

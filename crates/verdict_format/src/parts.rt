@@ -6,8 +6,10 @@ ghost use Rattle.verdict_format.specs.VerdictText.{AreHeaders, IsBoundVote, IsVe
 
 use crate::verdict::Rule;
 use blocks::{Header, Id};
+use lms_tree::Signature;
 use std::alloc::{AllocError, Global};
 use std::marker::Model;
+use wire::append;
 
 /// A vote of the accused replica.
 #[derive(Clone, Copy, Debug)]
@@ -17,7 +19,7 @@ pub struct BoundVote {
     /// The block's id.
     pub id: Id,
     /// The LMS signature of the statement, 1,452 bytes (RFC 8554, section 5.4).
-    pub signature: [u8; 1452],
+    pub signature: Signature,
 }
 
 /// The headers behind the votes of a lock violation.
@@ -56,14 +58,6 @@ pub struct VerdictParts {
     pub headers: Option<VotedHeaders>,
 }
 
-// Adds a piece to the text.
-fn put(text: &mut Vec<u8>, piece: &[u8]) -> Result<(), AllocError>
-    ensures { OnOk result (text.new.items ≡ text.old.items ++ piece.now) }
-{
-    text.extend_from_slice(piece)?;
-    Ok(())
-}
-
 impl VerdictParts {
     /// The rule that they show to be broken.
     fn rule(&self) -> Rule
@@ -83,10 +77,10 @@ fn put_head(text: &mut Vec<u8>, parts: &VerdictParts) -> Result<(), AllocError>
     ensures chain { length parts.now.chain ≡ 32 }
     ensures replica { OnOk result (parts.now.replica < 2 ^ 16) }
 {
-    put(text, b"HSX1")?;
-    put(text, &parts.chain)?;
-    put(text, &parts.replica.to_be_bytes())?;
-    put(text, &[parts.rule().number()])?;
+    append(text, b"HSX1")?;
+    append(text, &parts.chain)?;
+    append(text, &parts.replica.to_be_bytes())?;
+    append(text, &[parts.rule().number()])?;
     Ok(())
 }
 
@@ -95,9 +89,9 @@ fn put_vote(text: &mut Vec<u8>, vote: &BoundVote) -> Result<(), AllocError>
     ensures text { OnOk result (text.new.items ≡ text.old.items ++ bound_text vote.now) }
     ensures is_vote { IsBoundVote vote.now }
 {
-    put(text, &vote.view.to_be_bytes())?;
-    put(text, &vote.id)?;
-    put(text, &vote.signature)?;
+    append(text, &vote.view.to_be_bytes())?;
+    append(text, &vote.id)?;
+    append(text, &vote.signature)?;
     Ok(())
 }
 
@@ -109,9 +103,9 @@ fn put_headers(text: &mut Vec<u8>, headers: &Option<VotedHeaders>) -> Result<(),
     let Some(headers) = headers else {
         return Ok(());
     };
-    put(text, &headers.earlier.to_bytes())?;
-    put(text, &headers.parent.to_bytes())?;
-    put(text, &headers.later.to_bytes())?;
+    append(text, &headers.earlier.to_bytes())?;
+    append(text, &headers.parent.to_bytes())?;
+    append(text, &headers.later.to_bytes())?;
     Ok(())
 }
 

@@ -1,5 +1,3 @@
-pub mod EntryParts
-pub mod EntryLaws
 pub mod LogLaws
 pub mod StepFaults
 pub mod LogKeeps

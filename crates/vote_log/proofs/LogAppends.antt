@@ -11,8 +11,8 @@ use Rattle.stable_log.specs.Image.{StandsFor, LeavesList, IsBeforeOrAfter as IsL
 use Rattle.stable_log.specs.State.{JournalState}
 use Rattle.stable_log.specs.declared.error.JournalError.{JournalError}
 use Rattle.stable_log.specs.declared.error.JournalError.TheVariants.{Memory, Device, NotAJournal, Damaged, Full, TooLong, Stopped, NoSuchEntry}
-use Rattle.vote_log.specs.EntryText.{Entry, IsEntryOf, stored_in}
-use Rattle.vote_log.specs.EntryReading.{entry_in}
+use Rattle.log_format.specs.EntryText.{Entry, IsEntryOf, stored_in}
+use Rattle.log_format.specs.EntryReading.{entry_in}
 use Rattle.vote_log.specs.Logs.{AreTexts, IsBeforeOrAfter, KeepsLog, LeavesEntries, texts_of}
 use Rattle.vote_log.proofs.LogLaws.{entries_push, length-push, texts_and_one, texts_are, texts_push}
 

@@ -9,13 +9,13 @@ use Rattle.stable_log.proofs.Told.{some_if, if_some}
 use Rattle.stable_log.specs.Crash.{NoNew}
 use Rattle.stable_log.specs.Image.{StandsFor}
 use Rattle.stable_log.specs.State.{JournalState}
-use Rattle.vote_log.specs.EntryText.{Entry, IsEntry, entry_text}
-use Rattle.vote_log.specs.EntryReading.{entry_in}
+use Rattle.log_format.specs.EntryText.{Entry, IsEntry, entry_text}
+use Rattle.log_format.specs.EntryReading.{entry_in}
 use Rattle.vote_log.specs.Logs.{AreListed, AreTexts, IsEntryAt, IsEntryText, KeepsLog, LogState, StandsForEntries, texts_of}
 use Rattle.vote_log.specs.LogRefusals.{IsEntryRefusal, IsReadFault}
 use Rattle.vote_log.specs.declared.log_error.LogError.{LogError}
 use Rattle.vote_log.specs.declared.log_error.LogError.TheVariants.{Memory, Device, NotAJournal, Damaged, Full, Stopped, NoSuchEntry, BadEntry, IllegalLog}
-use Rattle.vote_log.proofs.EntryLaws.{entry_again}
+use Rattle.log_format.proofs.EntryLaws.{entry_again}
 use Rattle.vote_log.proofs.LogLaws.{listed_of, texts_are}
 
 -- ---- entries of payloads

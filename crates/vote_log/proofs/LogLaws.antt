@@ -6,10 +6,10 @@ use Rattle.std.proofs.lemmas.List.Elements.{All-head, All-tail, All-map, All-pus
 use Rattle.blocks.specs.Headers.{Header}
 use Rattle.blocks.specs.Replica.{Stored}
 use Rattle.blocks.specs.Replay.{Durable, IsLegal, IsLegalEntry, IsLegalFrom, first_durable, replay, replay_entry, replay_from}
-use Rattle.vote_log.specs.EntryText.{Entry, IsEntry, IsEntryOf, entry_text, stored_in}
-use Rattle.vote_log.specs.EntryReading.{entry_in}
+use Rattle.log_format.specs.EntryText.{Entry, IsEntry, IsEntryOf, entry_text, stored_in}
+use Rattle.log_format.specs.EntryReading.{entry_in}
 use Rattle.vote_log.specs.Logs.{AreListed, AreTexts, IsEntryAt, IsEntryText, IsFirstIllegal, IsFirstUnreadable, IsLogUpTo, steps_of, texts_of}
-use Rattle.vote_log.proofs.EntryLaws.{entry_again}
+use Rattle.log_format.proofs.EntryLaws.{entry_again}
 
 -- ---- legal lists
 

@@ -6,12 +6,12 @@ use Rattle.std.proofs.lemmas.List.{append-nil, drop-drop, drop_more, take_all, t
 use Rattle.std.proofs.lemmas.List.Concat.{flat_map-append}
 use Rattle.std.proofs.Math.Seq.{take-add}
 use Rattle.std.proofs.lemmas.Bool.{cases_lt}
-use Rattle.exports.specs.Exports.{asked_for, end_mark, export_text, frame_text}
+use Rattle.log_format.specs.Exports.{asked_for, end_mark, export_text, frame_text}
 use Rattle.streams.specs.Streams.{Wrote, WrotePart}
 use Rattle.streams.proofs.Writing.{wrote_both, wrote_nothing}
 use Rattle.blocks.specs.Replica.{Stored}
 use Rattle.stable_log.proofs.Told.{some_if}
-use Rattle.vote_log.specs.EntryReading.{entry_in}
+use Rattle.log_format.specs.EntryReading.{entry_in}
 use Rattle.vote_log.specs.LogExport.{export_of, frame_at, frames_from}
 use Rattle.vote_log.specs.Logs.{AreTexts}
 use Rattle.vote_log.proofs.LogLaws.{texts_are}

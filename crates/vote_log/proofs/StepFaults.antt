@@ -6,7 +6,7 @@ use Rattle.blocks.specs.Replica.{Stored}
 use Rattle.blocks.specs.Replay.{IsLegal}
 use Rattle.stable_log.proofs.Told.{some_if, if_some}
 use Rattle.stable_log.specs.State.{JournalState}
-use Rattle.vote_log.specs.EntryText.{Entry}
+use Rattle.log_format.specs.EntryText.{Entry}
 use Rattle.vote_log.specs.Logs.{AreTexts, IsEntryAt, IsFirstUnreadable}
 use Rattle.vote_log.specs.LogRefusals.{IsReadFault, IsStepsFault}
 use Rattle.vote_log.specs.declared.log_error.LogError.{LogError}

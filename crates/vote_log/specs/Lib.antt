@@ -1,9 +1,6 @@
-pub use Rattle.blocks.specs.Headers
-pub use Rattle.blocks.specs.HeaderReading
-pub use Rattle.certificates.specs.Certificates
-pub use Rattle.certificates.specs.CertificateReading
-pub mod EntryText
-pub mod EntryReading
+pub use Rattle.log_format.specs.EntryText
+pub use Rattle.log_format.specs.EntryReading
+pub use Rattle.log_format.specs.Exports
 pub mod Logs
 pub mod LogRefusals
 pub mod LogExport

@@ -1,9 +1,9 @@
 -- What a log sends out, and when it refuses to. docs/FORMATS.md, 'Export'.
 use Rattle.std.specs.Prelude.{ℕ, ◌≡◌, ◌<◌, ◌-◌, min, List, [], take, drop, length, slice_index_or, Result, Ok, Err, true, false}
 use Rattle.std.specs.List.{flat_map}
-use Rattle.exports.specs.Exports.{export_text, frame_text}
-use Rattle.stable_log.specs.Disk.{HasFailed}
-use Rattle.vote_log.specs.EntryText.{Entry}
+use Rattle.log_format.specs.Exports.{export_text, frame_text}
+use Rattle.faults.specs.Counting.{HasFailed}
+use Rattle.log_format.specs.EntryText.{Entry}
 use Rattle.vote_log.specs.Logs.{LogState, texts_of}
 use Rattle.vote_log.specs.declared.export_error.ExportError.{ExportError}
 use Rattle.vote_log.specs.declared.export_error.ExportError.TheVariants.{Memory, Device, Sink, Stopped}

@@ -7,7 +7,7 @@ use Rattle.stable_log.specs.State.{JournalState}
 use Rattle.stable_log.specs.Refusals.{IsDamaged, MayRead as MayReadPayload}
 use Rattle.stable_log.specs.declared.error.JournalError.{JournalError}
 use Rattle.stable_log.specs.declared.error.JournalError.TheVariants as journal
-use Rattle.vote_log.specs.EntryText.{Entry}
+use Rattle.log_format.specs.EntryText.{Entry}
 use Rattle.vote_log.specs.Logs.{LogState, IsEntryAt, IsFirstUnreadable, IsFirstIllegal}
 use Rattle.vote_log.specs.declared.log_error.LogError.{LogError}
 use Rattle.vote_log.specs.declared.log_error.LogError.TheVariants.{Memory, Device, NotAJournal, Damaged, Full, Stopped, NoSuchEntry, BadEntry, IllegalLog}

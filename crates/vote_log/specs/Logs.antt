@@ -6,8 +6,8 @@ use Rattle.blocks.specs.Headers.{Header, IsGenesis}
 use Rattle.blocks.specs.Replica.{Stored}
 use Rattle.blocks.specs.Replay.{IsLegal}
 use Rattle.stable_log.specs.Image.{StandsFor, LeavesList}
-use Rattle.vote_log.specs.EntryText.{Entry, IsEntry, IsEntryOf, entry_text, stored_in}
-use Rattle.vote_log.specs.EntryReading.{entry_in}
+use Rattle.log_format.specs.EntryText.{Entry, IsEntry, IsEntryOf, entry_text, stored_in}
+use Rattle.log_format.specs.EntryReading.{entry_in}
 
 -- ---- logs
 

@@ -2,7 +2,7 @@
 
 ghost use Rattle.std.specs.Prelude.{◌≡◌, ◌≤◌, ◌<◌, ◌+◌, ◌-◌, ◌⊎◌, ℕ, List, [], false, drop, length, take, Some, IfErr, IfOk, IfSome, OnErr, OnOk, slice_get, slice_index_or, codes};
 ghost use Rattle.std.specs.List.{flat_map};
-ghost use Rattle.exports.specs.Exports.{asked_for, end_mark, export_text, frame_text};
+ghost use Rattle.log_format.specs.Exports.{asked_for, end_mark, export_text, frame_text};
 ghost use Rattle.stable_log.specs.Crash.{Unwritten};
 ghost use Rattle.streams.specs.Streams.{Wrote, WrotePart};
 ghost use Rattle.vote_log.specs.LogExport.{Blames, frame_at, frame_count, frames_from};
@@ -63,7 +63,7 @@ fn read_payload<D: Disk>(
 }
 
 // Puts the frame of payload k at the front of the buffer. Answers its length.
-#[tactic(auto, unfolding(exports::specs::Exports::frame_text))]
+#[tactic(auto, unfolding(log_format::specs::Exports::frame_text))]
 fn read_frame<D: Disk>(
     journal: &mut Journal<D>,
     k: usize,
@@ -153,7 +153,7 @@ fn asked_range(count: usize, first: u32, most: u32) -> (usize, usize)
 }
 
 // No length, then how many frames the stream has.
-#[tactic(auto, unfolding(exports::specs::Exports::end_mark))]
+#[tactic(auto, unfolding(log_format::specs::Exports::end_mark))]
 fn end_mark(count: u32) -> [u8; 8]
     ensures { result ≡ end_mark count }
 {

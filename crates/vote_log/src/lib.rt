@@ -1,16 +1,15 @@
-//! A replica's log: what it stores of its votes and of its raised locks, and how that goes out. No handle.
+//! A replica's log on a disk: what it stores of its votes and of its raised locks, and how that goes out. Needs no
+//! threads or network.
 #![tactic(auto)]
 
-mod entry;
 mod export;
 mod export_error;
 mod log;
 mod log_error;
 mod reading;
 
-pub use entry::{Entry, EntryRefusal, entries_have_one_spelling};
 pub use export_error::ExportError;
-pub use exports::{Frames, Status};
 pub use log::{MOST_ENTRIES, VoteLog};
 pub use log_error::LogError;
+pub use log_format::{Entry, EntryRefusal, Frames, Status, entries_have_one_spelling};
 pub use streams::{Fault, Feed, MemoryFeed, MemorySink, Sink, StdFeed, StdSink};

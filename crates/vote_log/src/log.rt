@@ -5,19 +5,19 @@ ghost use Rattle.std.specs.List.{All};
 ghost use Rattle.blocks.specs.Headers.{IsGenesis};
 ghost use Rattle.blocks.specs.Replay.{IsLegal, replay};
 ghost use Rattle.stable_log.specs.Crash.{Follows, LeavesOnly, Only, Torn, Unwritten};
-ghost use Rattle.stable_log.specs.Disk.{HasFailed};
+ghost use Rattle.faults.specs.Counting.{HasFailed};
 ghost use Rattle.stable_log.specs.Image.{empty_journal};
 ghost use Rattle.streams.specs.Streams.{Wrote, WrotePart};
-ghost use Rattle.vote_log.specs.EntryText.{Entry as EntryValue, IsEntry, stored_in};
+ghost use Rattle.log_format.specs.EntryText.{Entry as EntryValue, IsEntry, stored_in};
 ghost use Rattle.vote_log.specs.LogExport.{Blames, IsExportRefusal, export_of, frame_count};
 ghost use Rattle.vote_log.specs.LogRefusals.{IsAppendRefusal, IsCreateRefusal, IsEntryRefusal, IsRecoverRefusal, MayAppend, MayRead};
 ghost use Rattle.vote_log.specs.Logs.{AreListed, IsBeforeOrAfter, IsLog, LeavesEntries, StandsForEntries, steps_of};
 
 use crate::export::{LONGEST_FRAME, buffer_of, send_export};
-use crate::reading::{read_entry, read_steps, replay};
+use crate::reading::{read_entry, read_steps};
 use crate::{Entry, ExportError, LogError};
-use blocks::Header;
-use replica_core::{Durable, Stored};
+use blocks::{Header, NamedHeader};
+use replica_core::{Durable, Stored, replay};
 use stable_log::{Disk, Journal};
 use std::alloc::Global;
 use std::marker::Model;
@@ -45,7 +45,7 @@ pub struct VoteLog<D: Disk> {
 
 impl<D: Disk> Model for VoteLog<D> {
     ghost use Rattle.std.specs.Prelude.{map};
-    ghost use Rattle.vote_log.specs.EntryReading.{entry_in};
+    ghost use Rattle.log_format.specs.EntryReading.{entry_in};
     ghost use Rattle.vote_log.specs.Logs.{LogState, KeepsLog};
 
     ghost Value = { LogState D };
@@ -242,6 +242,8 @@ impl<D: Disk> VoteLog<D> {
         ensures value { result.now ≡ self.now.steps }
         ensures legal { IsLegal self.now.genesis self.now.steps }
         ensures listed { IfSome (D.bytes self.now.disk) (λ _. AreListed self.now.entries self.now.steps) }
+        ensures durable { self.now.stopped ≡ false → IfSome (D.bytes self.now.disk) (λ _.
+            LeavesEntries (D.images self.now.disk) self.now.entries) }
     {
         &self.steps
     }
@@ -251,7 +253,7 @@ impl<D: Disk> VoteLog<D> {
         ensures value { result ≡ replay self.now.genesis self.now.steps }
         ensures legal { IsLegal self.now.genesis self.now.steps }
     {
-        replay(&self.genesis, &self.steps)
+        replay(&NamedHeader::of(self.genesis), &self.steps)
     }
 
     /// Whether an entry is legal after the others, as `append` asks.

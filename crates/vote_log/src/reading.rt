@@ -3,7 +3,7 @@
 ghost use Rattle.std.specs.Prelude.{◌≡◌, ◌≢◌, ℕ, List, false, length, Some, IfErr, IfOk, IfSome, IsErrOf, OnOk};
 ghost use Rattle.blocks.specs.Replay.{IsLegal, replay};
 ghost use Rattle.stable_log.specs.Crash.{Unwritten};
-ghost use Rattle.stable_log.specs.Disk.{HasFailed};
+ghost use Rattle.faults.specs.Counting.{HasFailed};
 ghost use Rattle.stable_log.specs.Refusals.{MayRead};
 ghost use Rattle.vote_log.specs.LogRefusals.{IsReadFault, IsStepsFault};
 ghost use Rattle.vote_log.specs.Logs.{AreTexts, IsEntryAt};
@@ -13,17 +13,6 @@ use blocks::{Header, NamedHeader};
 use replica_core::{Durable, Stored};
 use stable_log::{Disk, Journal};
 use std::alloc::Global;
-
-// What steps leave, one after the other.
-pub(crate) fn replay(genesis: &Header, steps: &[Stored]) -> Durable
-    ensures { result ≡ replay genesis.now steps.now }
-{
-    let mut durable = Durable::first(&NamedHeader::of(*genesis));
-    for step in steps {
-        durable.take(step);
-    }
-    durable
-}
 
 // Entry k.
 pub(crate) fn read_entry<D: Disk>(

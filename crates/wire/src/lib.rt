@@ -2,10 +2,11 @@
 //! byte first; and in `specs/` the words for refusals in their order. No handle.
 #![tactic(auto)]
 
-ghost use Rattle.std.specs.Prelude.{◌≡◌, ◌+◌, ◌≤◌, ◌++◌, length, take, drop};
+ghost use Rattle.std.specs.Prelude.{◌≡◌, ◌+◌, ◌≤◌, ◌++◌, length, take, drop, OnErr, OnOk};
 ghost use Rattle.wire.specs.Pieces.{piece, number_at};
 
 use byteorder::{BigEndian, ByteOrder};
+use std::alloc::AllocError;
 
 /// The number in the two bytes from place `at` on, which must be there.
 #[tactic(auto, unfolding(crate::specs::Pieces::number_at))]
@@ -52,4 +53,13 @@ pub fn put(bytes: &mut [u8], at: usize, piece: &[u8])
     ensures rest { drop (at + length piece.now) bytes.new ≡ drop (at + length piece.now) bytes.old }
 {
     bytes[at..at + piece.len()].copy_from_slice(piece);
+}
+
+/// Adds a piece at the end of a text. Where memory is refused the text is as it was.
+pub fn append(text: &mut Vec<u8>, piece: &[u8]) -> Result<(), AllocError>
+    ensures ok { OnOk result (text.new.items ≡ text.old.items ++ piece.now) }
+    ensures err { OnErr result (text.new.items ≡ text.old.items) }
+{
+    text.extend_from_slice(piece)?;
+    Ok(())
 }

@@ -1,6 +1,7 @@
 use Rattle.std.proofs.Common.{◌≡◌, ◌≤◌, ◌+◌, ◌*◌, true, false, length, get_or, rules, arith, sym, subst}
 use Rattle.std.specs.List.{All}
-use Rattle.blocks.specs.Committees.{f_of, n_of}
+use Rattle.blocks.specs.Committees.{n_of}
+use Rattle.blocks.specs.Weights.{quorum_of}
 use Rattle.certificates.specs.declared.vote.SignedVote.{SignedVote}
 use Rattle.certificates.specs.Assembling.{IsVoteFor}
 use Rattle.certificates.specs.CertificateReading.{is_rising}
@@ -22,7 +23,7 @@ returns-then-not-is_rising-clause-first_refusal c =
     let entries = c.sort_by_replica.new.entries.items in
     let for_first : All (IsVoteFor first.view first.id) votes = search rules in
     let not_rising : is_rising entries ≡ false = cc in
-    let enough : 2 * f_of c.args.committee.now + 1 ≤ length votes = omega arith in (
+    let enough : quorum_of c.args.committee.now ≤ length votes = omega arith in (
       agree_from votes first.view first.id for_first,
       enough,
       double_from votes _ entries c.in_ok-entries.ensures.ok c.sort_by_replica.ensures.same c.sort_by_replica.ensures.sorted not_rising,

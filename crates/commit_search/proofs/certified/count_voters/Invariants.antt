@@ -1,6 +1,6 @@
 use Rattle.std.proofs.Common.{◌≡◌, ◌≤◌}
 use Rattle.blocks.specs.Headers.{header_id}
-use Rattle.accountability.specs.Committees.{counts_once, weight_of}
+use Rattle.blocks.specs.Weights.{counts_once, weight_of}
 use Rattle.accountability.specs.Commits.{has_vote}
 use Rattle.commit_search.proofs.certified.count_voters.Given as goal
 

@@ -5,6 +5,7 @@ use Rattle.verdict_format.specs.Proofs.{IsProof}
 use Rattle.verdict_checker.specs.declared.refusal.Refusal.{Refusal}
 use Rattle.verdict_checker.specs.Checks.{IsRefused, Passes, PassesAll, check_order, refusal_number}
 use Rattle.verdict_checker.proofs.Accepted.{proof_from, passes_from, sound_from, sound_of_both}
+use Rattle.verdict_checker.proofs.Lives.{no_life_apart, no_life_released}
 use Rattle.verdict_checker.proofs.checker.check.Goals as goal
 
 pub returns-clause-sound : goal.returns-clause-sound
@@ -18,6 +19,12 @@ returns-clause-sound_of_double_votes c one =
     let passed : PassesAll c.args.committee.now c.args.bytes.now = search rules in
     let proof = proof_from c.args.committee.now c.args.bytes.now passed in
     sound_from c.args.committee.now c.args.bytes.now c.no_run_has_a_double_vote.ensures proof one
+
+pub returns-clause-sound_of_lives : goal.returns-clause-sound_of_lives
+returns-clause-sound_of_lives c = no_life_apart c.args.committee.now c.args.bytes.now c.a_life_is_a_run.ensures (returns-clause-sound c)
+
+pub returns-clause-sound_of_lives_and_double_votes : goal.returns-clause-sound_of_lives_and_double_votes
+returns-clause-sound_of_lives_and_double_votes c one = no_life_released c.args.committee.now c.args.bytes.now c.a_life_is_a_run.ensures (returns-clause-sound_of_double_votes c one)
 
 -- the verdict that was read is that of the bytes
 still_refused : (committee bytes read : List ℕ) (refusal : Refusal) → read ≡ bytes → IsRefused committee read refusal → IsRefused committee bytes refusal

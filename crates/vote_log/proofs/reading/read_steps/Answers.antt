@@ -3,7 +3,7 @@ use Rattle.std.proofs.lemmas.Result.{err_from_is_err_and}
 use Rattle.blocks.specs.Replica.{Stored}
 use Rattle.blocks.specs.Replay.{IsLegal, IsLegalEntry, replay}
 use Rattle.stable_log.proofs.Told.{some_if, if_some}
-use Rattle.vote_log.specs.EntryText.{Entry, stored_in}
+use Rattle.log_format.specs.EntryText.{Entry, stored_in}
 use Rattle.vote_log.specs.Logs.{AreTexts, IsEntryAt, IsFirstIllegal}
 use Rattle.vote_log.proofs.LogLaws.{length-push, legal_more, replay_more, texts_more, first_illegal}
 use Rattle.vote_log.proofs.StepFaults.{steps_fault}

@@ -5,7 +5,7 @@ use Rattle.std.proofs.Common.{◌≡◌, ◌≤◌, ◌+◌, ◌*◌, ◌++◌, 
 use Rattle.wire.proofs.Numbers.{filled}
 use Rattle.lmots.proofs.ChainLemmas.{joined_none}
 use Rattle.lms_tree.specs.Tree.{lms_signature, path_node}
-use Rattle.lms_tree.proofs.SignedVerifies.{signature_verifies}
+use Rattle.lms_tree.proofs.SignedVerifies.{signature_verifies, index_of_signature}
 use Rattle.lms_tree.proofs.signing_tree.SigningTree.sign_at.Goals as goal
 
 is_signature : (c : goal.After-loop-level) → c.loop-level.signature ≡ lms_signature c.args.self.now.key_id c.args.self.now.seed c.args.q c.args.message.now
@@ -19,6 +19,7 @@ pub returns : goal.returns
 returns c = record {
   exact = is_signature c;
   verifies = rw (is_signature c) (signature_verifies c.args.self.now.key_id c.args.self.now.seed c.args.q c.args.message.now c.requires);
+  index = rw (is_signature c) (index_of_signature c.args.self.now.key_id c.args.self.now.seed c.args.q c.args.message.now c.requires);
 }
 
 pub loop-level-init : goal.loop-level-init

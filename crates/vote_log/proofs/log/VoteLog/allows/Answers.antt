@@ -1,7 +1,7 @@
 use Rattle.std.proofs.Common.{◌↔◌, IsTrue, subst}
 use Rattle.blocks.specs.Replica.{Stored}
 use Rattle.blocks.specs.Replay.{IsLegalEntry}
-use Rattle.vote_log.specs.EntryText.{stored_in}
+use Rattle.log_format.specs.EntryText.{stored_in}
 use Rattle.vote_log.proofs.LogLaws.{legal_where}
 use Rattle.vote_log.proofs.log.VoteLog.allows.Goals as goal
 

@@ -2,7 +2,7 @@ use Rattle.std.proofs.Common.{◌≡◌, ◌++◌, ◌∷◌, [], List, ℕ, Err
 use Rattle.blocks.specs.Replica.{Stored}
 use Rattle.blocks.specs.Replay.{IsLegal}
 use Rattle.stable_log.specs.declared.error.JournalError.{JournalError}
-use Rattle.vote_log.specs.EntryText.{IsEntryOf, stored_in}
+use Rattle.log_format.specs.EntryText.{IsEntryOf, stored_in}
 use Rattle.vote_log.specs.Logs.{KeepsLog}
 use Rattle.vote_log.proofs.LogAppends.{appended_entries, durable_entries, kept_appended, kept_refused, run_told, unmoved}
 use Rattle.vote_log.proofs.log.VoteLog.append.Goals as goal

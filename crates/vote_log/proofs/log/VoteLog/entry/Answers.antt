@@ -1,7 +1,7 @@
 use Rattle.std.proofs.Common.{refl}
 use Rattle.stable_log.proofs.Told.{some_if, if_some, ok_maps, err_maps}
 use Rattle.std.specs.Prelude.{map}
-use Rattle.vote_log.specs.EntryReading.{entry_in}
+use Rattle.log_format.specs.EntryReading.{entry_in}
 use Rattle.vote_log.specs.Logs.{LogState}
 use Rattle.vote_log.proofs.LogKeeps.{entry_at_is, entry_fault, kept_unwritten}
 use Rattle.vote_log.proofs.log.VoteLog.entry.Goals as goal

@@ -1,0 +1,77 @@
+-- Searching evidence for the pairs of votes that break a rule. docs/DEFINITIONS.md, "Culprits".
+use Rattle.std.specs.Prelude.{◌≡◌, ◌↔◌, ℕ, List, Option, Some, None}
+use Rattle.std.specs.List.{AllPairs, Contains}
+use Rattle.blocks.specs.Headers.{Header, header_id}
+use Rattle.certificates.specs.declared.vote.SignedVote.{SignedVote}
+use Rattle.evidence.specs.Evidence.{Evidence}
+use Rattle.evidence.specs.Votes.{IsLowerVote}
+use Rattle.verdict_format.specs.declared.parts.VerdictParts.{VerdictParts}
+use Rattle.verdict_format.specs.VerdictText.{IsVerdictOf}
+use Rattle.verdict_format.specs.Verdicts.{VotedHeaders}
+use Rattle.accountability.specs.Culprits.{BreakARule, IsVoteAtMost, Shows}
+use Rattle.culprit_search.specs.declared.pairs.Offence.{Offence}
+
+-- ---- headers
+
+-- the header has this id and this view
+pub record IsHeaderAt (id : List ℕ) (view : ℕ) (h : Header) : Type 0 where
+  pub id_is : header_id h ≡ id
+  pub view_is : h.view ≡ view
+
+-- it is one of these
+abbrev pub IsFoundAt : List Header → List ℕ → ℕ → Header → Type 0
+IsFoundAt headers id view h = Contains headers h × IsHeaderAt id view h
+
+-- none of these is such
+abbrev pub NoneIsAt : List Header → List ℕ → ℕ → Type 0
+NoneIsAt headers id view = (h : Header) → IsFoundAt headers id view h → ⊥
+
+-- the header of the vote's block, where it is one of these
+abbrev pub IsBlockOf : List Header → SignedVote → Option Header → Type 0
+IsBlockOf headers w None = NoneIsAt headers w.id w.view
+IsBlockOf headers w (Some h) = IsFoundAt headers w.id w.view h
+
+-- ---- lock violations
+
+-- the headers show that the votes are a lock violation
+abbrev pub ShowsViolation : Evidence → SignedVote → SignedVote → VotedHeaders → Type 0
+ShowsViolation e v w h = Shows e v w (Some h)
+
+-- none do
+abbrev pub IsNoViolation : Evidence → SignedVote → SignedVote → Type 0
+IsNoViolation e v w = (h : VotedHeaders) → ShowsViolation e v w h → ⊥
+
+-- ---- pairs of votes of one replica
+
+-- these are the replica's votes in evidence, and they rise
+pub record AreOwnVotes (e : Evidence) (r : ℕ) (own : List SignedVote) : Type 0 where
+  pub rising : AllPairs IsLowerVote own
+  pub exact : (v : SignedVote) → Contains own v ↔ (Contains e.votes v × (v.replica ≡ r))
+
+-- none of these votes breaks a rule with w
+abbrev pub NoneBreaksWith : Evidence → List SignedVote → SignedVote → Type 0
+NoneBreaksWith e own w = (v : SignedVote) → Contains own v → BreakARule e v w → ⊥
+
+-- no two of these votes break a rule
+abbrev pub NoTwoBreak : Evidence → List SignedVote → Type 0
+NoTwoBreak e own = (w : SignedVote) → Contains own w → NoneBreaksWith e own w
+
+-- of these votes its earlier one is the least that breaks a rule with w, as its headers show
+pub record IsLeastAgainst (e : Evidence) (own : List SignedVote) (w : SignedVote) (o : Offence) : Type 0 where
+  pub later_is : o.later ≡ w
+  pub among : Contains own o.earlier
+  pub shown : Shows e o.earlier w o.headers
+  pub least : (x : SignedVote) → Contains own x → BreakARule e x w → IsVoteAtMost o.earlier x
+
+-- of the pairs of these votes that break a rule it is the one with the least later vote, and of those the one with
+-- the least earlier vote
+pub record IsLeastPair (e : Evidence) (own : List SignedVote) (o : Offence) : Type 0 where
+  pub later_among : Contains own o.later
+  pub against : IsLeastAgainst e own o.later o
+  pub least_later : (x y : SignedVote) → Contains own x → Contains own y → BreakARule e x y → IsVoteAtMost o.later y
+
+-- ---- verdicts
+
+-- the bytes are those of some verdict
+abbrev pub SpellsAVerdict : List ℕ → Type 0
+SpellsAVerdict bytes = (parts : VerdictParts) × IsVerdictOf bytes parts

@@ -1,0 +1,111 @@
+//! Whether two votes break a rule.
+
+ghost use Rattle.std.specs.Prelude.{◌≡◌, ◌↔◌, IsTrue, MatchOption};
+ghost use Rattle.blocks.specs.Rules.{IsDoubleVote};
+ghost use Rattle.evidence.specs.Evidence.{IsEvidence};
+ghost use Rattle.accountability.specs.Culprits.{BreakARule, Shows, ballot_of};
+ghost use Rattle.culprit_search.specs.Searches.{IsBlockOf, IsFoundAt, IsNoViolation, NoneIsAt, ShowsViolation};
+
+use blocks::{Header, Id, NamedHeader};
+use certificates::SignedVote;
+use evidence::Evidence;
+use verdict_format::VotedHeaders;
+
+/// What shows that two votes break a rule: of a lock violation the headers behind them, of a double vote
+/// nothing besides.
+#[derive(Drop)]
+pub struct Breach {
+    /// The headers of a lock violation.
+    pub headers: Option<VotedHeaders>,
+}
+
+// The header of this id and view, if it is in evidence.
+fn header_at(evidence: &Evidence, id: &Id, view: u64) -> Option<NamedHeader>
+    ensures header { MatchOption result (NoneIsAt evidence.now.headers id.now view) (IsFoundAt evidence.now.headers id.now view) }
+    ensures is_evidence { IsEvidence evidence.now }
+{
+    let found = evidence.header(id)?;
+    if found.header().view == view {
+        Some(found)
+    } else {
+        None
+    }
+}
+
+/// The header of a vote's block, if it is in evidence.
+pub fn block_of(evidence: &Evidence, vote: &SignedVote) -> Option<NamedHeader>
+    ensures block { IsBlockOf evidence.now.headers vote.now result }
+    ensures is_evidence { IsEvidence evidence.now }
+{
+    header_at(evidence, &vote.id, vote.view)
+}
+
+// The header of the parent that a block names, if it is in evidence.
+fn parent_of(evidence: &Evidence, block: &Header) -> Option<NamedHeader>
+    ensures { MatchOption result (NoneIsAt evidence.now.headers block.now.parent block.now.parent_view)
+        (IsFoundAt evidence.now.headers block.now.parent block.now.parent_view) }
+{
+    header_at(evidence, &block.parent, block.parent_view)
+}
+
+// Whether two votes of one replica are a double vote.
+fn is_double_vote(v: &SignedVote, w: &SignedVote) -> bool
+    ensures { IsTrue result ↔ IsDoubleVote (ballot_of v.now) (ballot_of w.now) }
+{
+    v.view == w.view && v.id != w.id
+}
+
+// The headers that show a lock violation, if they are in evidence. The block of the later vote is given.
+fn lock_violation(
+    evidence: &Evidence,
+    v: &SignedVote,
+    w: &SignedVote,
+    later: &Header,
+) -> Option<VotedHeaders>
+    requires is_evidence { IsEvidence evidence.now }
+    requires later { IsFoundAt evidence.now.headers w.now.id w.now.view later.now }
+    ensures { MatchOption result (IsNoViolation evidence.now v.now w.now) (ShowsViolation evidence.now v.now w.now) }
+{
+    if v.view >= w.view {
+        return None;
+    }
+    // Views fall towards genesis, so the lock of such a vote is not above the later block's parent.
+    if v.view <= later.parent_view {
+        return None;
+    }
+    let earlier = block_of(evidence, v)?;
+    let parent = parent_of(evidence, earlier.header())?;
+    if later.parent_view < parent.header().parent_view {
+        Some(VotedHeaders {
+            earlier: *earlier.header(),
+            parent: *parent.header(),
+            later: *later,
+        })
+    } else {
+        None
+    }
+}
+
+/// What shows that two votes of one replica break a rule, if they do by what is in evidence. The block of
+/// the later vote is given, if it is in evidence.
+pub fn breach_of(
+    evidence: &Evidence,
+    v: &SignedVote,
+    w: &SignedVote,
+    later: &Option<NamedHeader>,
+) -> Option<Breach>
+    requires is_evidence { IsEvidence evidence.now }
+    requires later { IsBlockOf evidence.now.headers w.now later.now }
+    ensures { MatchOption result (BreakARule evidence.now v.now w.now → ⊥) (λ b. Shows evidence.now v.now w.now b.headers) }
+{
+    if is_double_vote(v, w) {
+        return Some(Breach { headers: None });
+    }
+    let Some(later) = later else {
+        return None;
+    };
+    let headers = lock_violation(evidence, v, w, later.header())?;
+    Some(Breach {
+        headers: Some(headers),
+    })
+}

@@ -1,0 +1,74 @@
+//! The pair of a replica's votes that a verdict on it names.
+
+ghost use Rattle.std.specs.Prelude.{◌≡◌, ◌↔◌, MatchOption};
+ghost use Rattle.std.specs.List.{AllPairs, Contains};
+ghost use Rattle.certificates.specs.declared.vote.SignedVote.{SignedVote as SignedVoteValue};
+ghost use Rattle.evidence.specs.Votes.{IsLowerVote};
+ghost use Rattle.accountability.specs.Culprits.{IsCulprit, IsNamedPair, Shows};
+ghost use Rattle.culprit_search.specs.Searches.{AreOwnVotes, IsLeastAgainst, IsLeastPair, NoTwoBreak, NoneBreaksWith};
+
+use crate::breach::{block_of, breach_of};
+use certificates::SignedVote;
+use evidence::Evidence;
+use verdict_format::VotedHeaders;
+
+/// Two votes of one replica that break a rule.
+#[derive(Drop)]
+pub struct Offence {
+    /// The earlier vote of a lock violation, or either vote of a double vote.
+    pub earlier: SignedVote,
+    /// The other vote.
+    pub later: SignedVote,
+    /// The headers that show a lock violation.
+    pub headers: Option<VotedHeaders>,
+}
+
+// The votes of a replica. All votes rise, so they stand together.
+fn own_votes<'a>(evidence: &'a Evidence, replica: u16) -> &'a [SignedVote]
+    ensures { AreOwnVotes evidence.now replica result.now }
+{
+    let votes = evidence.votes();
+    let start = votes.partition_point(|v| v.replica < replica);
+    let rest = &votes[start..];
+    let len = rest.partition_point(|v| v.replica <= replica);
+    &rest[..len]
+}
+
+// The least of a replica's votes that breaks a rule with w.
+fn least_against(evidence: &Evidence, own: &[SignedVote], w: &SignedVote) -> Option<Offence>
+    requires rising { AllPairs IsLowerVote own.now }
+    ensures { MatchOption result (NoneBreaksWith evidence.now own.now w.now) (IsLeastAgainst evidence.now own.now w.now) }
+{
+    let later = block_of(evidence, w);
+    for v in own {
+        if let Some(found) = breach_of(evidence, v, w, &later) {
+            return Some(Offence {
+                earlier: *v,
+                later: *w,
+                headers: found.headers,
+            });
+        }
+    }
+    None
+}
+
+// The least pair of a replica's votes that breaks a rule: the later vote is the least, then the earlier.
+fn least_pair(evidence: &Evidence, own: &[SignedVote]) -> Option<Offence>
+    requires rising { AllPairs IsLowerVote own.now }
+    ensures { MatchOption result (NoTwoBreak evidence.now own.now) (IsLeastPair evidence.now own.now) }
+{
+    for w in own {
+        if let Some(offence) = least_against(evidence, own, w) {
+            return Some(offence);
+        }
+    }
+    None
+}
+
+/// The pair of the replica's votes that is named, if the replica is a culprit.
+pub fn named_pair(evidence: &Evidence, replica: u16) -> Option<Offence>
+    ensures { MatchOption result (IsCulprit evidence.now replica → ⊥)
+        (λ o. IsNamedPair evidence.now replica o.earlier o.later × Shows evidence.now o.earlier o.later o.headers) }
+{
+    least_pair(evidence, own_votes(evidence, replica))
+}

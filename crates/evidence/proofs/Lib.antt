@@ -1,0 +1,5 @@
+pub mod Lists
+pub mod VoteOrder
+pub mod HeaderOrder
+pub mod Gatherings
+pub mod Absorbing

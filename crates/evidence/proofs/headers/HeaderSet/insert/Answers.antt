@@ -1,0 +1,27 @@
+use Rattle.std.proofs.Common.{◌≡◌, List, ap, sym, subst, ◌∙◌, arith}
+use Rattle.blocks.specs.Headers.{Header, header_id}
+use Rattle.blocks.specs.Chains.{HasNone}
+use Rattle.evidence.specs.Evidence.{IsNotBelowParent}
+use Rattle.evidence.specs.Gathering.{Gains}
+use Rattle.std.specs.BTreeMap.{values}
+use Rattle.evidence.proofs.HeaderOrder.{gained_header, still_by_id}
+use Rattle.evidence.proofs.headers.HeaderSet.insert.Goals as goal
+
+pub invariant_of-self-2 : goal.invariant_of-self-2
+invariant_of-self-2 c =
+    let first = ap (λ (h : Header). h.parent_view) (c.block.view_is ∙ c.header-block.ensures) in
+    let second = ap (λ (h : Header). h.view) (c.block.view_is ∙ c.header-block.ensures) in
+    let above : IsNotBelowParent c.args.header = omega arith in
+    still_by_id c.self.inside.headers.entries c.insert.new.self c.id.result.now c.args.header c.self.invariant c.id.ensures above c.in_ok-insert.ensures.entries c.insert.ensures.ordered
+
+pub returns-clause-ok : goal.returns-clause-ok
+returns-clause-ok c =
+    let first = ap (λ (h : Header). h.parent_view) (c.block.view_is ∙ c.header-block.ensures) in
+    let second = ap (λ (h : Header). h.view) (c.block.view_is ∙ c.header-block.ensures) in
+    let above : IsNotBelowParent c.args.header = omega arith in
+    let old = c.self.inside.headers in
+    let new = c.insert.new.self in
+    let is = still_by_id old.entries new c.id.result.now c.args.header c.self.invariant c.id.ensures above c.in_ok-insert.ensures.entries c.insert.ensures.ordered in
+    let none = subst (λ (hs : List Header). HasNone hs (header_id c.args.header)) (sym c.self.view_is) c.requires in
+    subst (λ (hs : List Header). Gains hs (values new) (λ h. h ≡ c.args.header)) c.self.view_is
+    (gained_header old new c.args.header c.self.invariant is none (rw (sym c.id.ensures) c.in_ok-insert.ensures.updates))

@@ -1,0 +1,15 @@
+//! Evidence: the headers and the good votes that the logs of replicas show together, and how they are gathered. Needs no
+//! threads, files or network.
+#![tactic(auto)]
+
+mod evidence;
+mod gathering;
+mod headers;
+mod refusal;
+mod source;
+mod votes;
+
+pub use evidence::{Evidence, evidence_of_logs};
+pub use gathering::Gathered;
+pub use refusal::EvidenceRefusal;
+pub use source::{SourceLog, SourceReport};

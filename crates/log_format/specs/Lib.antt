@@ -1,0 +1,11 @@
+pub use Rattle.blocks.specs.Headers
+pub use Rattle.blocks.specs.HeaderReading
+pub use Rattle.certificates.specs.Certificates
+pub use Rattle.certificates.specs.CertificateReading
+pub mod EntryText
+pub mod EntryReading
+pub mod Exports
+pub mod Readings
+pub mod Fronts
+pub mod ReadingLaws
+pub mod Requests

@@ -1,0 +1,380 @@
+//! Entries of a log.
+
+ghost use Rattle.std.specs.Prelude.{◌≡◌, ◌≢◌, ◌+◌, ◌*◌, ◌==◌, ◌<◌, ◌≤◌, ◌↔◌, ◌++◌, ◌⊎◌, true, drop, length, option_map, Ok, Err, IfErr, IfOk, IfSome, IsSome, IsTrue, OnOk};
+ghost use Rattle.std.specs.Option.{ForSome};
+ghost use Rattle.wire.specs.Pieces.{piece};
+ghost use Rattle.blocks.specs.Headers.{Header as HeaderValue, IsHeader, NamesParent, header_id};
+ghost use Rattle.certificates.specs.Assembling.{IsVoteFor};
+ghost use Rattle.certificates.specs.CertificateReading.{is_whole};
+ghost use Rattle.log_format.specs.EntryReading.{AreReadable, IsEntryRefusal, IsOwnVoteOn, IsReadable, IsReadableOn, IsRestFault, block_in, certificate_in_rest, certificate_place, entry_in, entry_refusal_number, is_voted_in, kind_in, parent_in, signature_in};
+ghost use Rattle.log_format.specs.EntryText.{Entry as EntryValue, EntriesHaveOneSpelling, IsEntry, IsEntryOf, IsOn, entry_text, kind_of, is_signed, own_vote_text, signature_of, stored_in, vote_of};
+
+use blocks::{Header, Id};
+use certificates::{Certificate, CertificateRefusal, CheckedBlock, SignedVote};
+use lms_tree::Signature;
+use replica_core::Stored;
+use std::alloc::{AllocError, Global};
+use std::marker::Model;
+use wire::{append, array_at, u16_at, u64_at};
+
+/// The first byte of an entry with the replica's own vote.
+const VOTED: u8 = 1;
+
+/// The first byte of an entry without one.
+const RAISED: u8 = 2;
+
+/// Where the parent's header begins, in bytes.
+const PARENT_AT: usize = 85;
+
+/// Where the own vote begins, and where the certificate does in an entry without one.
+const VOTE_AT: usize = 169;
+
+/// Where the certificate begins behind an own vote.
+const BEHIND_VOTE: usize = 1661;
+
+/// The length in bytes of what a certificate has before its votes.
+const CERTIFICATE_HEAD: usize = 42;
+
+/// The length in bytes of each vote in a certificate.
+const CERTIFICATE_VOTE: usize = 1454;
+
+/// What a replica stores of a block that it voted for, or that raised its lock without a vote: the block's
+/// header, its parent's, the signature of the own vote if it voted, and the parent's certificate. The
+/// block names this parent by id and view, and the certificate is on the parent. Made by `Entry::read`
+/// and `Entry::of` alone. No signature is checked.
+#[derive(Drop)]
+pub struct Entry {
+    block: Header,
+    parent: Header,
+    signature: Option<Signature>,
+    certificate: Certificate,
+}
+
+impl Model for Entry {
+    ghost use Rattle.log_format.specs.EntryText.{Entry as EntryValue, IsEntry};
+
+    ghost Value = { EntryValue };
+
+    ghost view = { λ e. record { block = e.block; parent = e.parent; signature = e.signature; certificate = e.certificate } };
+
+    ghost invariant = { λ e. IsEntry (record { block = e.block; parent = e.parent; signature = e.signature; certificate = e.certificate }) };
+}
+
+/// Why bytes are no entry.
+#[derive(Clone, Copy, Debug, PartialEq, Eq)]
+pub enum EntryRefusal {
+    /// Memory was refused.
+    Memory = 1,
+    /// There are no bytes, or not as many as the kind and the certificate's number of votes ask for.
+    Length = 2,
+    /// The first byte is neither 1 nor 2.
+    Kind = 3,
+    /// One of the two headers can not be read.
+    Header = 4,
+    /// The second header is not the parent that the first one names, by id and view.
+    Parent = 5,
+    /// The own vote is not on the block's view and id.
+    OwnVote = 6,
+    /// The certificate can not be read, or is not on the parent's view and id.
+    Certificate = 7,
+}
+
+impl EntryRefusal {
+    /// The number of the refusal, which never changes.
+    pub fn number(self) -> u8
+        ensures { result ≡ entry_refusal_number self }
+    {
+        self as u8
+    }
+}
+
+// Whether the own vote stands in the entry, as its first byte says.
+fn is_voted(bytes: &[u8]) -> Result<bool, EntryRefusal>
+    ensures ok { IfOk result (λ voted. is_voted_in bytes.now ≡ voted) }
+    ensures kind { OnOk result ((kind_in bytes.now ≡ 1) ⊎ (kind_in bytes.now ≡ 2)) }
+    ensures first_refusal { IfErr result (IsEntryRefusal bytes.now) }
+{
+    match bytes.first() {
+        None => Err(EntryRefusal::Length),
+        Some(&VOTED) => Ok(true),
+        Some(&RAISED) => Ok(false),
+        Some(_) => Err(EntryRefusal::Kind),
+    }
+}
+
+// Where the certificate begins.
+fn certificate_place(voted: bool) -> usize
+    ensures { result ≡ certificate_place voted }
+{
+    if voted { BEHIND_VOTE } else { VOTE_AT }
+}
+
+// Whether the bytes from place `at` on are as many as a certificate there has.
+fn is_whole(bytes: &[u8], at: usize) -> bool
+    ensures value { result ≡ is_whole (drop at bytes.now) }
+    ensures long { IsTrue result → at + 42 ≤ length bytes.now }
+{
+    if bytes.len() < at {
+        return false;
+    }
+    let rest = &bytes[at..];
+    if rest.len() < CERTIFICATE_HEAD {
+        return false;
+    }
+    rest.len() == CERTIFICATE_HEAD + CERTIFICATE_VOTE * u16_at(rest, 40) as usize
+}
+
+// The two headers, if both can be read.
+fn headers_in(bytes: &[u8]) -> Option<(Header, Header)>
+    requires { 169 ≤ length bytes.now }
+    ensures some { IfSome result (λ h. (h.0 ≡ block_in bytes.now) × (h.1 ≡ parent_in bytes.now)) }
+    ensures exact { IsSome result ↔ AreReadable (piece 84 bytes.now 1) (piece 84 bytes.now 85) }
+{
+    let Ok(block) = Header::from_bytes(&bytes[1..PARENT_AT]) else {
+        return None;
+    };
+    let Ok(parent) = Header::from_bytes(&bytes[PARENT_AT..VOTE_AT]) else {
+        return None;
+    };
+    Some((block, parent))
+}
+
+// Whether the block names this parent.
+fn names_parent(block: &Header, parent: &Header) -> bool
+    ensures { IsTrue result ↔ NamesParent block.now parent.now }
+{
+    block.parent_view == parent.view && block.parent == parent.id()
+}
+
+// Whether the own vote is on this block.
+fn is_own_vote_on(block: &Header, bytes: &[u8]) -> bool
+    requires { 1661 ≤ length bytes.now }
+    ensures { IsTrue result ↔ IsOwnVoteOn block.now bytes.now }
+{
+    let id: Id = array_at(bytes, VOTE_AT + 8);
+    u64_at(bytes, VOTE_AT) == block.view && id == block.id()
+}
+
+// The signature in the own vote, if there is one.
+#[tactic(auto, unfolding(crate::specs::EntryReading::signature_in))]
+fn signature_in(voted: bool, bytes: &[u8]) -> Option<Signature>
+    requires { certificate_place voted ≤ length bytes.now }
+    ensures { result ≡ signature_in voted bytes.now }
+{
+    if voted {
+        Some(array_at(bytes, VOTE_AT + 40))
+    } else {
+        None
+    }
+}
+
+// Whether the certificate is on the parent that the block names.
+fn is_on_parent(certificate: &Certificate, block: &Header, parent: &Header) -> bool
+    requires { NamesParent block.now parent.now }
+    ensures { IsTrue result ↔ IsOn parent.now certificate.now }
+{
+    certificate.view() == block.parent_view && *certificate.id() == block.parent
+}
+
+// The certificate of the parent.
+fn certificate_in(
+    alloc: Global,
+    rest: &[u8],
+    block: &Header,
+    parent: &Header,
+) -> Result<Certificate, EntryRefusal>
+    requires { NamesParent block.now parent.now }
+    ensures ok { IfOk result (λ c. c ≡ certificate_in_rest rest.now) }
+    ensures passes { OnOk result (IsReadableOn parent.now rest.now) }
+    ensures refused { IfErr result (IsRestFault parent.now rest.now) }
+{
+    let certificate = match Certificate::read(alloc, rest) {
+        Ok(certificate) => certificate,
+        Err(CertificateRefusal::Memory) => return Err(EntryRefusal::Memory),
+        Err(_) => return Err(EntryRefusal::Certificate),
+    };
+    if !is_on_parent(&certificate, block, parent) {
+        return Err(EntryRefusal::Certificate);
+    }
+    Ok(certificate)
+}
+
+// The signature of a vote, if there is one.
+fn signature_of(vote: Option<SignedVote>) -> Option<Signature>
+    ensures { result ≡ signature_of vote }
+{
+    match vote {
+        Some(vote) => Some(vote.signature),
+        None => None,
+    }
+}
+
+// The first byte of an entry with this signature or without one.
+fn kind_of(signature: &Option<Signature>) -> u8
+    ensures { result ≡ kind_of signature.now }
+{
+    match signature {
+        Some(_) => VOTED,
+        None => RAISED,
+    }
+}
+
+// Whether there is a signature.
+fn is_signed(signature: &Option<Signature>) -> bool
+    ensures { result ≡ is_signed signature.now }
+{
+    signature.is_some()
+}
+
+// Adds the own vote, if there is one.
+fn put_own_vote(
+    text: &mut Vec<u8>,
+    block: &Header,
+    signature: &Option<Signature>,
+) -> Result<(), AllocError>
+    ensures { OnOk result (text.new.items ≡ text.old.items ++ own_vote_text block.now signature.now) }
+{
+    if let Some(signature) = signature {
+        append(text, &block.view.to_be_bytes())?;
+        append(text, &block.id())?;
+        append(text, signature)?;
+    }
+    Ok(())
+}
+
+impl Entry {
+    /// The entry that the bytes spell: the kind (1 byte at 0, 1 with the replica's own vote and 2 without),
+    /// the block's header (84 at 1), its parent's (84 at 85), with kind 1 the own vote (1,492 at 169: the
+    /// view, 8, the id, 32, and the signature, 1,452), and the parent's certificate, 42 and 1,454 for each
+    /// of its votes. Refused in this order: Memory, where memory was refused, Kind, Length, Header, Parent,
+    /// OwnVote, Certificate; no bytes are refused as Length. Memory is asked for once all but the
+    /// certificate is good.
+    pub fn read(alloc: Global, bytes: &[u8]) -> Result<Entry, EntryRefusal>
+        // What is read is spelled so.
+        ensures found { IfOk result (IsEntryOf bytes.now) }
+
+        // What is spelled so is read, unless memory is refused.
+        ensures only { (e : EntryValue) → IsEntryOf bytes.now e → result ≢ Err EntryRefusal.Memory → result ≡ Ok e }
+
+        // The first test that fails refuses, unless memory is refused.
+        ensures first_refusal { IfErr result (IsEntryRefusal bytes.now) }
+    {
+        Entry::read_all(alloc, bytes)
+    }
+
+    fn read_all(alloc: Global, bytes: &[u8]) -> Result<Entry, EntryRefusal>
+        ensures ok { IfOk result (λ e. IsReadable bytes.now × (e ≡ entry_in bytes.now)) }
+        ensures first_refusal { IfErr result (IsEntryRefusal bytes.now) }
+    {
+        let voted = is_voted(bytes)?;
+        let at = certificate_place(voted);
+        if !is_whole(bytes, at) {
+            return Err(EntryRefusal::Length);
+        }
+        let Some((block, parent)) = headers_in(bytes) else {
+            return Err(EntryRefusal::Header);
+        };
+        if !names_parent(&block, &parent) {
+            return Err(EntryRefusal::Parent);
+        }
+        if voted && !is_own_vote_on(&block, bytes) {
+            return Err(EntryRefusal::OwnVote);
+        }
+        let certificate = certificate_in(alloc, &bytes[at..], &block, &parent)?;
+        Ok(Entry {
+            block,
+            parent,
+            signature: signature_in(voted, bytes),
+            certificate,
+        })
+    }
+
+    /// The bytes of the entry: 169, 1,492 for an own vote, 42 for the certificate, and 1,454 for each of its
+    /// votes. There are at most 46,777.
+    pub fn write(&self, alloc: Global) -> Result<Vec<u8>, AllocError>
+        ensures text { IfOk result (λ text. text.items ≡ entry_text self.now) }
+
+        // So what is written is read, with the same parts.
+        ensures spells { IfOk result (λ text. IsEntryOf text.items self.now) }
+        ensures size { IfOk result (λ text. (0 < length text.items) × (length text.items ≤ 46777)) }
+    {
+        let certificate = self.certificate.write(alloc)?;
+        let mut text = Vec::new(alloc);
+        append(&mut text, &[kind_of(&self.signature)])?;
+        append(&mut text, &self.block.to_bytes())?;
+        append(&mut text, &self.parent.to_bytes())?;
+        put_own_vote(&mut text, &self.block, &self.signature)?;
+        append(&mut text, &certificate)?;
+        Ok(text)
+    }
+
+    /// The entry of a block whose certificate is good, its parent, and the own vote for it, if there is one.
+    /// The block has to name this parent by id and view, and the vote to be on the block's view and id. The
+    /// number of the replica is not kept. It takes no memory.
+    pub fn of(block: CheckedBlock, parent: Header, vote: Option<SignedVote>) -> Entry
+        requires names { NamesParent block.header parent }
+        requires on_block { ForSome vote (IsVoteFor block.header.view (header_id block.header)) }
+        ensures { result ≡ record { block = block.entry.header; parent = parent; signature = signature_of vote; certificate = block.entry.certificate } }
+    {
+        let (header, certificate) = block.into_parts();
+        Entry {
+            block: header,
+            parent,
+            signature: signature_of(vote),
+            certificate,
+        }
+    }
+
+    /// The header of the block.
+    pub fn block(&self) -> &Header
+        ensures value { result.now ≡ self.now.block }
+        ensures is_entry { IsEntry self.now }
+    {
+        &self.block
+    }
+
+    /// The header of its parent.
+    pub fn parent(&self) -> &Header
+        ensures value { result.now ≡ self.now.parent }
+        ensures is_entry { IsEntry self.now }
+    {
+        &self.parent
+    }
+
+    /// The certificate of the parent.
+    pub fn certificate(&self) -> &Certificate
+        ensures value { result.now ≡ self.now.certificate }
+        ensures is_entry { IsEntry self.now }
+    {
+        &self.certificate
+    }
+
+    /// What replay sees of the entry: whether the replica voted, the block, and its parent.
+    pub fn stored(&self) -> Stored
+        ensures { result ≡ stored_in self.now }
+    {
+        Stored {
+            voted: is_signed(&self.signature),
+            block: self.block,
+            parent: self.parent,
+        }
+    }
+
+    /// The replica's vote for the block, if it voted. An entry does not say whose log it stands in.
+    pub fn vote(&self, replica: u16) -> Option<SignedVote>
+        ensures { result ≡ vote_of self.now replica }
+    {
+        let signature = self.signature?;
+        Some(SignedVote {
+            replica,
+            view: self.block.view,
+            id: self.block.id(),
+            signature,
+        })
+    }
+}
+
+/// Each text is of one entry, and each entry has one text: two entries with the same bytes are the same.
+pub fn entries_have_one_spelling()
+    ensures { EntriesHaveOneSpelling }
+{}

@@ -1,5 +1,0 @@
-pub mod Breaches
-pub mod VotesInOrder
-pub mod VotePairs
-pub mod Written
-pub mod Named

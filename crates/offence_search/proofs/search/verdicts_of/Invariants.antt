@@ -1,5 +1,0 @@
-use Rattle.offence_search.proofs.Named.{AreVerdictsBelow}
-use Rattle.offence_search.proofs.search.verdicts_of.Given as goal
-
-abbrev pub invariant-loop-replica : goal.invariant-loop-replica
-invariant-loop-replica l = AreVerdictsBelow l.evidence l.replica l.verdicts.items

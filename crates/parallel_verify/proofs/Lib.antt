@@ -1,4 +1,0 @@
-pub mod Lists
-pub mod VoteOrder
-pub mod HeaderOrder
-pub mod Gatherings

@@ -1,7 +1,0 @@
-use Rattle.vote_log.specs.EntryReading.{block_in, parent_in}
-use Rattle.vote_log.proofs.EntryParts.{read_header}
-use Rattle.vote_log.proofs.entry.headers_in.Goals as goal
-
-pub returns-clause-some : goal.returns-clause-some
-unfolding block_in parent_in
-returns-clause-some c = (read_header _ _ c.in-Ok.ensures.first_refusal, read_header _ _ c.in-Ok-from_bytes.ensures.first_refusal)
