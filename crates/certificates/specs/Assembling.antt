@@ -1,5 +1,5 @@
 -- A certificate that is put together from votes, and why votes make none.
-use Rattle.std.specs.Prelude.{◌≡◌, ◌≢◌, ◌<◌, ◌≤◌, ◌+◌, ◌*◌, ℕ, List, length, map, ⊤}
+use Rattle.std.specs.Prelude.{◌≡◌, ◌≢◌, ◌<◌, ◌≤◌, ℕ, List, length, map}
 use Rattle.std.specs.List.{All, AllPairs}
 use Rattle.std.specs.List.Sorted.{IsPermutation}
 use Rattle.blocks.specs.Weights.{quorum_of}

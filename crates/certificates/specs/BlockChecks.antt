@@ -1,5 +1,5 @@
 -- When a block's certificate is good and on the block's parent, and why a block is refused.
-use Rattle.std.specs.Prelude.{◌≡◌, ◌⊎◌, ◌<◌, ◌≤◌, ◌+◌, ◌*◌, ℕ, List, length, take}
+use Rattle.std.specs.Prelude.{◌≡◌, ◌⊎◌, ◌<◌, ◌≤◌, ℕ, List, length, take}
 use Rattle.std.specs.List.{All}
 use Rattle.blocks.specs.Committees.{n_of}
 use Rattle.blocks.specs.Weights.{quorum_of}

@@ -1,6 +1,6 @@
 -- When a certificate is good: a quorum of replicas voted for its view and id (HotStuff, Yin and
 -- others, PODC 2019). Genesis needs no votes.
-use Rattle.std.specs.Prelude.{◌≡◌, ◌⊎◌, ◌≤◌, ◌+◌, ◌*◌, ℕ, List, length}
+use Rattle.std.specs.Prelude.{◌≡◌, ◌⊎◌, ◌≤◌, ℕ, List, length}
 use Rattle.std.specs.List.{All, AllPairs}
 use Rattle.blocks.specs.Committees.{n_of}
 use Rattle.blocks.specs.Weights.{quorum_of}

@@ -170,7 +170,7 @@ impl<'a> Gathered<'a> {
         Ok(entries)
     }
 
-    /// Adds what a log shows.
+    /// Adds what a log shows. After a refusal a part of it may have been added.
     pub fn add_log(
         &mut self,
         alloc: Global,
@@ -217,7 +217,8 @@ impl<'a> Gathered<'a> {
         Ok(())
     }
 
-    /// Adds what was gathered apart, under the same committee.
+    /// Adds the headers and the votes that were gathered apart. The votes are not checked again: they are good where the
+    /// other was gathered under the same committee. After a refusal a part of them may have been added.
     pub fn merge(&mut self, alloc: Global, other: Gathered) -> Result<(), EvidenceRefusal>
         ensures ok { OnOk result (Grows self.old self.new (Contains other.entry.headers) (Contains other.entry.votes)) }
         ensures err { IfErr result (IsGatherFault self.old (Contains other.entry.headers)) }

@@ -1,4 +1,4 @@
-use Rattle.std.proofs.Common.{◌≡◌, ◌≤◌, ◌+◌, ◌*◌, true, false, length, get_or, rules, arith, sym, subst}
+use Rattle.std.proofs.Common.{◌≡◌, ◌≤◌, true, false, length, get_or, rules, arith, sym, subst}
 use Rattle.std.specs.List.{All}
 use Rattle.blocks.specs.Committees.{n_of}
 use Rattle.blocks.specs.Weights.{quorum_of}
