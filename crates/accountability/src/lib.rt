@@ -1,4 +1,5 @@
-//! What evidence proves: commits, conflicts and culprits, and that a conflict names more than f. No handle.
+//! What evidence proves: commits, conflicts and culprits, and that a conflict names more than f. Needs no threads,
+//! files or network.
 #![tactic(auto)]
 
 mod laws;

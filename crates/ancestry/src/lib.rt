@@ -1,5 +1,5 @@
-//! Which blocks have a chain to genesis among known headers, and which stand in the chain of another. No
-//! handle.
+//! Which blocks have a chain to genesis among known headers, and which stand in the chain of another. Needs no
+//! threads, files or network.
 #![tactic(auto)]
 
 mod ancestry;

@@ -1,4 +1,4 @@
-//! Tests of headers and committees, with ids and roots of an independent program. No handle.
+//! Tests of headers and committees, with ids and roots of an independent program.
 #![tactic(auto)]
 
 #[cfg(test)]

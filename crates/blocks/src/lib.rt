@@ -1,5 +1,5 @@
-//! Blocks of a chained HotStuff committee: their headers, the committee's keys, and the voting rules
-//! with what is proved of them. No handle.
+//! Blocks of a chained HotStuff committee: their headers, the committee's keys, and the voting rules with what is
+//! proved of them. Needs no threads, files or network.
 #![tactic(auto)]
 
 mod committee;

@@ -1,4 +1,4 @@
-//! Votes, and the certificates that they make. No handle.
+//! Votes, and the certificates that they make. Needs no threads, files or network.
 #![tactic(auto)]
 
 mod assembling;

@@ -1,4 +1,4 @@
-//! The commits that evidence proves, and the first two of them that conflict. No handle.
+//! The commits that evidence proves, and the first two of them that conflict. Needs no threads, files or network.
 #![tactic(auto)]
 
 mod certified;

@@ -1,4 +1,4 @@
-//! Tests of certificates, blocks and verdicts against stored ones of another program. No handle.
+//! Tests of certificates, blocks and verdicts against stored ones of another program.
 #![tactic(auto)]
 
 #[cfg(test)]

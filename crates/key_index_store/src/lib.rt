@@ -1,4 +1,5 @@
-//! One-time key indices 0 to 1023, each handed out at most once, also over crashes. No handle.
+//! One-time key indices 0 to 1023, each handed out at most once, also over crashes. Needs no threads, files or
+//! network.
 #![tactic(auto)]
 
 mod error;

@@ -1,5 +1,5 @@
 //! One-time signatures: LM-OTS of RFC 8554 with SHA-256, 32-byte hashes and 8-bit coefficients
-//! (LMOTS_SHA256_N32_W8, type 4). No handle.
+//! (LMOTS_SHA256_N32_W8, type 4). Needs no threads, files or network.
 #![tactic(auto)]
 
 mod chains;

@@ -1,5 +1,5 @@
 //! Signatures under one public key by a tree of 1,024 one-time keys: LMS of RFC 8554 with SHA-256
-//! (LMS_SHA256_M32_H10, type 6, over LMOTS_SHA256_N32_W8, type 4). No handle.
+//! (LMS_SHA256_M32_H10, type 6, over LMOTS_SHA256_N32_W8, type 4). Needs no threads, files or network.
 #![tactic(auto)]
 
 mod nodes;

@@ -1,5 +1,5 @@
-//! The core of a replica: what it votes for, what it locks, and what it knows again after a restart. No
-//! handle, no signature and no disk.
+//! The core of a replica: what it votes for, what it locks, and what it knows again after a restart. Needs no
+//! signature, threads, files or network.
 #![tactic(auto)]
 
 mod durable;

@@ -1,4 +1,4 @@
-//! Tests of the voting core and of ancestry: what no clause says, and bytes of an independent program. No handle.
+//! Tests of the voting core and of ancestry: what no clause says, and bytes of an independent program.
 #![tactic(auto)]
 
 #[cfg(test)]

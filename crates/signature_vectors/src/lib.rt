@@ -1,4 +1,4 @@
-//! Tests of one-time and tree signatures against stored ones of other programs. No handle.
+//! Tests of one-time and tree signatures against stored ones of other programs.
 #![tactic(auto)]
 
 #[cfg(test)]

@@ -1,4 +1,5 @@
-//! An append-only journal whose entries survive a crash at any moment, over a disk that may fail. No handle.
+//! An append-only journal whose entries survive a crash at any moment, over a disk that may fail. Needs no threads
+//! or network.
 #![tactic(auto)]
 
 mod calls;

@@ -1,5 +1,5 @@
-//! Where bytes go and come from, with failures that are counted: sinks and feeds over memory and over
-//! the streams of a process. No handle.
+//! Where bytes go and come from, with failures that are counted: sinks and feeds over memory and over the streams
+//! of a process. Needs no threads or network.
 #![tactic(auto)]
 
 mod feed;

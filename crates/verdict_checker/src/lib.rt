@@ -1,4 +1,4 @@
-//! Judges whether a verdict proves that a replica broke a voting rule. No handle.
+//! Judges whether a verdict proves that a replica broke a voting rule. Needs no threads, files or network.
 #![tactic(auto)]
 
 mod checker;

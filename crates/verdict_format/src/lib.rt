@@ -1,4 +1,4 @@
-//! The bytes of verdicts. No handle.
+//! The bytes of verdicts. Needs no threads, files or network.
 #![tactic(auto)]
 
 mod parts;

@@ -1,5 +1,5 @@
-//! Fields at fixed places in a text of bytes, read and written in place, numbers with the highest
-//! byte first; and in `specs/` the words for refusals in their order. No handle.
+//! Fields at fixed places in a text of bytes, read and written in place, numbers with the highest byte first; and
+//! in `specs/` the words for refusals in their order. Needs no threads, files or network.
 #![tactic(auto)]
 
 ghost use Rattle.std.specs.Prelude.{◌≡◌, ◌+◌, ◌≤◌, ◌++◌, length, take, drop, OnErr, OnOk};
