@@ -1,7 +1,7 @@
 -- Whom evidence accuses, and by which two votes.
 use Rattle.std.specs.Prelude.{◌≡◌, ◌⊎◌, ◌↔◌, ◌<◌, ℕ, List, Option, Some, None}
 use Rattle.std.specs.List.{AllPairs, Contains}
-use Rattle.blocks.specs.Replica.{Ballot}
+use Rattle.certificates.specs.Votes.{ballot_of}
 use Rattle.blocks.specs.Rules.{IsDoubleVote}
 use Rattle.certificates.specs.declared.vote.SignedVote.{SignedVote}
 use Rattle.evidence.specs.Evidence.{Evidence}
@@ -10,10 +10,6 @@ use Rattle.verdict_format.specs.Proofs.{IsLockViolationBy}
 use Rattle.verdict_format.specs.Verdicts.{VotedHeaders}
 
 -- ---- two votes that break a rule
-
--- what a vote is on
-abbrev pub ballot_of : SignedVote → Ballot
-ballot_of v = record { view = v.view; id = v.id }
 
 -- the headers behind two votes are in evidence
 pub record AreKnown (e : Evidence) (h : VotedHeaders) : Type 0 where

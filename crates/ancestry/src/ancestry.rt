@@ -77,6 +77,21 @@ impl Ancestry {
         })
     }
 
+    /// The genesis of the chains.
+    pub fn genesis(&self) -> NamedHeader
+        ensures { result ≡ self.now.genesis }
+    {
+        self.genesis
+    }
+
+    /// The headers that it was built of, by rising id.
+    pub fn headers(&self) -> &[NamedHeader]
+        ensures value { result.now ≡ self.now.headers }
+        ensures known { IsKnown self.now }
+    {
+        &self.headers
+    }
+
     // The known header of this id.
     fn known(&self, id: &Id) -> Option<NamedHeader>
         ensures header { MatchOption result ((h : HeaderValue) → Contains (all_of self.now) h → header_id h ≢ id.now)

@@ -2,7 +2,7 @@
 
 use crate::sources::{of_logs, stream, views};
 use blocks::NamedHeader;
-use commit_search::{first_conflict, proved_commits};
+use commit_search::{certified_chains, first_conflict, proved_commits};
 use fixtures::{certificates, core_blocks};
 use parallel_verify::Evidence;
 use std::alloc::Global;
@@ -35,8 +35,9 @@ fn log(alloc: Global, blocks: &[Raised]) -> Result<Vec<u8>, Fail> {
 
 // The commits that evidence proves, where no two of them conflict.
 fn commits(alloc: Global, evidence: &Evidence) -> Result<Vec<NamedHeader>, Fail> {
-    let commits = proved_commits(alloc, evidence)?;
-    if first_conflict(alloc, evidence, &commits)?.is_some() {
+    let chains = certified_chains(alloc, evidence)?;
+    let commits = proved_commits(alloc, &chains)?;
+    if first_conflict(&chains, &commits).is_some() {
         return Err("commits conflict".into());
     }
     Ok(commits)

@@ -5,9 +5,10 @@ use Rattle.std.proofs.lemmas.List.Elements.{Contains-append_left, Contains-appen
 use Rattle.std.specs.List.{AllByRecursion}
 use Rattle.blocks.specs.Headers.{Header, NamesParent, AreInOrder, IsGenesis}
 use Rattle.blocks.specs.Chains.{AllIn, IsChain}
-use Rattle.blocks.specs.Replica.{Ballot, ReplicaState, first_state, Event, Vote, Raise, Pass, Timeout, Restart, after, IsRun, IsRunFrom, Stored, headers_of, stored_of, votes_of}
+use Rattle.blocks.specs.declared.ballot.Ballot.{Ballot}
+use Rattle.blocks.specs.Replica.{ReplicaState, first_state, Event, Vote, Raise, Pass, Timeout, Restart, after, IsRun, IsRunFrom, Stored, headers_of, stored_of, votes_of}
 use Rattle.blocks.specs.Replay.{Durable, durable_of, replay_entry, replay_from, IsLegal, IsLegalFrom, FitsOpening, IsAttached, ballots_in}
-use Rattle.blocks.specs.Lives.{Stay, IsFoundAfter, blocks_in, released_in, headers_in, IsHistoryOf, EveryLifeIsARun, EveryRunIsALife}
+use Rattle.blocks.specs.Lives.{Stay, IsFoundAfter, blocks_in, released_in, headers_of_life, IsHistoryOf, EveryLifeIsARun, EveryRunIsALife}
 use Rattle.blocks.proofs.Restarts.{run_goes_on, stored_is_legal, votes_are_stored}
 use Rattle.blocks.proofs.Within.{either_of, none_in, AllIn-append, headers-append, events_within, blocks_kept, blocks_more, ballots_kept}
 
@@ -58,16 +59,16 @@ every_life genesis [] list g life found = (
 )
 every_life genesis (s ∷ before) list g life found =
     let old = every_life genesis before s.opening g life.2 life.0 in
-    let t = headers_in (s ∷ before) ++ blocks_in list in
+    let t = headers_of_life (s ∷ before) ++ blocks_in list in
     let f = found_fits genesis s list life.1 found in
     let b = found_begins genesis s list found in
-    let behind : AllIn t (headers_in before) = λ h m. Contains-append_left (headers_in (s ∷ before)) (blocks_in list) h
-    (Contains-append_right s.headers (blocks_in s.left ++ headers_in before) h (Contains-append_right (blocks_in s.left) (headers_in before) h m)) in
-    let held : AllIn t s.headers = λ h m. Contains-append_left (headers_in (s ∷ before)) (blocks_in list) h
-    (Contains-append_left s.headers (blocks_in s.left ++ headers_in before) h m) in
-    let blocks : AllIn t (blocks_in list) = λ h m. Contains-append_right (headers_in (s ∷ before)) (blocks_in list) h m in
+    let behind : AllIn t (headers_of_life before) = λ h m. Contains-append_left (headers_of_life (s ∷ before)) (blocks_in list) h
+    (Contains-append_right s.headers (blocks_in s.left ++ headers_of_life before) h (Contains-append_right (blocks_in s.left) (headers_of_life before) h m)) in
+    let held : AllIn t s.headers = λ h m. Contains-append_left (headers_of_life (s ∷ before)) (blocks_in list) h
+    (Contains-append_left s.headers (blocks_in s.left ++ headers_of_life before) h m) in
+    let blocks : AllIn t (blocks_in list) = λ h m. Contains-append_right (headers_of_life (s ∷ before)) (blocks_in list) h m in
     let opened : AllIn t (blocks_in s.opening) = λ h m. blocks h (blocks_kept s.opening f.more list f.begins h m) in
-    let headers : AllIn t (headers_of old.0) = λ h m. AllIn-append t (headers_in before) (blocks_in s.opening) behind opened h (old.1.headers h m) in
+    let headers : AllIn t (headers_of old.0) = λ h m. AllIn-append t (headers_of_life before) (blocks_in s.opening) behind opened h (old.1.headers h m) in
     let fits : FitsOpening s.headers genesis (stored_of old.0) list = subst (λ (l : List Stored). FitsOpening s.headers genesis l list) (sym old.1.stores) f in
     let on = goes_on t s.headers genesis old.0 list g old.1.is_run fits held blocks headers in
     let in_run : (v : Ballot) → Contains (ballots_in list) v → Contains (votes_of on.0) v = λ v m. subst (λ (l : List Ballot). Contains l v) (sym on.1.votes) m in (

@@ -3,7 +3,8 @@ use Rattle.std.proofs.Common.{◌≡◌, ◌⊎◌, ℕ, ◌<◌, ◌≤◌, Lis
 use Rattle.std.proofs.lemmas.Bool.{cond_both, le-ltb}
 use Rattle.blocks.specs.Headers.{Header, header_id, NamesParent, AreInOrder, IsGenesis}
 use Rattle.blocks.specs.Chains.{IsChain}
-use Rattle.blocks.specs.Replica.{Ballot, ballot_on, votes_of, ReplicaState, first_state, Event, Vote, Raise, Pass, Timeout, Restart, LockIsIn, CanRaise, IsAllowed, locked_on, raised, voted_in, after, IsRunFrom, after_all, Stored, stored_on, stored_of}
+use Rattle.blocks.specs.declared.ballot.Ballot.{Ballot}
+use Rattle.blocks.specs.Replica.{ballot_on, votes_of, ReplicaState, first_state, Event, Vote, Raise, Pass, Timeout, Restart, LockIsIn, CanRaise, IsAllowed, locked_on, raised, voted_in, after, IsRunFrom, after_all, Stored, stored_on, stored_of}
 use Rattle.blocks.specs.Replay.{Durable, durable_of, moved_to, replay_entry, replay_from, IsLegalEntry, IsLegalFrom, IsOnLock, VoteRuleLooksAtTheParent, RaiseLooksAtTheParent, LockLooksAtTheParent, StoredListIsLegal, VotesAreStored, ballots_in, ReplayIsTheState, LockNeverFalls, VoteViewCoversTheStored, event_on, AreEventsOf, RunGoesOn, AttachedEntriesHaveEvents, FittedListIsStored, IsLegal}
 use Rattle.blocks.proofs.Members.{Contains-first, Has-from_Contains}
 use Rattle.blocks.proofs.Runs.{ancestor_below, onward}

@@ -3,7 +3,8 @@ use Rattle.std.proofs.Common.{◌≡◌, ◌⊎◌, ℕ, ◌<◌, ◌≤◌, Lis
 use Rattle.std.proofs.lemmas.Bool.{cond_both, ltb-true, ltb-false}
 use Rattle.blocks.specs.Headers.{Header, header_id, NamesParent, IsGenesis}
 use Rattle.blocks.specs.Chains.{IsChain}
-use Rattle.blocks.specs.Replica.{ReplicaState, first_state, Event, Vote, Raise, Pass, Timeout, Restart, LockIsIn, IsAllowed, locked_on, raised, voted_in, timed_out, after, IsRunFrom, Ballot, ballot_on, votes_of, headers_of}
+use Rattle.blocks.specs.declared.ballot.Ballot.{Ballot}
+use Rattle.blocks.specs.Replica.{ReplicaState, first_state, Event, Vote, Raise, Pass, Timeout, Restart, LockIsIn, IsAllowed, locked_on, raised, voted_in, timed_out, after, IsRunFrom, ballot_on, votes_of, headers_of}
 use Rattle.blocks.proofs.Members.{Has, Has-append_right, Contains-from_Has, Has-from_Contains}
 use Rattle.blocks.specs.Rules.{NoRunHasADoubleVote, NoRunHasALockViolation}
 

@@ -4,7 +4,8 @@ use Rattle.std.specs.List.{AllByRecursion, Contains}
 use Rattle.std.proofs.lemmas.List.Elements.{Contains-append_left, Contains-append_right}
 use Rattle.blocks.specs.Headers.{Header, NamesParent, AreInOrder}
 use Rattle.blocks.specs.Chains.{AllIn}
-use Rattle.blocks.specs.Replica.{Ballot, Event, Vote, Raise, Pass, Timeout, Restart, Stored, headers_of}
+use Rattle.blocks.specs.declared.ballot.Ballot.{Ballot}
+use Rattle.blocks.specs.Replica.{Event, Vote, Raise, Pass, Timeout, Restart, Stored, headers_of}
 use Rattle.blocks.specs.Replay.{Durable, IsLegalEntry, IsLegalFrom, IsAttached, replay_entry, event_on, AreEventsOf, ballot_in, ballots_in}
 use Rattle.blocks.proofs.Members.{Has, Has-from_Contains, Contains-from_Has, Contains-first, Contains-later}
 use Rattle.blocks.specs.Lives.{blocks_in}

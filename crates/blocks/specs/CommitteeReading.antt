@@ -8,8 +8,8 @@ use Rattle.blocks.specs.declared.committee.CommitteeRefusal.TheVariants.{Length,
 use Rattle.blocks.specs.Committees.{f_of, n_of, key_at}
 
 -- whether the bytes are as many as the number of keys asks for
-abbrev pub is_whole : List ℕ → Bool
-is_whole bytes = nat_le 8 (length bytes) && (length bytes == 8 + 56 * n_of bytes)
+abbrev pub is_whole_committee : List ℕ → Bool
+is_whole_committee bytes = nat_le 8 (length bytes) && (length bytes == 8 + 56 * n_of bytes)
 
 -- whether f is allowed and there are 3f + 1 keys
 abbrev pub is_of_size : ℕ → ℕ → Bool
@@ -34,7 +34,7 @@ twin_of bytes k = first_of (same_key bytes k) k
 -- the bytes as they are where they are a committee, or why they are none
 unfoldable pub committee_in : List ℕ → Result (List ℕ) CommitteeRefusal
 committee_in bytes =
-    need (is_whole bytes) Length (
+    need (is_whole_committee bytes) Length (
     need (bytes_eq (codes "HSC1") (piece 4 bytes 0)) Magic (
     need (is_of_size (f_of bytes) (n_of bytes)) Size (
     unless (first_of (bad_key bytes) (n_of bytes)) (

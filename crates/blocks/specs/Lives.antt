@@ -3,7 +3,8 @@ use Rattle.std.specs.Prelude.{◌≡◌, ◌⊎◌, ◌++◌, List, [], ◌∷�
 use Rattle.std.specs.List.{Contains}
 use Rattle.blocks.specs.Headers.{Header, IsGenesis}
 use Rattle.blocks.specs.Chains.{AllIn}
-use Rattle.blocks.specs.Replica.{Ballot, Event, IsRun, Stored, headers_of, stored_of, votes_of}
+use Rattle.blocks.specs.declared.ballot.Ballot.{Ballot}
+use Rattle.blocks.specs.Replica.{Event, IsRun, Stored, headers_of, stored_of, votes_of}
 use Rattle.blocks.specs.Replay.{FitsOpening, ballots_in}
 
 -- ---- lives
@@ -43,9 +44,9 @@ blocks_in [] = []
 blocks_in (x ∷ xs) = x.block ∷ blocks_in xs
 
 -- the headers that were held in a life, and the blocks that it stored
-abbrev pub headers_in : List Stay → List Header
-headers_in [] = []
-headers_in (s ∷ before) = s.headers ++ (blocks_in s.left ++ headers_in before)
+abbrev pub headers_of_life : List Stay → List Header
+headers_of_life [] = []
+headers_of_life (s ∷ before) = s.headers ++ (blocks_in s.left ++ headers_of_life before)
 
 -- ---- the law
 
@@ -61,7 +62,7 @@ abbrev pub EveryLifeIsARun : Type 0
 EveryLifeIsARun =
     (genesis : Header) (life : List Stay) (list : List Stored)
     → IsGenesis genesis → IsLife genesis life → IsFound genesis life list
-    → (run : List Event) × IsHistoryOf genesis (headers_in life ++ blocks_in list) list run
+    → (run : List Event) × IsHistoryOf genesis (headers_of_life life ++ blocks_in list) list run
     × ((vote : Ballot) → Contains (released_in life) vote → Contains (votes_of run) vote)
 
 -- a run is a life of one stay

@@ -5,7 +5,8 @@ use Rattle.std.specs.Prelude.{◌≡◌, ◌⊎◌, ◌↔◌, ◌<◌, ◌≤�
 use Rattle.std.specs.List.{AllByRecursion}
 use Rattle.blocks.specs.Headers.{Header, NamesParent, AreInOrder, IsGenesis}
 use Rattle.blocks.specs.Chains.{IsChain, IsChainIn}
-use Rattle.blocks.specs.Replica.{Ballot, ballot_on, votes_of, ReplicaState, Event, Vote, Raise, Timeout, Restart, Stored, first_state, IsRun, LockIsIn, CanRaise, raised, end_of, stored_of}
+use Rattle.blocks.specs.declared.ballot.Ballot.{Ballot}
+use Rattle.blocks.specs.Replica.{ballot_on, votes_of, ReplicaState, Event, Vote, Raise, Timeout, Restart, Stored, first_state, IsRun, LockIsIn, CanRaise, raised, end_of, stored_of}
 
 -- ---- replay
 

@@ -4,6 +4,7 @@
 -- parent, and timeouts and restarts are events too.
 use Rattle.std.specs.Prelude.{◌≡◌, ◌⊎◌, ◌<◌, ◌++◌, ℕ, List, [], ◌∷◌, Bool, true, false, nat_lt, if◌then◌else◌}
 use Rattle.std.specs.List.{Contains}
+use Rattle.blocks.specs.declared.ballot.Ballot.{Ballot}
 use Rattle.blocks.specs.Headers.{Header, header_id}
 use Rattle.blocks.specs.Chains.{IsChain}
 
@@ -129,10 +130,6 @@ abbrev pub end_of : Header → List Event → ReplicaState
 end_of genesis run = after_all (first_state genesis) run
 
 -- a vote is on a block's view and id
-pub record Ballot : Type 0 where
-  pub view : ℕ
-  pub id : List ℕ
-
 abbrev pub ballot_on : Header → Ballot
 ballot_on b = record { view = b.view; id = header_id b }
 

@@ -6,7 +6,8 @@ use Rattle.std.specs.Prelude.{◌≡◌, ◌≢◌, ◌<◌, List, ◌∷◌}
 use Rattle.std.specs.List.{Contains}
 use Rattle.blocks.specs.Headers.{Header, NamesParent, header_id, IsGenesis}
 use Rattle.blocks.specs.Chains.{NoCollision}
-use Rattle.blocks.specs.Replica.{Event, Ballot, IsRun, votes_of, headers_of}
+use Rattle.blocks.specs.declared.ballot.Ballot.{Ballot}
+use Rattle.blocks.specs.Replica.{Event, IsRun, votes_of, headers_of}
 
 -- two votes of one view for different blocks
 pub record IsDoubleVote (e w : Ballot) : Type 0 where

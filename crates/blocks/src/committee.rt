@@ -183,7 +183,8 @@ impl<'a> CommitteeView<'a> {
 
     /// The same view again.
     pub fn again(&self) -> CommitteeView<'a>
-        ensures { result ≡ self.now }
+        ensures same { result ≡ self.now }
+        ensures is_committee { IsCommittee self.now }
     {
         CommitteeView { bytes: self.bytes }
     }

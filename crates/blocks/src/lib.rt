@@ -2,11 +2,13 @@
 //! proved of them. Needs no threads, files or network.
 #![tactic(auto)]
 
+mod ballot;
 mod committee;
 mod header;
 mod laws;
 mod refusal_text;
 
+pub use ballot::Ballot;
 pub use committee::{CommitteeRefusal, CommitteeView, write_committee};
 pub use header::{HEADER_LEN, Header, HeaderRefusal, Id, NamedHeader};
 pub use laws::{

@@ -1,18 +1,18 @@
 -- Votes that are put together, and votes that can not be.
-use Rattle.std.proofs.Common.{◌≡◌, ◌≢◌, ◌↔◌, ℕ, zero, suc, ◌+◌, ◌-◌, ◌<◌, ◌≤◌, true, false, List, [], ◌∷◌, length, get_or, refl, sym, ap, subst, ◌∙◌, arith}
+use Rattle.std.proofs.Common.{◌≡◌, ◌≢◌, ◌↔◌, ℕ, zero, suc, ◌+◌, ◌-◌, ◌<◌, ◌≤◌, List, [], ◌∷◌, ◌++◌, length, take, get_or, refl, sym, ap, subst, ◌∙◌, arith, add-one, length-take, get_or-take}
 use Rattle.std.specs.Prelude.{map}
 use Rattle.std.specs.List.{All, AllPairs}
 use Rattle.std.specs.List.Sorted.{IsNonDecreasingBy, IsPermutation}
-use Rattle.std.proofs.lemmas.List.{get_or-map, length-map}
+use Rattle.std.proofs.Math.Seq.{take-suc}
+use Rattle.std.proofs.lemmas.List.{get_or-map, get_or_default, length-map}
+use Rattle.std.proofs.lemmas.List.Quantifiers.{all_pairs_push}
 use Rattle.std.proofs.lemmas.List.Elements.{All-map}
-use Rattle.std.proofs.lemmas.List.Sorted.{All-permutation, IsPermutation-sym, length_permutation}
+use Rattle.std.proofs.lemmas.List.Sorted.{All-permutation, length_permutation}
 use Rattle.certificates.specs.declared.certificate.Endorsement.{Endorsement}
 use Rattle.certificates.specs.declared.vote.SignedVote.{SignedVote}
 use Rattle.certificates.specs.Certificates.{IsBefore, IsEndorsement}
-use Rattle.certificates.specs.CertificateReading.{is_rising}
 use Rattle.certificates.specs.Assembling.{AgreeOnBlock, AreByDifferent, IsVoteFor, endorsement_of}
 use Rattle.certificates.proofs.Permuted.{AllPairs-permutation}
-use Rattle.certificates.proofs.Rising.{rising_means, rising_where}
 
 -- ---- one view and id
 
@@ -50,14 +50,6 @@ differ_kept votes different i j d before below =
     rw (get_or-map endorsement_of votes i (vote_from d) d (omega arith), get_or-map endorsement_of votes j (vote_from d) d (omega arith))
     (different i j (vote_from d) before (omega arith))
 
-differ_back : (votes : List SignedVote) → AllPairs Differ (map endorsement_of votes) → AreByDifferent votes
-differ_back votes different i j d before below =
-    let n = length-map votes endorsement_of in
-    let e = endorsement_of d in
-    let i_is = ap (λ (x : Endorsement). x.replica) (get_or-map endorsement_of votes i d e (omega arith)) in
-    let j_is = ap (λ (x : Endorsement). x.replica) (get_or-map endorsement_of votes j d e below) in
-    λ same. different i j e before (omega arith) (i_is ∙ same ∙ sym j_is)
-
 -- entries of a sorted list by different replicas rise
 rise_if_differ : (es : List Endorsement) → IsNonDecreasingBy (λ e. e.replica) es → AllPairs Differ es → AllPairs IsBefore es
 rise_if_differ es sorted differ i j d before below =
@@ -65,22 +57,26 @@ rise_if_differ es sorted differ i j d before below =
     let ne = differ i j d before below in
     omega arith
 
-differ_if_rise : (es : List Endorsement) → AllPairs IsBefore es → AllPairs Differ es
-differ_if_rise es rising i j d before below = let lt = rising i j d before below in λ same. absurd (omega arith)
+-- so do sorted votes by different replicas
+pub rising_from : (votes : List SignedVote) (made es : List Endorsement) → made ≡ map endorsement_of votes → IsPermutation made es
+    → IsNonDecreasingBy (λ e. e.replica) es → AreByDifferent votes → AllPairs IsBefore es
+rising_from votes made es is same sorted different =
+    rise_if_differ es sorted (AllPairs-permutation Differ flip made es same (subst (AllPairs Differ) (sym is) (differ_kept votes different)))
 
--- sorted votes that do not rise have two by one replica
-pub double_from : (votes : List SignedVote) (made es : List Endorsement) → made ≡ map endorsement_of votes → IsPermutation made es
-    → IsNonDecreasingBy (λ e. e.replica) es → is_rising es ≡ false → AreByDifferent votes → ⊥
-double_from votes made es is same sorted not_rising different =
-    let differ = AllPairs-permutation Differ flip made es same (subst (AllPairs Differ) (sym is) (differ_kept votes different)) in
-    let rising = rising_where es (rise_if_differ es sorted differ) in
-    absurd cc
+-- one vote more by another replica
+pub different_push : (votes : List SignedVote) (k : ℕ) (v : SignedVote) → k < length votes → v ≡ get_or votes k v → AreByDifferent (take k votes)
+    → All (λ w. w.replica ≢ v.replica) (take k votes) → AreByDifferent (take (k + 1) votes)
+different_push votes k v below is so_far others =
+    let next : take (k + 1) votes ≡ take k votes ++ v ∷ [] = ap (λ (n : ℕ). take n votes) (add-one k) ∙ take-suc votes k v below ∙ ap (λ (w : SignedVote). take k votes ++ w ∷ []) (sym is) in
+    subst AreByDifferent (sym next) (all_pairs_push (λ w u. w.replica ≢ u.replica) (take k votes) v so_far others)
 
--- votes that rise are by different replicas
-pub different_from : (votes : List SignedVote) (made es : List Endorsement) → made ≡ map endorsement_of votes → IsPermutation made es
-    → is_rising es ≡ true → AreByDifferent votes
-different_from votes made es is same rising =
-    differ_back votes (subst (AllPairs Differ) is (AllPairs-permutation Differ flip es made (IsPermutation-sym made es same) (differ_if_rise es (rising_means es rising))))
+-- the votes before one are by others
+pub others_before : (votes : List SignedVote) (k : ℕ) (v : SignedVote) → k < length votes → v ≡ get_or votes k v → AreByDifferent votes
+    → All (λ w. w.replica ≢ v.replica) (take k votes)
+others_before votes k v below is different j d inside =
+    let at : j < k = omega (arith, inside, length-take k votes) in
+    let apart = different j k d at below in
+    λ same. apart (ap (λ (w : SignedVote). w.replica) (sym (get_or-take k votes j d at)) ∙ same ∙ ap (λ (w : SignedVote). w.replica) (is ∙ get_or_default votes k v d below))
 
 -- ---- as many entries as a certificate may have
 
@@ -103,9 +99,8 @@ pub record Passed (view : ℕ) (es : List Endorsement) : Type 0 where
 
 pub passed : (n view : ℕ) (votes : List SignedVote) (made es : List Endorsement) → n ≤ 31 → All (λ v. v.replica < n) votes
     → 1 ≤ view → 1 ≤ length votes → made ≡ map endorsement_of votes → IsPermutation made es → All IsEndorsement made
-    → is_rising es ≡ true → Passed view es
-passed n view votes made es most known above some is same each rising =
-    let rises = rising_means es rising in
+    → AllPairs IsBefore es → Passed view es
+passed n view votes made es most known above some is same each rises =
     let known_made : All (λ e. e.replica < n) made =
     subst (All (λ (e : Endorsement). e.replica < n)) (sym is) (All-map (λ (e : Endorsement). e.replica < n) endorsement_of votes known) in
     let few = few_enough n 0 es (All-permutation (λ (e : Endorsement). e.replica < n) made es same known_made) (λ k d below. omega arith) rises in

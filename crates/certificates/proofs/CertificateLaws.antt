@@ -14,8 +14,8 @@ use Rattle.wire.proofs.Needs.{need_ok, need_true, ok_is}
 use Rattle.certificates.specs.declared.certificate.Endorsement.{Endorsement}
 use Rattle.certificates.specs.declared.certificate.CertificateRefusal.{CertificateRefusal}
 use Rattle.certificates.specs.declared.certificate.CertificateRefusal.TheVariants.{Length, Order, Count}
-use Rattle.certificates.specs.Certificates.{Certificate, IsEndorsement, IsCertificate, entry_text, certificate_text}
-use Rattle.certificates.specs.CertificateReading.{entry_at, entries_in, count_in, certificate_at, is_rising, has_count, certificate_in}
+use Rattle.certificates.specs.Certificates.{Certificate, IsEndorsement, IsCertificate, endorsement_text, certificate_text}
+use Rattle.certificates.specs.CertificateReading.{endorsement_at, entries_in, count_in, certificate_at, is_rising, has_count, certificate_in}
 use Rattle.certificates.proofs.Entries.{length-entries_in}
 use Rattle.certificates.proofs.Pieces.{two_pieces}
 use Rattle.certificates.proofs.Rising.{rising_means, rising_where}
@@ -34,27 +34,27 @@ fits_true view count most none = grind (arith, nat_tests, none.0, none.1)
 
 -- ---- what is read is spelled so
 
-entry_spelled : (bytes : List ℕ) (k : ℕ) → AreBytes bytes → 42 + 1454 * k + 1454 ≤ length bytes → entry_text (entry_at bytes k) ≡ piece 1454 bytes (42 + 1454 * k)
-unfolding entry_at
+entry_spelled : (bytes : List ℕ) (k : ℕ) → AreBytes bytes → 42 + 1454 * k + 1454 ≤ length bytes → endorsement_text (endorsement_at bytes k) ≡ piece 1454 bytes (42 + 1454 * k)
+unfolding endorsement_at
 entry_spelled bytes k fit long =
     let place : 44 + 1454 * k ≡ 42 + 1454 * k + 2 = omega arith in
     ap (λ (p : List ℕ). p ++ piece 1452 bytes (44 + 1454 * k)) (sym (piece-number_at 2 bytes (42 + 1454 * k) fit (omega arith)))
     ∙ ap (λ (a : ℕ). piece 2 bytes (42 + 1454 * k) ++ piece 1452 bytes a) place
     ∙ two_pieces bytes (42 + 1454 * k) 2 1452
 
-entries_spelled : (bytes : List ℕ) (n : ℕ) → AreBytes bytes → 42 + 1454 * n ≤ length bytes → flat_map entry_text (entries_in bytes n) ≡ piece (1454 * n) bytes 42
+entries_spelled : (bytes : List ℕ) (n : ℕ) → AreBytes bytes → 42 + 1454 * n ≤ length bytes → flat_map endorsement_text (entries_in bytes n) ≡ piece (1454 * n) bytes 42
 unfolding entries_in
 entries_spelled bytes zero fit long = refl
 entries_spelled bytes (suc n) fit long =
     let more : 1454 * n + 1454 ≡ 1454 * suc n = omega arith in
-    flat_map-append entry_text (entries_in bytes n) (entry_at bytes n ∷ [])
-    ∙ ap (λ (t : List ℕ). flat_map entry_text (entries_in bytes n) ++ t) (append-nil (entry_text (entry_at bytes n)) ∙ entry_spelled bytes n fit (omega arith))
+    flat_map-append endorsement_text (entries_in bytes n) (endorsement_at bytes n ∷ [])
+    ∙ ap (λ (t : List ℕ). flat_map endorsement_text (entries_in bytes n) ++ t) (append-nil (endorsement_text (endorsement_at bytes n)) ∙ entry_spelled bytes n fit (omega arith))
     ∙ ap (λ (t : List ℕ). t ++ piece 1454 bytes (42 + 1454 * n)) (entries_spelled bytes n fit (omega arith))
     ∙ two_pieces bytes 42 (1454 * n) 1454
     ∙ ap (λ (m : ℕ). piece m bytes 42) more
 
-is_entry : (bytes : List ℕ) (k : ℕ) → AreBytes bytes → 42 + 1454 * k + 1454 ≤ length bytes → IsEndorsement (entry_at bytes k)
-unfolding entry_at
+is_entry : (bytes : List ℕ) (k : ℕ) → AreBytes bytes → 42 + 1454 * k + 1454 ≤ length bytes → IsEndorsement (endorsement_at bytes k)
+unfolding endorsement_at
 is_entry bytes k fit long = record {
   replica = number_below 2 bytes (42 + 1454 * k) fit;
   signature = length-piece 1452 bytes (44 + 1454 * k) (omega arith);
@@ -64,7 +64,7 @@ each_entry : (bytes : List ℕ) (n : ℕ) → AreBytes bytes → 42 + 1454 * n �
 unfolding entries_in
 each_entry bytes zero fit long = All-nil IsEndorsement
 each_entry bytes (suc n) fit long =
-    All-push IsEndorsement (entries_in bytes n) (entry_at bytes n) (each_entry bytes n fit (omega arith)) (is_entry bytes n fit (omega arith))
+    All-push IsEndorsement (entries_in bytes n) (endorsement_at bytes n) (each_entry bytes n fit (omega arith)) (is_entry bytes n fit (omega arith))
 
 long_from : (len n : ℕ) → (nat_le 42 len && (len == 42 + 1454 * n)) ≡ true → (42 ≤ len) × (len ≡ 42 + 1454 * n)
 long_from len n e = (grind (arith, nat_tests), grind (arith, nat_tests))
@@ -112,7 +112,7 @@ certificate_found bytes c fit e =
     let long = long_from (length bytes) (count_in bytes) a.0 in
     let entries = entries_in bytes (count_in bytes) in
     let count : piece 2 bytes 40 ≡ big_bytes 2 (length entries) = piece-number_at 2 bytes 40 fit (omega arith) ∙ ap (λ (n : ℕ). big_bytes 2 n) (sym (length-entries_in bytes (count_in bytes))) in
-    let last : drop 42 bytes ≡ flat_map entry_text entries = cut_last bytes 42 (1454 * count_in bytes) long.1 ∙ sym (entries_spelled bytes (count_in bytes) fit (omega arith)) in
+    let last : drop 42 bytes ≡ flat_map endorsement_text entries = cut_last bytes 42 (1454 * count_in bytes) long.1 ∙ sym (entries_spelled bytes (count_in bytes) fit (omega arith)) in
     let whole : bytes ≡ certificate_text (certificate_at bytes) =
     taken bytes 0 8 _ _ (piece-number_at 8 bytes 0 fit (omega arith)) (taken bytes 8 32 _ _ refl (taken bytes 40 2 _ _ count last))
     in
@@ -121,26 +121,26 @@ certificate_found bytes c fit e =
 
 -- ---- what is spelled so is read
 
-length-entry_text : (e : Endorsement) → IsEndorsement e → length (entry_text e) ≡ 1454
+length-entry_text : (e : Endorsement) → IsEndorsement e → length (endorsement_text e) ≡ 1454
 length-entry_text e is = let long = is.signature in omega arith
 
-length-texts : (es : List Endorsement) → All IsEndorsement es → length (flat_map entry_text es) ≡ 1454 * length es
+length-texts : (es : List Endorsement) → All IsEndorsement es → length (flat_map endorsement_text es) ≡ 1454 * length es
 length-texts [] all = refl
 length-texts (e ∷ es) all =
     let one = length-entry_text e (All-head IsEndorsement e es all) in
     let rest = length-texts es (All-tail IsEndorsement e es all) in
-    ap length (flat_map-cons entry_text e es) ∙ length-append (entry_text e) (flat_map entry_text es) ∙ omega arith
+    ap length (flat_map-cons endorsement_text e es) ∙ length-append (endorsement_text e) (flat_map endorsement_text es) ∙ omega arith
 
 -- behind n entries stand the others
-drop-texts : (es : List Endorsement) (n : ℕ) → All IsEndorsement es → n ≤ length es → drop (1454 * n) (flat_map entry_text es) ≡ flat_map entry_text (drop n es)
+drop-texts : (es : List Endorsement) (n : ℕ) → All IsEndorsement es → n ≤ length es → drop (1454 * n) (flat_map endorsement_text es) ≡ flat_map endorsement_text (drop n es)
 drop-texts es zero all small = refl
 drop-texts [] (suc n) all small = absurd (omega arith)
 drop-texts (e ∷ es) (suc n) all small =
     let more : 1454 * suc n ≡ 1454 + 1454 * n = omega arith in
-    ap (λ (m : ℕ). drop m (flat_map entry_text (e ∷ es))) more
-    ∙ sym (drop-drop (1454 * n) 1454 (flat_map entry_text (e ∷ es)))
-    ∙ ap (λ (t : List ℕ). drop (1454 * n) (drop 1454 t)) (flat_map-cons entry_text e es)
-    ∙ ap (drop (1454 * n)) (drop_at (entry_text e) (flat_map entry_text es) 1454 (length-entry_text e (All-head IsEndorsement e es all)))
+    ap (λ (m : ℕ). drop m (flat_map endorsement_text (e ∷ es))) more
+    ∙ sym (drop-drop (1454 * n) 1454 (flat_map endorsement_text (e ∷ es)))
+    ∙ ap (λ (t : List ℕ). drop (1454 * n) (drop 1454 t)) (flat_map-cons endorsement_text e es)
+    ∙ ap (drop (1454 * n)) (drop_at (endorsement_text e) (flat_map endorsement_text es) 1454 (length-entry_text e (All-head IsEndorsement e es all)))
     ∙ drop-texts es n (All-tail IsEndorsement e es all) (omega arith)
 
 abbrev entry_from : ℕ → List ℕ → Endorsement
@@ -149,8 +149,8 @@ entry_from r s = record { replica = r; signature = s }
 same_entry : (e : Endorsement) (r : ℕ) (s : List ℕ) → r ≡ e.replica → s ≡ e.signature → entry_from r s ≡ e
 same_entry e r s p q = ap (λ (x : ℕ). entry_from x s) p ∙ ap (entry_from e.replica) q
 
-entry_again : (text : List ℕ) (e : Endorsement) (rest : List ℕ) (k : ℕ) → IsEndorsement e → drop (42 + 1454 * k) text ≡ entry_text e ++ rest → entry_at text k ≡ e
-unfolding entry_at
+entry_again : (text : List ℕ) (e : Endorsement) (rest : List ℕ) (k : ℕ) → IsEndorsement e → drop (42 + 1454 * k) text ≡ endorsement_text e ++ rest → endorsement_at text k ≡ e
+unfolding endorsement_at
 entry_again text e rest k is here =
     let replica : number_at 2 text (42 + 1454 * k) ≡ e.replica = number_again 2 text (42 + 1454 * k) e.replica is.replica (ap (take 2) here) in
     let place : 44 + 1454 * k ≡ 42 + 1454 * k + 2 = omega arith in
@@ -161,19 +161,19 @@ entry_again text e rest k is here =
     in
     same_entry e _ _ replica signature
 
-entries_again : (text : List ℕ) (es : List Endorsement) (n : ℕ) (d : Endorsement) → drop 42 text ≡ flat_map entry_text es → All IsEndorsement es → n ≤ length es → entries_in text n ≡ take n es
+entries_again : (text : List ℕ) (es : List Endorsement) (n : ℕ) (d : Endorsement) → drop 42 text ≡ flat_map endorsement_text es → All IsEndorsement es → n ≤ length es → entries_in text n ≡ take n es
 unfolding entries_in
 entries_again text es zero d here all small = refl
 entries_again text es (suc n) d here all small =
     let below : n < length es = omega arith in
     let rest : drop n es ≡ get_or es n d ∷ drop (suc n) es = drop-cons es n d below in
-    let at : drop (42 + 1454 * n) text ≡ entry_text (get_or es n d) ++ flat_map entry_text (drop (suc n) es) =
+    let at : drop (42 + 1454 * n) text ≡ endorsement_text (get_or es n d) ++ flat_map endorsement_text (drop (suc n) es) =
     sym (drop-drop (1454 * n) 42 text) ∙ ap (drop (1454 * n)) here ∙ drop-texts es n all (omega arith)
-    ∙ ap (flat_map entry_text) rest ∙ flat_map-cons entry_text (get_or es n d) (drop (suc n) es)
+    ∙ ap (flat_map endorsement_text) rest ∙ flat_map-cons endorsement_text (get_or es n d) (drop (suc n) es)
     in
-    let one : entry_at text n ≡ get_or es n d = entry_again text (get_or es n d) _ n (all n d below) at in
+    let one : endorsement_at text n ≡ get_or es n d = entry_again text (get_or es n d) _ n (all n d below) at in
     let before : entries_in text n ≡ take n es = entries_again text es n d here all (omega arith) in
-    ap (λ (xs : List Endorsement). xs ++ entry_at text n ∷ []) before ∙ ap (λ (x : Endorsement). take n es ++ x ∷ []) one ∙ sym (take-suc es n d below)
+    ap (λ (xs : List Endorsement). xs ++ endorsement_at text n ∷ []) before ∙ ap (λ (x : Endorsement). take n es ++ x ∷ []) one ∙ sym (take-suc es n d below)
 
 abbrev certificate_from : ℕ → List ℕ → List Endorsement → Result Certificate CertificateRefusal
 certificate_from v i es = Ok (made v i es)
@@ -198,9 +198,9 @@ certificate_again c is =
     let text = certificate_text c in
     let n = length c.entries in
     let small : n ≤ 31 = is.most in
-    let tail = big_bytes 2 n ++ flat_map entry_text c.entries in
+    let tail = big_bytes 2 n ++ flat_map endorsement_text c.entries in
     let at : drop 40 text ≡ tail = drop_at c.id tail 32 is.id in
-    let behind : drop 42 text ≡ flat_map entry_text c.entries = sym (drop-drop 2 40 text) ∙ ap (drop 2) at in
+    let behind : drop 42 text ≡ flat_map endorsement_text c.entries = sym (drop-drop 2 40 text) ∙ ap (drop 2) at in
     let texts = length-texts c.entries is.each in
     let both = length-append c.id tail in
     let long : length text ≡ 42 + 1454 * n = let id_long = is.id in omega arith in

@@ -3,9 +3,9 @@ use Rattle.std.proofs.Common.{ℕ, List, inl, inr}
 use Rattle.std.specs.List.{All, AllPairs}
 use Rattle.certificates.specs.Certificates.{Certificate, IsBefore}
 use Rattle.certificates.specs.GoodCertificates.{IsGoodCertificate}
-use Rattle.certificates.specs.BlockChecks.{HasCount, AreKnown, IsSignedEntry}
+use Rattle.certificates.specs.BlockChecks.{HasCount, AreInCommittee, IsSignedEntry}
 
-pub good_from : (committee : List ℕ) (c : Certificate) → HasCount committee c → AreKnown committee c
+pub good_from : (committee : List ℕ) (c : Certificate) → HasCount committee c → AreInCommittee committee c
     → All (IsSignedEntry committee c) c.entries → AllPairs IsBefore c.entries → IsGoodCertificate committee c
 good_from committee c count known signed rising =
     elim count [

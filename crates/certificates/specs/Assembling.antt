@@ -34,9 +34,9 @@ pub record IsAssembled (votes : List SignedVote) (c : Certificate) : Type 0 wher
 
 -- ---- refusals
 
--- the votes pass the tests before this one, and fail this one; memory is asked for behind the first two
+-- the votes pass the tests before this one, and fail this one; memory is asked for behind all of them
 abbrev pub IsAssembleRefusal : AssembleRefusal → List ℕ → List SignedVote → Type 0
-IsAssembleRefusal Memory committee votes = AgreeOnBlock votes × (quorum_of committee ≤ length votes)
+IsAssembleRefusal Memory committee votes = AgreeOnBlock votes × (quorum_of committee ≤ length votes) × AreByDifferent votes
 IsAssembleRefusal Mixed committee votes = AgreeOnBlock votes → ⊥
 IsAssembleRefusal TooFew committee votes = AgreeOnBlock votes × (length votes < quorum_of committee)
 IsAssembleRefusal Double committee votes =

@@ -7,7 +7,7 @@ use Rattle.blocks.specs.Headers.{Header}
 use Rattle.certificates.specs.declared.certificate.Endorsement.{Endorsement}
 use Rattle.certificates.specs.declared.checked_block.BlockRefusal.{BlockRefusal}
 use Rattle.certificates.specs.declared.checked_block.BlockRefusal.TheVariants.{WrongBlock, Count, UnknownReplica, Signature}
-use Rattle.certificates.specs.Certificates.{Certificate, entry_of}
+use Rattle.certificates.specs.Certificates.{Certificate, nth_endorsement}
 use Rattle.certificates.specs.GoodCertificates.{IsGoodCertificate, IsOnGenesis}
 use Rattle.certificates.specs.Votes.{IsSignedBy}
 
@@ -40,8 +40,8 @@ abbrev pub HasCount : List ℕ → Certificate → Type 0
 HasCount committee c = IsBetween committee c ⊎ IsOnGenesis committee c
 
 -- each entry is by a replica of the committee
-abbrev pub AreKnown : List ℕ → Certificate → Type 0
-AreKnown committee c = All (λ e. e.replica < n_of committee) c.entries
+abbrev pub AreInCommittee : List ℕ → Certificate → Type 0
+AreInCommittee committee c = All (λ e. e.replica < n_of committee) c.entries
 
 -- an entry is signed by its replica
 abbrev pub IsSignedEntry : List ℕ → Certificate → Endorsement → Type 0
@@ -51,15 +51,15 @@ IsSignedEntry committee c e = IsSignedBy committee e.replica c.view c.id e.signa
 pub record IsFirstUnsigned (committee : List ℕ) (c : Certificate) (k : ℕ) : Type 0 where
   pub place : k < length c.entries
   pub before : All (IsSignedEntry committee c) (take k c.entries)
-  pub unsigned : IsSignedEntry committee c (entry_of c k) → ⊥
+  pub unsigned : IsSignedEntry committee c (nth_endorsement c k) → ⊥
 
 -- the block passes the tests before this one, and fails this one
 abbrev pub IsBlockRefusal : BlockRefusal → List ℕ → Header → Certificate → Type 0
 IsBlockRefusal WrongBlock committee h c = IsOnParent h c → ⊥
 IsBlockRefusal Count committee h c = IsOnParent h c × (HasCount committee c → ⊥)
-IsBlockRefusal UnknownReplica committee h c = IsOnParent h c × HasCount committee c × (AreKnown committee c → ⊥)
+IsBlockRefusal UnknownReplica committee h c = IsOnParent h c × HasCount committee c × (AreInCommittee committee c → ⊥)
 IsBlockRefusal (Signature k) committee h c =
-    IsOnParent h c × HasCount committee c × AreKnown committee c × IsFirstUnsigned committee c k
+    IsOnParent h c × HasCount committee c × AreInCommittee committee c × IsFirstUnsigned committee c k
 
 -- the number that docs/REFUSALS.md gives a refusal
 abbrev pub block_refusal_number : BlockRefusal → ℕ

@@ -3,6 +3,7 @@
 -- place of one threshold signature, each beside the number of its replica.
 use Rattle.std.specs.Prelude.{◌≡◌, ◌↔◌, ◌<◌, ◌≤◌, ◌^◌, ◌++◌, ℕ, List, [], length, slice_index_or}
 use Rattle.std.specs.List.{All, AllPairs, flat_map}
+use Rattle.lms_tree.specs.declared.TheConstants.{SIGNATURE_LEN}
 use Rattle.byteorder.specs.Endian.{big_bytes}
 use Rattle.certificates.specs.declared.certificate.Endorsement.{Endorsement}
 use Rattle.certificates.specs.declared.vote.SignedVote.{SignedVote}
@@ -22,7 +23,7 @@ IsBefore d e = d.replica < e.replica
 -- an entry that has bytes
 pub record IsEndorsement (e : Endorsement) : Type 0 where
   pub replica : e.replica < 2 ^ 16
-  pub signature : length e.signature ≡ 1452
+  pub signature : length e.signature ≡ SIGNATURE_LEN
 
 -- a certificate that has bytes: its replicas rise, there are at most 31, and none exactly in view 0
 pub record IsCertificate (c : Certificate) : Type 0 where
@@ -36,18 +37,18 @@ pub record IsCertificate (c : Certificate) : Type 0 where
 -- ---- the bytes of a certificate
 
 -- a replica's number and its signature
-abbrev pub entry_text : Endorsement → List ℕ
-entry_text e = big_bytes 2 e.replica ++ e.signature
+abbrev pub endorsement_text : Endorsement → List ℕ
+endorsement_text e = big_bytes 2 e.replica ++ e.signature
 
 -- the view, the id, the number of entries, and the entries one after the other
 unfoldable pub certificate_text : Certificate → List ℕ
-certificate_text c = big_bytes 8 c.view ++ (c.id ++ (big_bytes 2 (length c.entries) ++ flat_map entry_text c.entries))
+certificate_text c = big_bytes 8 c.view ++ (c.id ++ (big_bytes 2 (length c.entries) ++ flat_map endorsement_text c.entries))
 
 -- ---- the votes in a certificate
 
 -- entry k, for k below their number
-abbrev pub entry_of : Certificate → ℕ → Endorsement
-entry_of c k = slice_index_or c.entries k (record { replica = 0; signature = [] })
+abbrev pub nth_endorsement : Certificate → ℕ → Endorsement
+nth_endorsement c k = slice_index_or c.entries k (record { replica = 0; signature = [] })
 
 -- the vote that an entry stands for
 abbrev pub vote_of : Certificate → Endorsement → SignedVote

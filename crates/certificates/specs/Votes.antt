@@ -5,6 +5,7 @@ use Rattle.byteorder.specs.Endian.{big_bytes}
 use Rattle.lms_tree.specs.Tree.{Verifies}
 use Rattle.blocks.specs.Committees.{n_of, key_id_at, root_at}
 use Rattle.blocks.specs.Genesis.{chain_id_of}
+use Rattle.blocks.specs.declared.ballot.Ballot.{Ballot}
 use Rattle.certificates.specs.Statements.{statement_text}
 use Rattle.certificates.specs.declared.vote.SignedVote.{SignedVote}
 
@@ -17,6 +18,10 @@ IsSignedBy committee replica view id signature =
 pub record IsGoodVote (committee : List ℕ) (v : SignedVote) : Type 0 where
   pub known : v.replica < n_of committee
   pub signed : IsSignedBy committee v.replica v.view v.id v.signature
+
+-- what the vote is on
+abbrev pub ballot_of : SignedVote → Ballot
+ballot_of v = record { view = v.view; id = v.id }
 
 -- the 1,494 bytes of a vote: its replica, its view, its block's id and its signature
 unfoldable pub vote_text : SignedVote → List ℕ

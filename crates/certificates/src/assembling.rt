@@ -1,16 +1,16 @@
 //! Certificates that are put together from votes.
 
-ghost use Rattle.std.specs.Prelude.{◌≡◌, ◌+◌, ◌*◌, ◌<◌, ◌≤◌, ◌↔◌, IsTrue, IfErr, IfOk, IsOk, OnOk, map};
+ghost use Rattle.std.specs.Prelude.{◌≡◌, ◌≢◌, ◌+◌, ◌*◌, ◌<◌, ◌≤◌, ◌↔◌, IsTrue, IfErr, IfOk, IsOk, OnOk, map};
 ghost use Rattle.std.specs.List.{All};
 ghost use Rattle.std.specs.List.Sorted.{IsNonDecreasingBy, IsPermutation};
 ghost use Rattle.blocks.specs.Committees.{n_of};
-ghost use Rattle.certificates.specs.Assembling.{AreAssemblable, IsAssembleRefusal, IsAssembled, IsVoteFor, assemble_refusal_number, endorsement_of};
+ghost use Rattle.certificates.specs.Assembling.{AreAssemblable, AreByDifferent, IsAssembleRefusal, IsAssembled, IsVoteFor, assemble_refusal_number, endorsement_of};
 ghost use Rattle.certificates.specs.Certificates.{IsEndorsement};
 ghost use Rattle.certificates.specs.declared.assembling.AssembleRefusal.TheVariants.{Memory};
 
-use crate::certificate::{Certificate, Endorsement, is_rising};
+use crate::certificate::{Certificate, Endorsement};
 use crate::vote::SignedVote;
-use blocks::{CommitteeView, Id};
+use blocks::{Ballot, CommitteeView};
 use lms_tree::Signature;
 use std::alloc::{AllocError, AllocFailed, Global};
 
@@ -52,11 +52,33 @@ impl<T: Drop> From<AllocFailed<T>> for AssembleRefusal {
     }
 }
 
-// Whether each vote is for this view and id.
-fn are_for(votes: &[SignedVote], view: u64, id: &Id) -> bool
-    ensures { IsTrue result ↔ All (IsVoteFor view id.now) votes.now }
+// Whether each vote is for this block.
+fn are_for(votes: &[SignedVote], block: &Ballot) -> bool
+    ensures { IsTrue result ↔ All (IsVoteFor block.now.view block.now.id) votes.now }
 {
-    votes.iter().all(|v| v.view == view && v.id == *id)
+    votes
+        .iter()
+        .all(|v| v.view == block.view && v.id == block.id)
+}
+
+// Whether none of the votes is by this replica.
+fn are_by_others(votes: &[SignedVote], replica: u16) -> bool
+    ensures { IsTrue result ↔ All (λ v. v.replica ≢ replica) votes.now }
+{
+    votes.iter().all(|v| v.replica != replica)
+}
+
+// Whether no two votes are by one replica. Of more votes than there are replicas no more are looked at than it takes to
+// find two.
+fn are_by_different(votes: &[SignedVote]) -> bool
+    ensures { IsTrue result ↔ AreByDifferent votes.now }
+{
+    for k in 0..votes.len() {
+        if !are_by_others(&votes[..k], votes[k].replica) {
+            return false;
+        }
+    }
+    true
 }
 
 // An entry of a certificate.
@@ -90,7 +112,7 @@ fn sort_by_replica(entries: &mut Vec<Endorsement>)
 
 /// The certificate of these votes, sorted by replica. Their replicas must be below the committee's n and
 /// their views at least 1. No signature is checked: `check_block` does that.
-/// Refused in this order: Memory, where memory was refused, Mixed, TooFew, Double.
+/// Refused in this order: Memory, Mixed, TooFew, Double; Memory comes only where the votes pass each test.
 pub fn assemble(
     alloc: Global,
     committee: &CommitteeView,
@@ -106,16 +128,16 @@ pub fn assemble(
     let Some(first) = votes.first() else {
         return Err(AssembleRefusal::TooFew);
     };
-    if !are_for(votes, first.view, &first.id) {
+    if !are_for(votes, &first.ballot()) {
         return Err(AssembleRefusal::Mixed);
     }
     if votes.len() < committee.quorum() as usize {
         return Err(AssembleRefusal::TooFew);
     }
-    let mut entries = endorsements_of(alloc, votes)?;
-    sort_by_replica(&mut entries);
-    if !is_rising(&entries) {
+    if !are_by_different(votes) {
         return Err(AssembleRefusal::Double);
     }
+    let mut entries = endorsements_of(alloc, votes)?;
+    sort_by_replica(&mut entries);
     Ok(Certificate::of(first.view, first.id, entries))
 }

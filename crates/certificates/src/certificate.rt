@@ -1,13 +1,14 @@
 //! Certificates.
 
-ghost use Rattle.std.specs.Prelude.{◌≡◌, ◌≢◌, ◌+◌, ◌*◌, ◌<◌, ◌≤◌, ◌↔◌, ◌++◌, true, Ok, Err, IfOk, IfErr, OnOk, length};
+ghost use Rattle.std.specs.Prelude.{◌≡◌, ◌≢◌, ◌+◌, ◌*◌, ◌<◌, ◌≤◌, ◌↔◌, ◌++◌, true, Ok, Err, IfOk, IfErr, IsOk, IsTrue, OnOk, length};
 ghost use Rattle.std.specs.List.{All, AllPairs, flat_map};
-ghost use Rattle.certificates.specs.CertificateReading.{certificate_in, certificate_refusal_number, entries_in, entry_at, has_count, is_rising, is_whole};
-ghost use Rattle.certificates.specs.Certificates.{Certificate as CertificateValue, IsBefore, IsCertificate, IsEndorsement, certificate_text, entry_of, entry_text, vote_of};
+ghost use Rattle.certificates.specs.CertificateReading.{certificate_in, certificate_refusal_number, entries_in, endorsement_at, has_count, is_rising, is_whole_certificate};
+ghost use Rattle.certificates.specs.Certificates.{Certificate as CertificateValue, IsBefore, IsCertificate, IsEndorsement, certificate_text, nth_endorsement, endorsement_text, vote_of};
 ghost use Rattle.certificates.specs.declared.certificate.CertificateRefusal.TheVariants.{Memory};
+ghost use Rattle.certificates.specs.declared.certificate.TheConstants.{ENDORSEMENT_LEN};
 
 use crate::vote::SignedVote;
-use blocks::Id;
+use blocks::{Ballot, Id};
 use lms_tree::Signature;
 use std::alloc::{AllocError, AllocFailed, Global};
 use std::marker::Model;
@@ -16,11 +17,11 @@ use wire::{array_at, u16_at, u64_at};
 /// The length in bytes of what stands before the entries: the view, the id and the count.
 const HEAD_LEN: usize = 42;
 
-/// The length of an entry in bytes.
-const ENTRY_LEN: usize = 1454;
+/// The length of an entry in bytes: the number of a replica, and a signature.
+pub const ENDORSEMENT_LEN: usize = 1454;
 
-/// The greatest number of entries.
-const MOST_ENTRIES: u16 = 31;
+/// The greatest number of entries, one for each replica of the greatest committee.
+pub const MOST_ENDORSEMENTS: u16 = 31;
 
 /// A replica and its signature, in a certificate.
 #[derive(Clone, Copy, Debug)]
@@ -89,12 +90,12 @@ impl<T: Drop> From<AllocFailed<T>> for CertificateRefusal {
 }
 
 // Entry k at its place.
-#[tactic(auto, unfolding(crate::specs::CertificateReading::entry_at))]
-fn entry_at(bytes: &[u8], k: u16) -> Endorsement
-    requires { 1496 + 1454 * k ≤ length bytes.now }
-    ensures { result ≡ entry_at bytes.now k }
+#[tactic(auto, unfolding(crate::specs::CertificateReading::endorsement_at))]
+fn endorsement_at(bytes: &[u8], k: u16) -> Endorsement
+    requires { 42 + ENDORSEMENT_LEN * (k + 1) ≤ length bytes.now }
+    ensures { result ≡ endorsement_at bytes.now k }
 {
-    let at = HEAD_LEN + ENTRY_LEN * k as usize;
+    let at = HEAD_LEN + ENDORSEMENT_LEN * k as usize;
     Endorsement {
         replica: u16_at(bytes, at),
         signature: array_at(bytes, at + 2),
@@ -108,24 +109,46 @@ fn entries_in(
     bytes: &[u8],
     count: u16,
 ) -> Result<Vec<Endorsement>, CertificateRefusal>
-    requires { length bytes.now ≡ 42 + 1454 * count }
+    requires { length bytes.now ≡ 42 + ENDORSEMENT_LEN * count }
     ensures ok { IfOk result (λ entries. entries.items ≡ entries_in bytes.now count) }
     ensures err { IfErr result (λ refusal. refusal ≡ CertificateRefusal.Memory) }
 {
     let mut entries = Vec::new(alloc);
     for k in 0..count {
-        entries.push(entry_at(bytes, k))?;
+        entries.push(endorsement_at(bytes, k))?;
     }
     Ok(entries)
 }
 
-// Whether the numbers of the replicas rise.
-pub(crate) fn is_rising(entries: &[Endorsement]) -> bool
-    ensures { result ≡ is_rising entries.now }
+/// Whether the bytes are as many as a certificate has of as many entries as they name. Neither the order of its
+/// replicas nor its count is looked at.
+pub fn is_whole_certificate(bytes: &[u8]) -> bool
+    ensures value { result ≡ is_whole_certificate bytes.now }
+    ensures long { IsTrue result → 42 ≤ length bytes.now }
+{
+    if bytes.len() < HEAD_LEN {
+        return false;
+    }
+    bytes.len() == HEAD_LEN + ENDORSEMENT_LEN * u16_at(bytes, 40) as usize
+}
+
+// The number of the replica of entry k.
+#[tactic(auto, unfolding(crate::specs::CertificateReading::endorsement_at))]
+fn replica_at(bytes: &[u8], k: u16) -> u16
+    requires { 42 + ENDORSEMENT_LEN * (k + 1) ≤ length bytes.now }
+    ensures { result ≡ (endorsement_at bytes.now k).replica }
+{
+    u16_at(bytes, HEAD_LEN + ENDORSEMENT_LEN * k as usize)
+}
+
+// Whether the numbers of the replicas rise in the bytes of so many entries.
+fn is_rising_in(bytes: &[u8], count: u16) -> bool
+    requires { length bytes.now ≡ 42 + ENDORSEMENT_LEN * count }
+    ensures { result ≡ is_rising (entries_in bytes.now count) }
 {
     let mut least = 0;
-    for e in entries {
-        let replica = e.replica as u32;
+    for k in 0..count {
+        let replica = replica_at(bytes, k) as u32;
         if replica < least {
             return false;
         }
@@ -141,13 +164,13 @@ fn has_count(view: u64, count: u16) -> bool
     if view == 0 {
         count == 0
     } else {
-        0 < count && count <= MOST_ENTRIES
+        0 < count && count <= MOST_ENDORSEMENTS
     }
 }
 
 // Adds an entry to the text.
 fn put_entry(text: &mut Vec<u8>, e: &Endorsement) -> Result<(), AllocError>
-    ensures { OnOk result (text.new.items ≡ text.old.items ++ entry_text e.now) }
+    ensures { OnOk result (text.new.items ≡ text.old.items ++ endorsement_text e.now) }
 {
     text.extend_from_slice(&e.replica.to_be_bytes())?;
     text.extend_from_slice(&e.signature)?;
@@ -156,7 +179,7 @@ fn put_entry(text: &mut Vec<u8>, e: &Endorsement) -> Result<(), AllocError>
 
 // Adds each entry to the text.
 fn put_entries(text: &mut Vec<u8>, entries: &[Endorsement]) -> Result<(), AllocError>
-    ensures { OnOk result (text.new.items ≡ text.old.items ++ flat_map entry_text entries.now) }
+    ensures { OnOk result (text.new.items ≡ text.old.items ++ flat_map endorsement_text entries.now) }
 {
     for e in entries {
         put_entry(text, e)?;
@@ -189,7 +212,8 @@ impl Certificate {
 
         // The first test that fails refuses, unless memory is refused.
         ensures first_refusal { result ≢ Err CertificateRefusal.Memory → result ≡ certificate_in bytes.now }
-        ensures memory { result ≡ Err CertificateRefusal.Memory → is_whole bytes.now ≡ true }
+        // Nothing is copied before the bytes passed each test.
+        ensures memory { result ≡ Err CertificateRefusal.Memory → IsOk (certificate_in bytes.now) }
     {
         Certificate::read_all(alloc, bytes)
     }
@@ -197,22 +221,20 @@ impl Certificate {
     #[tactic(auto, unfolding(crate::specs::CertificateReading::certificate_in))]
     fn read_all(alloc: Global, bytes: &[u8]) -> Result<Certificate, CertificateRefusal>
         ensures value { result ≢ Err CertificateRefusal.Memory → result ≡ certificate_in bytes.now }
-        ensures memory { result ≡ Err CertificateRefusal.Memory → is_whole bytes.now ≡ true }
+        ensures memory { result ≡ Err CertificateRefusal.Memory → IsOk (certificate_in bytes.now) }
     {
-        if bytes.len() < HEAD_LEN
-            || bytes.len() != HEAD_LEN + ENTRY_LEN * u16_at(bytes, 40) as usize
-        {
+        if !is_whole_certificate(bytes) {
             return Err(CertificateRefusal::Length);
         }
         let view = u64_at(bytes, 0);
         let count = u16_at(bytes, 40);
-        let entries = entries_in(alloc, bytes, count)?;
-        if !is_rising(&entries) {
+        if !is_rising_in(bytes, count) {
             return Err(CertificateRefusal::Order);
         }
         if !has_count(view, count) {
             return Err(CertificateRefusal::Count);
         }
+        let entries = entries_in(alloc, bytes, count)?;
         Ok(Certificate {
             view,
             id: array_at(bytes, 8),
@@ -248,6 +270,16 @@ impl Certificate {
         &self.id
     }
 
+    /// The view and the id together.
+    pub fn ballot(&self) -> Ballot
+        ensures { result ≡ record { view = self.now.view; id = self.now.id } }
+    {
+        Ballot {
+            view: self.view,
+            id: self.id,
+        }
+    }
+
     /// The number of votes, 0 to 31.
     pub fn count(&self) -> usize
         ensures value { result ≡ length self.now.entries }
@@ -259,7 +291,7 @@ impl Certificate {
     /// Vote `k`, counted from 0, which must be below `count`.
     pub fn vote(&self, k: usize) -> SignedVote
         requires { k < length self.now.entries }
-        ensures { result ≡ vote_of self.now (entry_of self.now k) }
+        ensures { result ≡ vote_of self.now (nth_endorsement self.now k) }
     {
         let entry = &self.entries[k];
         SignedVote {

@@ -3,7 +3,7 @@
 ghost use Rattle.std.specs.Prelude.{◌≡◌, ◌<◌, ◌↔◌, IsOk, IsTrue, IfErr, IfNone, IfOk, IfSome, OnOk};
 ghost use Rattle.std.specs.List.{All, AllPairs};
 ghost use Rattle.blocks.specs.Committees.{n_of};
-ghost use Rattle.certificates.specs.BlockChecks.{CheckedBlock as CheckedBlockValue, AreKnown, HasCount, IsBlockRefusal, IsChecked, IsFirstUnsigned, IsOnParent, IsSignedEntry, block_refusal_number};
+ghost use Rattle.certificates.specs.BlockChecks.{CheckedBlock as CheckedBlockValue, AreInCommittee, HasCount, IsBlockRefusal, IsChecked, IsFirstUnsigned, IsOnParent, IsSignedEntry, block_refusal_number};
 ghost use Rattle.certificates.specs.Certificates.{IsBefore};
 ghost use Rattle.certificates.specs.GoodCertificates.{IsOnGenesis};
 
@@ -89,7 +89,7 @@ fn has_count(committee: &CommitteeView, certificate: &Certificate) -> bool
 
 // Whether each vote is by a replica of the committee.
 fn are_known(committee: &CommitteeView, certificate: &Certificate) -> bool
-    ensures { IsTrue result ↔ AreKnown committee.now certificate.now }
+    ensures { IsTrue result ↔ AreInCommittee committee.now certificate.now }
 {
     let n = committee.n();
     certificate.entries().iter().all(|e| e.replica < n)
@@ -109,8 +109,7 @@ fn is_signed_entry<V: Verifier>(
         verifier,
         committee,
         entry.replica,
-        certificate.view(),
-        certificate.id(),
+        &certificate.ballot(),
         &entry.signature,
     )
 }
@@ -121,7 +120,7 @@ fn first_unsigned<V: Verifier>(
     verifier: &V,
     certificate: &Certificate,
 ) -> Option<usize>
-    requires { AreKnown committee.now certificate.now }
+    requires { AreInCommittee committee.now certificate.now }
     ensures none { IfNone result (All (IsSignedEntry committee.now certificate.now) certificate.now.entries) }
     ensures some { IfSome result (λ k. IsFirstUnsigned committee.now certificate.now k) }
 {

@@ -9,7 +9,7 @@ mod vote;
 
 pub use assembling::{AssembleRefusal, assemble};
 pub use blocks::CommitteeView;
-pub use certificate::{Certificate, CertificateRefusal};
+pub use certificate::{Certificate, CertificateRefusal, is_whole_certificate};
 pub use checked_block::{BlockRefusal, CheckedBlock, check_block};
 pub use statement::{STATEMENT_LEN, Statement, statements_have_one_spelling};
 pub use vote::{

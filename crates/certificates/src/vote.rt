@@ -4,10 +4,10 @@ ghost use Rattle.std.specs.Prelude.{◌≡◌, ◌<◌, ◌≤◌, ◌↔◌, Is
 ghost use Rattle.lms_tree.specs.Tree.{Verifies};
 ghost use Rattle.blocks.specs.Committees.{n_of};
 ghost use Rattle.certificates.specs.VoteChecks.{IsVoteRefusal, vote_refusal_number};
-ghost use Rattle.certificates.specs.Votes.{IsGoodVote, IsSignedBy, vote_text};
+ghost use Rattle.certificates.specs.Votes.{IsGoodVote, IsSignedBy, ballot_of, vote_text};
 
 use crate::statement::Statement;
-use blocks::{CommitteeView, Id};
+use blocks::{Ballot, CommitteeView, Id};
 use lms_tree::{PublicKey, Signature, verify};
 use wire::put;
 
@@ -28,6 +28,16 @@ pub struct SignedVote {
 }
 
 impl SignedVote {
+    /// What the vote is on.
+    pub fn ballot(&self) -> Ballot
+        ensures { result ≡ ballot_of self.now }
+    {
+        Ballot {
+            view: self.view,
+            id: self.id,
+        }
+    }
+
     /// The bytes of the vote: its replica (2 bytes at 0), its view (8 at 2), its block's id (32 at 10) and its signature
     /// (1,452 at 42).
     #[tactic(auto, using(wire::proofs::Numbers::filled), unfolding(crate::specs::Votes::vote_text))]
@@ -79,23 +89,22 @@ impl Verifier for LmsVerifier {
     }
 }
 
-/// Whether a replica of the committee, which must be below its n, signed this view and id of the committee's
+/// Whether a replica of the committee, which must be below its n, signed a vote on this block of the committee's
 /// chain. The signature is read in place.
 pub fn is_signed_by<V: Verifier>(
     verifier: &V,
     committee: &CommitteeView,
     replica: u16,
-    view: u64,
-    id: &Id,
+    on: &Ballot,
     signature: &[u8],
 ) -> bool
     requires { replica < n_of committee.now }
-    ensures { IsTrue result ↔ IsSignedBy committee.now replica view id.now signature.now }
+    ensures { IsTrue result ↔ IsSignedBy committee.now replica on.now.view on.now.id signature.now }
 {
     let statement = Statement {
         chain: committee.chain(),
-        view,
-        id: *id,
+        view: on.view,
+        id: on.id,
     };
     verifier.verify(&committee.key(replica), &statement.to_bytes(), signature)
 }
@@ -113,8 +122,7 @@ pub fn check_vote(committee: &CommitteeView, vote: &SignedVote) -> Result<(), Vo
         &LmsVerifier,
         committee,
         vote.replica,
-        vote.view,
-        &vote.id,
+        &vote.ballot(),
         &vote.signature,
     ) {
         return Err(VoteRefusal::Signature);

@@ -1,7 +1,8 @@
 -- Commits among certified headers are those that evidence proves.
-use Rattle.std.proofs.Common.{◌≡◌, ◌≢◌, ◌↔◌, Bool, true, false, inl, inr, ℕ, ◌+◌, ◌<◌, List, ◌∷◌, refl, sym, ◌∙◌, ap, subst, arith}
+use Rattle.std.proofs.Common.{◌≡◌, ◌≢◌, ◌↔◌, Bool, true, false, inl, inr, ℕ, ◌+◌, ◌<◌, List, ◌∷◌, refl, sym, ◌∙◌, ap, subst, get_or, arith}
 use Rattle.std.specs.Prelude.{IsTrue, nat_eq}
-use Rattle.std.specs.List.{AllPairs, Contains}
+use Rattle.std.specs.List.{All, AllPairs, Contains}
+use Rattle.std.proofs.lemmas.List.Elements.{Contains-get_or}
 use lib.Pointwise.{pointwise}
 use Rattle.std.proofs.lemmas.Bool.{false≢true}
 use Rattle.std.proofs.lemmas.Slice.Eq.{bytes_eq-Decides}
@@ -15,10 +16,10 @@ use Rattle.ancestry.proofs.Walks.{head_or_later, linked_is}
 use Rattle.evidence.specs.Evidence.{Evidence, IsEvidence}
 use Rattle.blocks.specs.Weights.{committee_of}
 use Rattle.accountability.specs.Commits.{AreProvedCommits, IsCertified, IsLowerBlock, IsProvedCommit, Stands}
-use Rattle.commit_search.specs.Chosen.{AreThose}
+use Rattle.commit_search.specs.Chosen.{AreCertifiedHeaders, AreThose}
 use Rattle.commit_search.specs.Successors.{HasNext, HasTwoNext, IsCommitAmong}
 
-evidence_apart : (e : Evidence) → IsEvidence e → NoCollision e.headers
+pub evidence_apart : (e : Evidence) → IsEvidence e → NoCollision e.headers
 evidence_apart e is = apart_in e.headers is.headers_rise
 
 -- ---- headers of evidence, with genesis
@@ -42,12 +43,6 @@ pub genesis_alone_in : (e : Evidence) (hs ds : List Header) (g : Header) → IsE
 genesis_alone_in e hs ds g is among same_hs same_g =
     subst (λ (x : Header). IsAloneAmong x ds) (sym same_g) (subst (IsAloneAmong (genesis_of e.committee)) (sym same_hs) (genesis_alone e hs is among))
 
-pub index_is : (e : Evidence) (hs ds : List Header) (g : Header) (known : Known) → ds ≡ hs → g ≡ genesis_of e.committee → known ≡ record { genesis = g; headers = ds } → known ≡ with_genesis e hs
-index_is e hs ds g known same_hs same_g is = is ∙ ap (index_of ds) same_g ∙ ap (with_genesis e) same_hs
-  where
-    index_of : List Header → Header → Known
-    index_of l x = record { genesis = x; headers = l }
-
 -- ---- certified headers
 
 abbrev pub AreCertified : Evidence → List Header → Type 0
@@ -62,7 +57,7 @@ certified_known e hs is a = known_of e hs is a.rising (certified_in e hs a)
 stands_later : (e : Evidence) (hs : List Header) (h : Header) → AreCertified e hs → Contains hs h → Stands (committee_of e.committee) e h
 stands_later e hs h a there = let b = (a.exact h).0 there in record { known = b.0; certified = λ _. b.1 }
 
-stands_in : (e : Evidence) (hs : List Header) (h : Header) → IsEvidence e → AreCertified e hs → Contains (all_of (with_genesis e hs)) h → Stands (committee_of e.committee) e h
+pub stands_in : (e : Evidence) (hs : List Header) (h : Header) → IsEvidence e → AreCertified e hs → Contains (all_of (with_genesis e hs)) h → Stands (committee_of e.committee) e h
 stands_in e hs h is a there =
     elim (head_or_later (genesis_of e.committee) hs h there) [
       | inl here ↦ record { known = subst (Contains e.headers) here is.genesis; certified = λ other. absurd (other (sym here)) }
@@ -72,7 +67,7 @@ stands_in e hs h is a there =
 later_stands : (e : Evidence) (hs : List Header) (h : Header) → AreCertified e hs → h ≢ genesis_of e.committee → Stands (committee_of e.committee) e h → Contains hs h
 later_stands e hs h a other s = (a.exact h).1 (s.known, s.certified other)
 
-known_stands : (e : Evidence) (hs : List Header) (h : Header) → IsEvidence e → AreCertified e hs → Stands (committee_of e.committee) e h → Contains (all_of (with_genesis e hs)) h
+pub known_stands : (e : Evidence) (hs : List Header) (h : Header) → IsEvidence e → AreCertified e hs → Stands (committee_of e.committee) e h → Contains (all_of (with_genesis e hs)) h
 known_stands e hs h is a s = by_test (pointwise nat_eq (header_id h) (header_id (genesis_of e.committee))) (bytes_eq-Decides (header_id h) (header_id (genesis_of e.committee)))
   where
     by_test : (r : Bool) → IsTrue r ↔ (header_id h ≡ header_id (genesis_of e.committee)) → Contains (genesis_of e.committee ∷ hs) h
@@ -136,9 +131,30 @@ all_proved e hs chosen commits is a these rising same = record {
   );
 }
 
-pub proved_from : (e : Evidence) (hs ds chosen commits : List Header) (known : Known) → IsEvidence e → AreCertified e hs → ds ≡ hs → known ≡ with_genesis e hs → AreThose (IsCommitAmong known) ds chosen
+with_genesis_of : List Header → Header → Known
+with_genesis_of hs g = record { genesis = g; headers = hs }
+
+pub index_is : (e : Evidence) (known : Known) → AreCertifiedHeaders e known → known ≡ with_genesis e known.headers
+unfolding with_genesis_of
+index_is e known are = ap (with_genesis_of known.headers) are.genesis
+
+pub proved_from : (e : Evidence) (known : Known) (chosen commits : List Header) → IsEvidence e → AreCertifiedHeaders e known → AreThose (IsCommitAmong known) known.headers chosen
     → AllPairs IsLowerBlock commits → ((b : Header) → Contains commits b ↔ Contains chosen b) → AreProvedCommits (committee_of e.committee) e commits
-proved_from e hs ds chosen commits known is a same_hs same_known these rising same =
-    all_proved e hs chosen commits is a
-    (subst (λ (k : Known). AreThose (IsCommitAmong k) hs chosen) same_known (subst (λ (l : List Header). AreThose (IsCommitAmong known) l chosen) same_hs these))
+proved_from e known chosen commits is are these rising same =
+    all_proved e known.headers chosen commits is are.certified
+    (subst (λ (k : Known). AreThose (IsCommitAmong k) known.headers chosen) (index_is e known are) these)
     rising same
+
+-- commits among known headers are known
+pub chosen_known : (known : Known) (chosen commits : List Header) → AreThose (IsCommitAmong known) known.headers chosen → ((b : Header) → Contains commits b ↔ Contains chosen b)
+    → All (Contains (all_of known)) commits
+chosen_known known chosen commits these same k d l =
+    let b = get_or commits k d in
+    Contains-later known.genesis known.headers b (((these.exact b).0 ((same b).0 (Contains-get_or commits k d l))).0)
+
+-- what was built is the index
+pub index_of : (e : Evidence) (hs ds : List Header) (g : Header) (known : Known) → AreCertified e hs → ds ≡ hs → g ≡ genesis_of e.committee → known ≡ record { genesis = g; headers = ds } → AreCertifiedHeaders e known
+index_of e hs ds g known a same_hs same_g is = record {
+  genesis = ap (λ (k : Known). k.genesis) is ∙ same_g;
+  certified = subst (AreCertified e) (sym (ap (λ (k : Known). k.headers) is ∙ same_hs)) a;
+}

@@ -6,18 +6,20 @@ use Rattle.std.proofs.lemmas.Bool.{cases_lt, false≢true}
 use Rattle.std.proofs.lemmas.List.{get_or_default, get_or-take, length-take-le, take_all}
 use Rattle.std.proofs.lemmas.List.Elements.{All-contains, Contains-get_or}
 use Rattle.std.proofs.lemmas.List.Kept.{AllPairs-cons}
-use Rattle.blocks.specs.Chains.{Conflict, IsAncestor, IsLinked}
+use Rattle.blocks.specs.Chains.{Conflict, IsAncestor, IsChainIn, IsLinked}
+use Rattle.blocks.proofs.Chains.{one_chain}
 use Rattle.blocks.specs.Genesis.{genesis_of}
 use Rattle.blocks.specs.Headers.{Header, header_id}
 use Rattle.blocks.proofs.Members.{Contains-first, Contains-later}
 use Rattle.ancestry.specs.Known.{Known, IsKnown, all_of, IsLinkedId, IsAncestorId}
-use Rattle.ancestry.proofs.Walks.{ancestor_is, chain_with, head_or_later, linked_is}
+use Rattle.ancestry.proofs.Walks.{ancestor_is, head_or_later, linked_is}
 use Rattle.evidence.specs.Evidence.{Evidence, IsEvidence}
 use Rattle.blocks.specs.Weights.{committee_of}
-use Rattle.accountability.specs.Commits.{AreConflicting, AreFirstConflict, AreProvedCommits, HasNoConflict, IsAtMost, IsLowerBlock}
+use Rattle.accountability.specs.Commits.{AreConflicting, AreFirstConflict, AreProvedCommits, HasNoConflict, IsAtMost, IsLowerBlock, IsProvedCommit}
 use Rattle.commit_search.specs.declared.conflicts.ConflictingCommits.{ConflictingCommits}
 use Rattle.commit_search.specs.Pairs.{Agree, AreConflictingIn, AreFirstIn, DoConflict, IsLeastConflictWith, IsNoAncestor}
-use Rattle.commit_search.proofs.CommitFacts.{with_genesis}
+use Rattle.commit_search.specs.Chosen.{AreCertifiedHeaders}
+use Rattle.commit_search.proofs.CommitFacts.{AreCertified, evidence_apart, genesis_is, index_is, known_stands, stands_in, with_genesis}
 use Rattle.commit_search.proofs.Orders.{not_lower, lower_lower}
 
 -- ---- by ids
@@ -119,101 +121,114 @@ found_later known x xs a b rising none f = record {
 
 -- ---- in evidence
 
-linked_with : (hs : List Header) (g b : Header) → Contains hs g → IsLinked (g ∷ hs) g b → IsLinked hs g b
-linked_with hs g b there l = (l.0, (chain_with hs g b l.0 there).0 l.1)
+-- a certified header is in evidence, and genesis is
+known_in : (e : Evidence) (hs : List Header) → IsEvidence e → AreCertified e hs → (h : Header) → Contains (all_of (with_genesis e hs)) h → Contains e.headers h
+known_in e hs is a h there = (stands_in e hs h is a there).known
 
-linked_without : (hs : List Header) (g b : Header) → Contains hs g → IsLinked hs g b → IsLinked (g ∷ hs) g b
-linked_without hs g b there l = (l.0, (chain_with hs g b l.0 there).1 l.1)
+module _ (e : Evidence) (hs : List Header) (is : IsEvidence e) (a : AreCertified e hs) where
+  -- the certified headers with genesis, and the chains of both lists
+  known : List Header
+  known = all_of (with_genesis e hs)
 
-ancestor_with : (hs : List Header) (g a b : Header) → Contains hs g → IsAncestor (g ∷ hs) g a b → IsAncestor hs g a b
-ancestor_with hs g a b there l = (l.0, (chain_with hs g b l.0 there).0 l.1, l.2)
+  g : Header
+  g = genesis_of e.committee
 
-ancestor_without : (hs : List Header) (g a b : Header) → Contains hs g → IsAncestor hs g a b → IsAncestor (g ∷ hs) g a b
-ancestor_without hs g a b there l = (l.0, (chain_with hs g b l.0 there).1 l.1, l.2)
+  chain_in_evidence : (b : Header) (ps : List Header) → IsChainIn known g b ps → IsChainIn e.headers g b ps
+  unfolding known g
+  chain_in_evidence b ps c = (c.0, λ h m. known_in e hs is a h (c.1 h m))
 
-conflict_with_genesis : (hs : List Header) (g a b : Header) → Contains hs g → Conflict (g ∷ hs) g a b → Conflict hs g a b
-conflict_with_genesis hs g a b there c = record {
-  first_linked = linked_with hs g a there c.first_linked;
-  second_linked = linked_with hs g b there c.second_linked;
-  differ = c.differ;
-  not_below = λ l. c.not_below (ancestor_without hs g a b there l);
-  not_above = λ l. c.not_above (ancestor_without hs g b a there l);
-}
+  -- a block with a certified chain has no other chain in evidence
+  only_chain : (b : Header) (ps qs : List Header) → IsChainIn known g b ps → IsChainIn e.headers g b qs → qs ≡ ps
+  unfolding known g
+  only_chain b ps qs c d = one_chain e.headers g b qs ps (genesis_is e) (evidence_apart e is) d (chain_in_evidence b ps c)
 
-conflict_without_genesis : (hs : List Header) (g a b : Header) → Contains hs g → Conflict hs g a b → Conflict (g ∷ hs) g a b
-conflict_without_genesis hs g a b there c = record {
-  first_linked = linked_without hs g a there c.first_linked;
-  second_linked = linked_without hs g b there c.second_linked;
-  differ = c.differ;
-  not_below = λ l. c.not_below (ancestor_with hs g a b there l);
-  not_above = λ l. c.not_above (ancestor_with hs g b a there l);
-}
+  ancestor_in_evidence : (x y : Header) → IsAncestor known g x y → IsAncestor e.headers g x y
+  unfolding known g
+  ancestor_in_evidence x y l = (l.0, chain_in_evidence y l.0 l.1, l.2)
 
-commits_known : (e : Evidence) (commits : List Header) → AreProvedCommits (committee_of e.committee) e commits → All (Contains (all_of (with_genesis e e.headers))) commits
-commits_known e commits are k d l =
-    let p = (are.exact (get_or commits k d)).0 (Contains-get_or commits k d l) in
-    Contains-later (genesis_of e.committee) e.headers (get_or commits k d) (p.chain_stands (get_or commits k d) (Contains-first (get_or commits k d) p.chain)).known
+  ancestor_certified : (x y : Header) → IsLinked known g y → IsAncestor e.headers g x y → IsAncestor known g x y
+  unfolding known g
+  ancestor_certified x y linked l = (linked.0, linked.1, subst (λ (ps : List Header). Contains ps x) (only_chain y linked.0 l.0 linked.1 l.1) l.2)
+
+  conflict_in_evidence : (x y : Header) → Conflict known g x y → Conflict e.headers g x y
+  unfolding known g
+  conflict_in_evidence x y c = record {
+    first_linked = (c.first_linked.0, chain_in_evidence x c.first_linked.0 c.first_linked.1);
+    second_linked = (c.second_linked.0, chain_in_evidence y c.second_linked.0 c.second_linked.1);
+    differ = c.differ;
+    not_below = λ l. c.not_below (ancestor_certified x y c.second_linked l);
+    not_above = λ l. c.not_above (ancestor_certified y x c.first_linked l);
+  }
+
+  conflict_certified : (x y : Header) → IsLinked known g x → IsLinked known g y → Conflict e.headers g x y → Conflict known g x y
+  unfolding known g
+  conflict_certified x y p q c = record {
+    first_linked = p;
+    second_linked = q;
+    differ = c.differ;
+    not_below = λ l. c.not_below (ancestor_in_evidence x y l);
+    not_above = λ l. c.not_above (ancestor_in_evidence y x l);
+  }
+
+  -- a proved commit has a certified chain
+  commit_linked : (b : Header) → IsProvedCommit (committee_of e.committee) e b → IsLinked known g b
+  unfolding known g
+  commit_linked b p = (p.chain, (p.is_chain, λ h m. known_stands e hs h is a (p.chain_stands h m)))
 
 turned : (hs : List Header) (g a b : Header) → Conflict hs g a b → Conflict hs g b a
 turned hs g a b c = record { first_linked = c.second_linked; second_linked = c.first_linked; differ = λ same. c.differ (sym same); not_below = c.not_above; not_above = c.not_below }
 
-no_conflict : (e : Evidence) (commits : List Header) → IsEvidence e → AreProvedCommits (committee_of e.committee) e commits → AllPairs (Agree (with_genesis e e.headers)) commits
+no_conflict : (e : Evidence) (hs commits : List Header) → IsEvidence e → AreCertified e hs → AreProvedCommits (committee_of e.committee) e commits → AllPairs (Agree (with_genesis e hs)) commits
     → HasNoConflict (committee_of e.committee) e
-no_conflict e commits is are agree a b p q c = at_places ((are.exact a).1 p) ((are.exact b).1 q)
+unfolding known g
+no_conflict e hs commits is these are agree a b p q c = at_places ((are.exact a).1 p) ((are.exact b).1 q)
   where
-    there : DoConflict (with_genesis e e.headers) a b
-    there = conflict_without_genesis e.headers (genesis_of e.committee) a b is.genesis c
+    there : DoConflict (with_genesis e hs) a b
+    there = conflict_certified e hs is these a b (commit_linked e hs is these a p) (commit_linked e hs is these b q) c
 
     at_places : Contains commits a → Contains commits b → ⊥
     at_places (i, in_i, at_i) (j, in_j, at_j) =
         let second : get_or commits j a ≡ b = get_or_default commits j a b in_j ∙ at_j in
         elim (cases_lt i j) [
-          | inl less ↦ subst (λ (h : Header). Agree (with_genesis e e.headers) h b) at_i (subst (Agree (with_genesis e e.headers) (get_or commits i a)) second (agree i j a less in_j)) there
+          | inl less ↦ subst (λ (h : Header). Agree (with_genesis e hs) h b) at_i (subst (Agree (with_genesis e hs) (get_or commits i a)) second (agree i j a less in_j)) there
           | inr past ↦ elim (cases_lt j i) [
             | inl more ↦
-                subst (λ (h : Header). Agree (with_genesis e e.headers) h a) second (subst (Agree (with_genesis e e.headers) (get_or commits j a)) at_i (agree j i a more in_i))
-                (turned (all_of (with_genesis e e.headers)) (genesis_of e.committee) a b there)
+                subst (λ (h : Header). Agree (with_genesis e hs) h a) second (subst (Agree (with_genesis e hs) (get_or commits j a)) at_i (agree j i a more in_i))
+                (turned (all_of (with_genesis e hs)) (genesis_of e.committee) a b there)
             | inr le ↦ let same : i ≡ j = omega arith in there.differ (sym at_i ∙ ap (λ (n : ℕ). get_or commits n a) same ∙ second)
           ]
         ]
 
-to_evidence : (e : Evidence) (commits : List Header) (a b : Header) → IsEvidence e → AreProvedCommits (committee_of e.committee) e commits → AreConflictingIn (with_genesis e e.headers) commits a b
+to_evidence : (e : Evidence) (hs commits : List Header) (a b : Header) → IsEvidence e → AreCertified e hs → AreProvedCommits (committee_of e.committee) e commits → AreConflictingIn (with_genesis e hs) commits a b
     → AreConflicting (committee_of e.committee) e a b
-to_evidence e commits a b is are c = record {
+unfolding known g
+to_evidence e hs commits a b is these are c = record {
   first = (are.exact a).0 c.first;
   second = (are.exact b).0 c.second;
   in_order = c.in_order;
-  conflict = conflict_with_genesis e.headers (genesis_of e.committee) a b is.genesis c.conflict;
+  conflict = conflict_in_evidence e hs is these a b c.conflict;
 }
 
-from_evidence : (e : Evidence) (commits : List Header) (a b : Header) → IsEvidence e → AreProvedCommits (committee_of e.committee) e commits → AreConflicting (committee_of e.committee) e a b
-    → AreConflictingIn (with_genesis e e.headers) commits a b
-from_evidence e commits a b is are c = record {
+from_evidence : (e : Evidence) (hs commits : List Header) (a b : Header) → IsEvidence e → AreCertified e hs → AreProvedCommits (committee_of e.committee) e commits → AreConflicting (committee_of e.committee) e a b
+    → AreConflictingIn (with_genesis e hs) commits a b
+unfolding known g
+from_evidence e hs commits a b is these are c = record {
   first = (are.exact a).1 c.first;
   second = (are.exact b).1 c.second;
   in_order = c.in_order;
-  conflict = conflict_without_genesis e.headers (genesis_of e.committee) a b is.genesis c.conflict;
+  conflict = conflict_certified e hs is these a b (commit_linked e hs is these a c.first) (commit_linked e hs is these b c.second) c.conflict;
 }
 
-first_pair_is : (e : Evidence) (commits : List Header) (a b : Header) → IsEvidence e → AreProvedCommits (committee_of e.committee) e commits → AreFirstIn (with_genesis e e.headers) commits a b
-    → AreFirstConflict (committee_of e.committee) e a b
-first_pair_is e commits a b is are f = record {
-  conflicting = to_evidence e commits a b is are f.conflicting;
-  least_first = λ x y c. f.least_first x y (from_evidence e commits x y is are c);
-  least_second = λ y c. f.least_second y (from_evidence e commits a y is are c);
-}
+-- ---- in the index of the certified headers
 
--- ---- in the index of evidence
-
-pub commits_indexed : (e : Evidence) (commits : List Header) (known : Known) → known ≡ with_genesis e e.headers → AreProvedCommits (committee_of e.committee) e commits → All (Contains (all_of known)) commits
-commits_indexed e commits known same are = subst (λ (k : Known). All (Contains (all_of k)) commits) (sym same) (commits_known e commits are)
-
-pub none_is : (e : Evidence) (commits : List Header) (known : Known) → IsEvidence e → known ≡ with_genesis e e.headers → AreProvedCommits (committee_of e.committee) e commits → AllPairs (Agree known) commits
-    → HasNoConflict (committee_of e.committee) e
-none_is e commits known is same are none = no_conflict e commits is are (subst (λ (k : Known). AllPairs (Agree k) commits) same none)
-
-pub found_is : (e : Evidence) (commits : List Header) (known : Known) (o : Option ConflictingCommits) → IsEvidence e → known ≡ with_genesis e e.headers → AreProvedCommits (committee_of e.committee) e commits
-    → MatchOption o (AllPairs (Agree known) commits) (λ pair. AreFirstIn known commits pair.first pair.second)
+pub found_is : (e : Evidence) (commits : List Header) (k : Known) (o : Option ConflictingCommits) → IsEvidence e → AreCertifiedHeaders e k → AreProvedCommits (committee_of e.committee) e commits
+    → MatchOption o (AllPairs (Agree k) commits) (λ pair. AreFirstIn k commits pair.first pair.second)
     → MatchOption o (HasNoConflict (committee_of e.committee) e) (λ pair. AreFirstConflict (committee_of e.committee) e pair.first pair.second)
-found_is e commits known None is same are none = none_is e commits known is same are none
-found_is e commits known (Some pair) is same are found = first_pair_is e commits pair.first pair.second is are (subst (λ (k : Known). AreFirstIn k commits pair.first pair.second) same found)
+found_is e commits k None is these are none = no_conflict e k.headers commits is these.certified are (subst (λ (x : Known). AllPairs (Agree x) commits) (index_is e k these) none)
+found_is e commits k (Some pair) is these are found =
+    let f = subst (λ (x : Known). AreFirstIn x commits pair.first pair.second) (index_is e k these) found in
+    record {
+      conflicting = to_evidence e k.headers commits pair.first pair.second is these.certified are f.conflicting;
+      least_first = λ x y c. f.least_first x y (from_evidence e k.headers commits x y is these.certified are c);
+      least_second = λ y c. f.least_second y (from_evidence e k.headers commits pair.first y is these.certified are c);
+    }

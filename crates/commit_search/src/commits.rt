@@ -1,11 +1,14 @@
 //! Commits that evidence proves.
 
 ghost use Rattle.std.specs.Prelude.{◌≡◌, ◌+◌, ◌↔◌, IfOk, IsTrue};
-ghost use Rattle.std.specs.List.{AllPairs, Contains};
+ghost use Rattle.std.specs.List.{All, AllPairs, Contains};
+ghost use Rattle.ancestry.specs.Known.{all_of};
+ghost use Rattle.blocks.specs.Committees.{IsCommittee};
 ghost use Rattle.blocks.specs.Headers.{Header as HeaderValue, HasLowerId};
 ghost use Rattle.blocks.specs.Weights.{committee_of};
 ghost use Rattle.accountability.specs.Commits.{AreProvedCommits, IsLowerBlock};
-ghost use Rattle.commit_search.specs.Chosen.{AreThose};
+ghost use Rattle.commit_search.specs.Chosen.{AreCertifiedHeaders, AreThose};
+ghost use Rattle.evidence.specs.Evidence.{Evidence as EvidenceValue, IsEvidence};
 ghost use Rattle.commit_search.specs.Successors.{IsNext, HasNext, HasTwoNext, IsCommitAmong};
 
 use crate::certified::certified_headers;
@@ -45,33 +48,20 @@ fn has_two_next(certified: &[NamedHeader], b: &NamedHeader) -> bool
         .any(|h| is_next(b, h) && has_next(certified, h))
 }
 
-// Whether a block is committed by two blocks of this list, on a chain of it.
-fn is_commit_among(
-    chains: &Ancestry,
-    genesis: &NamedHeader,
-    certified: &[NamedHeader],
-    b: &NamedHeader,
-) -> bool
-    requires { chains.now ≡ record { genesis = genesis.now; headers = certified.now } }
+// Whether a block is committed by two known blocks, on a chain of them.
+fn is_commit_among(chains: &Ancestry, b: &NamedHeader) -> bool
     ensures { IsTrue result ↔ IsCommitAmong chains.now b.now }
 {
-    !are_same(b, genesis) && chains.linked(b.id()) && has_two_next(certified, b)
+    !are_same(b, &chains.genesis()) && chains.linked(b.id()) && has_two_next(chains.headers(), b)
 }
 
-// The blocks of the list that blocks of the list commit, by rising id.
-fn commits_among(
-    alloc: Global,
-    chains: &Ancestry,
-    genesis: &NamedHeader,
-    certified: &[NamedHeader],
-) -> Result<Vec<NamedHeader>, AllocError>
-    requires known { chains.now ≡ record { genesis = genesis.now; headers = certified.now } }
-    requires rising { AllPairs HasLowerId certified.now }
-    ensures { IfOk result (λ chosen. AreThose (IsCommitAmong chains.now) certified.now chosen.items) }
+// The known blocks that known blocks commit, by rising id.
+fn commits_among(alloc: Global, chains: &Ancestry) -> Result<Vec<NamedHeader>, AllocError>
+    ensures { IfOk result (λ chosen. AreThose (IsCommitAmong chains.now) chains.now.headers chosen.items) }
 {
     let mut chosen = Vec::new(alloc);
-    for header in certified {
-        if is_commit_among(chains, genesis, certified, header) {
+    for header in chains.headers() {
+        if is_commit_among(chains, header) {
             chosen.push(*header)?;
         }
     }
@@ -87,16 +77,30 @@ fn sort_blocks(blocks: &mut Vec<NamedHeader>)
     blocks.sort_unstable_by_key(|b| (b.header().view, *b.id()));
 }
 
-/// The blocks whose commits the evidence proves, rising by view, then by id: blocks but genesis that are
-/// certified with their whole chains, and on which two certified blocks stand in the next two views. Memory
-/// is refused where the certified headers could not be copied.
-pub fn proved_commits(alloc: Global, evidence: &Evidence) -> Result<Vec<NamedHeader>, AllocError>
-    ensures { IfOk result (λ commits. AreProvedCommits (committee_of evidence.now.committee) evidence.now commits.items) }
+/// The certified headers of the evidence, with its genesis, as an index in which chains are followed. Memory is
+/// refused where they could not be copied.
+pub fn certified_chains(alloc: Global, evidence: &Evidence) -> Result<Ancestry, AllocError>
+    ensures chains { IfOk result (AreCertifiedHeaders evidence.now) }
+    // What the types of evidence and of its committee keep, for the laws on what the index shows.
+    ensures evidence { IsEvidence evidence.now }
+    ensures committee { IsCommittee evidence.now.committee }
 {
     let genesis = NamedHeader::of(evidence.committee().genesis());
     let certified = certified_headers(alloc, evidence)?;
     let chains = Ancestry::build(alloc, genesis, &certified)?;
-    let mut commits = commits_among(alloc, &chains, &genesis, &certified)?;
+    Ok(chains)
+}
+
+/// The blocks whose commits evidence proves, from the index of its certified headers, rising by view, then by id:
+/// blocks but genesis that are certified with their whole chains, and on which two certified blocks stand in the next
+/// two views. Memory is refused where the list of them could not grow.
+pub fn proved_commits(alloc: Global, chains: &Ancestry) -> Result<Vec<NamedHeader>, AllocError>
+    ensures known { IfOk result (λ commits. All (Contains (all_of chains.now)) commits.items) }
+    ensures rising { IfOk result (λ commits. AllPairs IsLowerBlock commits.items) }
+    ensures proved { IfOk result (λ commits. (e : EvidenceValue) → IsEvidence e → AreCertifiedHeaders e chains.now →
+        AreProvedCommits (committee_of e.committee) e commits.items) }
+{
+    let mut commits = commits_among(alloc, chains)?;
     sort_blocks(&mut commits);
     Ok(commits)
 }

@@ -1,18 +1,18 @@
 //! Commits that conflict.
 
-ghost use Rattle.std.specs.Prelude.{◌≡◌, ◌≤◌, ◌↔◌, length, IfOk, IsTrue, MatchOption};
+ghost use Rattle.std.specs.Prelude.{◌≡◌, ◌≤◌, ◌↔◌, length, IsTrue, MatchOption};
 ghost use Rattle.std.specs.List.{All, AllPairs, Contains};
 ghost use Rattle.blocks.specs.Weights.{committee_of};
 ghost use Rattle.accountability.specs.Commits.{AreProvedCommits, AreFirstConflict, HasNoConflict, IsLowerBlock};
 ghost use Rattle.blocks.specs.Chains.{IsAncestor};
 ghost use Rattle.ancestry.specs.Known.{all_of, IsKnown};
+ghost use Rattle.commit_search.specs.Chosen.{AreCertifiedHeaders};
+ghost use Rattle.evidence.specs.Evidence.{Evidence as EvidenceValue, IsEvidence};
 ghost use Rattle.commit_search.specs.Pairs.{Agree, AreFirstIn, DoConflict, FirstAreAbove, IsLeastConflictWith, IsNoAncestor, IsTrunk, StandInOneChain};
 
 use crate::same::are_same;
 use ancestry::Ancestry;
 use blocks::NamedHeader;
-use evidence::Evidence;
-use std::alloc::{AllocError, Global};
 
 /// Two proved commits that conflict, the lower one first.
 #[derive(Clone, Copy, Debug, PartialEq, Eq)]
@@ -129,19 +129,17 @@ fn first_pair(chains: &Ancestry, blocks: &[NamedHeader]) -> Option<ConflictingCo
     None
 }
 
-/// The first two of these commits, the proved ones of the evidence, that conflict: of all pairs with the lower
-/// commit first that with the least first commit, and of those that with the least second one. None where no
-/// two conflict. Memory is refused where the headers of the evidence could not be copied.
-pub fn first_conflict(
-    alloc: Global,
-    evidence: &Evidence,
-    commits: &[NamedHeader],
-) -> Result<Option<ConflictingCommits>, AllocError>
-    requires { AreProvedCommits (committee_of evidence.now.committee) evidence.now commits.now }
-    ensures { IfOk result (λ found. MatchOption found (HasNoConflict (committee_of evidence.now.committee) evidence.now)
-        (λ pair. AreFirstConflict (committee_of evidence.now.committee) evidence.now pair.first pair.second)) }
+/// The first two of these commits, the proved ones of evidence by its certified headers, that conflict: of all pairs
+/// with the lower commit first that with the least first commit, and of those that with the least second one. None
+/// where no two conflict.
+pub fn first_conflict(chains: &Ancestry, commits: &[NamedHeader]) -> Option<ConflictingCommits>
+    requires there { All (Contains (all_of chains.now)) commits.now }
+    requires rising { AllPairs IsLowerBlock commits.now }
+    ensures { (e : EvidenceValue) → IsEvidence e → AreCertifiedHeaders e chains.now →
+        AreProvedCommits (committee_of e.committee) e commits.now →
+        MatchOption result (HasNoConflict (committee_of e.committee) e)
+        (λ pair. AreFirstConflict (committee_of e.committee) e pair.first pair.second) }
 {
-    let genesis = NamedHeader::of(evidence.committee().genesis());
-    let chains = Ancestry::build(alloc, genesis, evidence.headers())?;
-    Ok(first_pair(&chains, commits))
+    let _known = chains.headers();
+    first_pair(chains, commits)
 }

@@ -6,5 +6,5 @@ mod commits;
 mod conflicts;
 mod same;
 
-pub use commits::proved_commits;
+pub use commits::{certified_chains, proved_commits};
 pub use conflicts::{ConflictingCommits, first_conflict};

@@ -9,7 +9,8 @@ use Rattle.ancestry.proofs.Ids.{apart_in}
 use Rattle.certificates.specs.declared.vote.SignedVote.{SignedVote}
 use Rattle.evidence.specs.Evidence.{Evidence, IsEvidence, IsNotBelowParent}
 use Rattle.verdict_format.specs.Verdicts.{VotedHeaders}
-use Rattle.accountability.specs.Culprits.{BreakARule, ballot_of}
+use Rattle.certificates.specs.Votes.{ballot_of}
+use Rattle.accountability.specs.Culprits.{BreakARule}
 use Rattle.culprit_search.specs.Searches.{IsFoundAt, IsNoViolation, NoneIsAt, ShowsViolation}
 
 -- where ids rise one header at most has an id

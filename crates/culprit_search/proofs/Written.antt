@@ -2,7 +2,7 @@
 use Rattle.std.proofs.Common.{◌≡◌, ℕ, List, Option, Some, None, sym, ap, subst}
 use Rattle.std.specs.Prelude.{◌==◌, IsSomeAnd}
 use Rattle.std.specs.Bool.{MatchBool}
-use Rattle.blocks.specs.Replica.{Ballot}
+use Rattle.blocks.specs.declared.ballot.Ballot.{Ballot}
 use Rattle.blocks.specs.Rules.{IsDoubleVote}
 use Rattle.certificates.specs.Votes.{IsGoodVote}
 use Rattle.certificates.specs.declared.vote.SignedVote.{SignedVote}
@@ -10,8 +10,8 @@ use Rattle.evidence.specs.Evidence.{Evidence, IsEvidence}
 use Rattle.verdict_format.specs.declared.parts.BoundVote.{BoundVote}
 use Rattle.verdict_format.specs.declared.parts.VerdictParts.{VerdictParts}
 use Rattle.verdict_format.specs.Proofs.{IsLockViolationBy, IsProof}
-use Rattle.verdict_format.specs.VerdictText.{IsVerdictOf, kind_of, parts_in}
-use Rattle.verdict_format.specs.Verdicts.{VotedHeaders, kind_in, replica_in}
+use Rattle.verdict_format.specs.VerdictText.{IsVerdictOf, verdict_kind, parts_in}
+use Rattle.verdict_format.specs.Verdicts.{VotedHeaders, verdict_kind_in, replica_in}
 use Rattle.verdict_format.proofs.VerdictLaws.{kind_again, verdict_again}
 use Rattle.accountability.specs.Culprits.{IsNamedPair, Shows}
 use Rattle.culprit_search.specs.Verdicts.{Accuses, parts_of}
@@ -26,7 +26,7 @@ BreaksOf kind p =
     (IsDoubleVote (vote_in p.earlier) (vote_in p.later))
     (IsSomeAnd p.headers (IsLockViolationBy (vote_in p.earlier) (vote_in p.later)))
 
-breaks_it : (e : Evidence) (r : ℕ) (v w : SignedVote) (h : Option VotedHeaders) → Shows e v w h → BreaksOf (kind_of h) (parts_of e r v w h)
+breaks_it : (e : Evidence) (r : ℕ) (v w : SignedVote) (h : Option VotedHeaders) → Shows e v w h → BreaksOf (verdict_kind h) (parts_of e r v w h)
 breaks_it e r v w None shown = shown
 breaks_it e r v w (Some h) shown = shown.1
 
@@ -56,8 +56,8 @@ proof_of e r v w h bytes is named shown spells =
       subst (λ (q : ℕ). IsGoodVote e.committee (record { replica = q; view = w.view; id = w.id; signature = w.signature })) two.later_by (is.good w two.later),
     ) in
     let good_again : IsGoodOf e.committee (parts_in bytes) = subst (λ (x : VerdictParts). IsGoodOf e.committee x) back good in
-    let broken : BreaksOf (kind_of h) (parts_in bytes) = subst (λ (x : VerdictParts). BreaksOf (kind_of h) x) back (breaks_it e r v w h shown) in
-    let broken_again : BreaksOf (kind_in bytes) (parts_in bytes) = subst (λ (k : ℕ). BreaksOf k (parts_in bytes)) (sym (kind_again bytes p spells)) broken in
+    let broken : BreaksOf (verdict_kind h) (parts_in bytes) = subst (λ (x : VerdictParts). BreaksOf (verdict_kind h) x) back (breaks_it e r v w h shown) in
+    let broken_again : BreaksOf (verdict_kind_in bytes) (parts_in bytes) = subst (λ (k : ℕ). BreaksOf k (parts_in bytes)) (sym (kind_again bytes p spells)) broken in
     record {
       verdict = record { magic = form.0; kind = form.1.0; long = form.1.1.0 };
       chain = ap (λ (x : VerdictParts). x.chain) again.1;

@@ -3,7 +3,8 @@
 ghost use Rattle.std.specs.Prelude.{◌≡◌, ◌↔◌, IsTrue, MatchOption};
 ghost use Rattle.blocks.specs.Rules.{IsDoubleVote};
 ghost use Rattle.evidence.specs.Evidence.{IsEvidence};
-ghost use Rattle.accountability.specs.Culprits.{BreakARule, Shows, ballot_of};
+ghost use Rattle.certificates.specs.Votes.{ballot_of};
+ghost use Rattle.accountability.specs.Culprits.{BreakARule, Shows};
 ghost use Rattle.culprit_search.specs.Searches.{IsBlockOf, IsFoundAt, IsNoViolation, NoneIsAt, ShowsViolation};
 
 use blocks::{Header, Id, NamedHeader};

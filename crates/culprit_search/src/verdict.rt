@@ -5,7 +5,7 @@ ghost use Rattle.accountability.specs.Culprits.{IsNamedPair, Shows};
 ghost use Rattle.culprit_search.specs.Verdicts.{Accuses, bound_of};
 ghost use Rattle.verdict_format.specs.Proofs.{IsProof};
 ghost use Rattle.verdict_format.specs.RuleNumbers.{rule_number};
-ghost use Rattle.verdict_format.specs.Verdicts.{earlier_in, kind_in, later_in, replica_in};
+ghost use Rattle.verdict_format.specs.Verdicts.{earlier_in, verdict_kind_in, later_in, replica_in};
 
 use crate::pairs::Offence;
 use certificates::SignedVote;
@@ -58,7 +58,7 @@ impl Verdict {
 
     /// The rule that the replica broke.
     pub fn rule(&self) -> Rule
-        ensures { rule_number result ≡ kind_in self.now }
+        ensures { rule_number result ≡ verdict_kind_in self.now }
     {
         self.view().rule()
     }

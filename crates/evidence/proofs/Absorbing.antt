@@ -1,12 +1,12 @@
 -- Lists that are added to what was gathered.
-use Rattle.std.proofs.Common.{◌≡◌, ◌↔◌, ◌⊎◌, ◌∙◌, ◌<◌, ◌+◌, ℕ, List, [], ◌∷◌, ◌++◌, length, take, drop, get_or, inl, inr, refl, sym, ap, subst, arith}
+use Rattle.std.proofs.Common.{◌≡◌, ◌↔◌, ◌∙◌, ◌<◌, ◌+◌, ℕ, List, [], ◌∷◌, ◌++◌, length, take, drop, get_or, inl, inr, refl, sym, ap, subst, arith}
 use Rattle.std.specs.List.{Contains}
 use Rattle.std.proofs.lemmas.List.{take_more, get_or_default, take-append-drop}
 use Rattle.std.proofs.lemmas.List.Elements.{Contains-append_right, Contains-append_left, Contains-append_cases}
 use Rattle.blocks.specs.Headers.{Header}
 use Rattle.certificates.specs.declared.vote.SignedVote.{SignedVote}
 use Rattle.evidence.specs.Sets.{IsEither}
-use Rattle.evidence.specs.Gathering.{Gathered, Grows, Gains, IsNone, IsGatherFault}
+use Rattle.evidence.specs.Gathering.{Gathered, Grows, Gains, IsNone, IsGatheringRefusal}
 use Rattle.evidence.specs.declared.refusal.EvidenceRefusal.{EvidenceRefusal}
 use Rattle.evidence.proofs.Gatherings.{only, gathered_from, fault_later, gained_none, grown_as, grown_both, grown_none, none_of}
 
@@ -39,7 +39,7 @@ pub votes_more : (a b c : Gathered) (vs : List SignedVote) (i : ℕ) (x : Signed
 votes_more a b c vs i x l is g step =
     grown_as a c _ _ _ _ (λ h. none_of h) (λ v. contains_take vs i x v l is) (grown_both a b c IsNone IsNone (Contains (take i vs)) (λ v. v ≡ x) g step)
 
-pub headers_fault : (a b : Gathered) (hs : List Header) (i : ℕ) (x : Header) (r : EvidenceRefusal) → i < length hs → x ≡ get_or hs i x → Grows a b (Contains (take i hs)) IsNone → IsGatherFault b (λ h. h ≡ x) r → IsGatherFault a (Contains hs) r
+pub headers_fault : (a b : Gathered) (hs : List Header) (i : ℕ) (x : Header) (r : EvidenceRefusal) → i < length hs → x ≡ get_or hs i x → Grows a b (Contains (take i hs)) IsNone → IsGatheringRefusal b (λ h. h ≡ x) r → IsGatheringRefusal a (Contains hs) r
 headers_fault a b hs i x r l is g fault =
     fault_later a b (Contains (take i hs)) (λ h. h ≡ x) (Contains hs) IsNone r g
     (λ h c. subst (λ (ks : List Header). Contains ks h) (take-append-drop i hs) (Contains-append_left (take i hs) (drop i hs) h c))

@@ -1,5 +1,5 @@
 -- How what is gathered grows, step by step.
-use Rattle.std.proofs.Common.{◌≡◌, ◌↔◌, ◌⊎◌, ◌∙◌, ◌<◌, ◌+◌, ℕ, zero, suc, List, [], ◌∷◌, ◌++◌, length, take, drop, get_or, Some, Result, Ok, Err, false, inl, inr, refl, sym, ap, subst, arith}
+use Rattle.std.proofs.Common.{◌≡◌, ◌↔◌, ◌⊎◌, ◌∙◌, ◌<◌, ◌+◌, ℕ, zero, suc, List, [], ◌∷◌, ◌++◌, length, take, drop, get_or, Some, Result, Ok, Err, inl, inr, refl, sym, ap, subst, arith}
 use Rattle.std.specs.Prelude.{IfErr, IsErrAnd, OnOk}
 use Rattle.std.specs.List.{All, AllPairs, AllZip, Contains}
 use Rattle.std.proofs.lemmas.List.{take_more, get_or_default, take-append-drop}
@@ -10,15 +10,15 @@ use Rattle.certificates.specs.Certificates.{Certificate, vote_of}
 use Rattle.certificates.specs.declared.certificate.Endorsement.{Endorsement}
 use Rattle.certificates.specs.declared.vote.SignedVote.{SignedVote}
 use Rattle.evidence.specs.Sets.{InSome, IsEither}
-use Rattle.log_format.specs.EntryText.{Entry, IsEntryOf, vote_of as own_vote_of}
+use Rattle.log_format.specs.EntryText.{Entry, IsEntryOf, own_vote_of}
 use Rattle.evidence.specs.declared.refusal.EvidenceRefusal.{EvidenceRefusal}
 use Rattle.evidence.specs.declared.refusal.EvidenceRefusal.TheVariants.{Memory, Collision}
-use Rattle.evidence.specs.Evidence.{IsFault, IsEvidence, IsNotBelowParent, IsHeaderInEvidence, IsReportOf, IsVoteInEvidence}
-use Rattle.evidence.specs.Gathering.{Gathered, Grows, Gains, IsNone, IsGatherFault, IsGoodVoteOf, CertificateHasGood, HasGoodOwn}
+use Rattle.evidence.specs.Evidence.{IsEvidenceRefusal, IsEvidence, IsNotBelowParent, IsHeaderInEvidence, IsReportOf, IsVoteInEvidence}
+use Rattle.evidence.specs.Gathering.{Gathered, Grows, Gains, IsNone, IsGatheringRefusal, IsGoodVoteOf, CertificateHasGood, HasGoodOwn}
 use Rattle.evidence.specs.Votes.{IsLowerVote}
 use Rattle.evidence.specs.declared.source.SourceReport.{SourceReport}
 use Rattle.certificates.specs.Votes.{IsGoodVote}
-use Rattle.evidence.specs.Logs.{Log, HasGoodVote, HasHeader, SpellsEntry, FrameHasHeader, FrameHasVote, HaveEntries, LogHasHeader, LogHasVote}
+use Rattle.evidence.specs.Logs.{ReceivedLog, HasGoodVote, HasHeader, SpellsEntry, FrameHasHeader, FrameHasVote, HaveEntries, LogHasHeader, LogHasVote}
 
 pub on_ok : {A E : Type 0} (r : Result A E) (P Q : Type 0) → (P → Q) → OnOk r P → OnOk r Q
 on_ok (Ok a) P Q f p = f p
@@ -111,7 +111,7 @@ grown_as a b H I V W hs vs g = record { committee = g.committee; headers = gaine
 
 -- ---- faults
 
-pub fault_as : (P Q : Header → Type 0) (r : EvidenceRefusal) → ((h : Header) → P h → Q h) → IsFault P r → IsFault Q r
+pub fault_as : (P Q : Header → Type 0) (r : EvidenceRefusal) → ((h : Header) → P h → Q h) → IsEvidenceRefusal P r → IsEvidenceRefusal Q r
 fault_as P Q Memory f x = tt
 fault_as P Q (Collision h k) f x = (f h x.0, f k x.1, x.2, x.3)
 
@@ -121,7 +121,7 @@ if_err (Err e) P Q f x = f e x
 
 -- a fault of a later step is one of all steps
 pub fault_later : (a b : Gathered) (H I J : Header → Type 0) (V : SignedVote → Type 0) (r : EvidenceRefusal) → Grows a b H V
-    → ((h : Header) → H h → J h) → ((h : Header) → I h → J h) → IsGatherFault b I r → IsGatherFault a J r
+    → ((h : Header) → H h → J h) → ((h : Header) → I h → J h) → IsGatheringRefusal b I r → IsGatheringRefusal a J r
 fault_later a b H I J V r g f k x =
     fault_as _ _ r (λ h w. elim w [ inl c ↦ elim ((g.headers h).0 c) [ inl o ↦ inl o | inr n ↦ inr (f h n) ] | inr i ↦ inr (k h i) ]) x
 
@@ -236,7 +236,7 @@ next_is_none fs k n l have none = subst (λ (xs : List (List ℕ)). HaveEntries 
 
 -- a fault at the next item is one of the whole list
 pub fault_at : {A : Type 0} (a b : Gathered) (Has : A → Header → Type 0) (V : SignedVote → Type 0) (xs : List A) (i : ℕ) (x d : A) (r : EvidenceRefusal) → i < length xs → get_or xs i d ≡ x
-    → Grows a b (InSome Has (take i xs)) V → IsGatherFault b (Has x) r → IsGatherFault a (InSome Has xs) r
+    → Grows a b (InSome Has (take i xs)) V → IsGatheringRefusal b (Has x) r → IsGatheringRefusal a (InSome Has xs) r
 fault_at {A} a b Has V xs i x d r l is g fault =
     fault_later a b (InSome Has (take i xs)) (Has x) (InSome Has xs) V r g (λ h w. (w.0, among_all w.0 w.1, w.2)) (λ h w. (x, (i, l, at x), w)) fault
   where
@@ -264,7 +264,7 @@ handed_on (Ok a) P e is p = tt
 -- ---- the whole
 
 -- what was gathered under a committee from these sources
-pub record IsUnion (committee : List ℕ) (ls : List Log) (g : Gathered) : Type 0 where
+pub record IsUnion (committee : List ℕ) (ls : List ReceivedLog) (g : Gathered) : Type 0 where
   pub under : g.committee ≡ committee
   pub headers : (h : Header) → Contains g.headers h ↔ IsHeaderInEvidence committee ls h
   pub votes : (v : SignedVote) → Contains g.votes v ↔ IsVoteInEvidence committee ls v
@@ -272,7 +272,7 @@ pub record IsUnion (committee : List ℕ) (ls : List Log) (g : Gathered) : Type 
 no_votes : (vs : List SignedVote) (v : SignedVote) → vs ≡ [] → Contains vs v → ⊥
 no_votes vs v none c = let i = subst (λ (ws : List SignedVote). Contains ws v) none c in let l = i.1 in absurd (omega arith)
 
-pub is_union : (committee : List ℕ) (ls : List Log) (a b : Gathered) → a.committee ≡ committee → ((h : Header) → Contains a.headers h ↔ (h ≡ genesis_of committee)) → a.votes ≡ []
+pub is_union : (committee : List ℕ) (ls : List ReceivedLog) (a b : Gathered) → a.committee ≡ committee → ((h : Header) → Contains a.headers h ↔ (h ≡ genesis_of committee)) → a.votes ≡ []
     → Grows a b (InSome LogHasHeader ls) (InSome (LogHasVote a.committee) ls) → IsUnion committee ls b
 is_union committee ls a b under headers none g =
     let h = subst (λ (k : List ℕ). Grows a b (InSome LogHasHeader ls) (InSome (LogHasVote k) ls)) under g in
@@ -288,18 +288,18 @@ is_union committee ls a b under headers none g =
       );
     }
 
-pub union_has_genesis : (committee : List ℕ) (ls : List Log) (g : Gathered) → IsUnion committee ls g → Contains g.headers (genesis_of g.committee)
+pub union_has_genesis : (committee : List ℕ) (ls : List ReceivedLog) (g : Gathered) → IsUnion committee ls g → Contains g.headers (genesis_of g.committee)
 union_has_genesis committee ls g u = subst (λ (k : List ℕ). Contains g.headers (genesis_of k)) (sym u.under) ((u.headers (genesis_of committee)).1 (inl refl))
 
-pub union_is_good : (committee : List ℕ) (ls : List Log) (g : Gathered) → IsUnion committee ls g → (v : SignedVote) → Contains g.votes v → IsGoodVote g.committee v
+pub union_is_good : (committee : List ℕ) (ls : List ReceivedLog) (g : Gathered) → IsUnion committee ls g → (v : SignedVote) → Contains g.votes v → IsGoodVote g.committee v
 union_is_good committee ls g u v c =
     let shown = (u.votes v).0 c in
     let frame = shown.2 in
     subst (λ (k : List ℕ). IsGoodVote k v) (sym u.under) frame.2.2.0
 
 -- a fault at a source is one of the evidence
-pub fault_of_all : (committee : List ℕ) (ls : List Log) (a b : Gathered) (i : ℕ) (s d : Log) (r : EvidenceRefusal) → ((h : Header) → Contains a.headers h ↔ (h ≡ genesis_of committee)) → i < length ls → get_or ls i d ≡ s
-    → Grows a b (InSome LogHasHeader (take i ls)) (InSome (LogHasVote a.committee) (take i ls)) → IsGatherFault b (LogHasHeader s) r → IsFault (IsHeaderInEvidence committee ls) r
+pub fault_of_all : (committee : List ℕ) (ls : List ReceivedLog) (a b : Gathered) (i : ℕ) (s d : ReceivedLog) (r : EvidenceRefusal) → ((h : Header) → Contains a.headers h ↔ (h ≡ genesis_of committee)) → i < length ls → get_or ls i d ≡ s
+    → Grows a b (InSome LogHasHeader (take i ls)) (InSome (LogHasVote a.committee) (take i ls)) → IsGatheringRefusal b (LogHasHeader s) r → IsEvidenceRefusal (IsHeaderInEvidence committee ls) r
 fault_of_all committee ls a b i s d r headers l is g fault =
     fault_as _ _ r (λ h w. elim w [ inl o ↦ inl ((headers h).0 o) | inr k ↦ inr k ]) (fault_at a b LogHasHeader _ ls i s d r l is g fault)
 
@@ -325,6 +325,6 @@ pub zip_more : {A B : Type 0} (R : A → B → Type 0) (xs : List A) (ys : List 
 zip_more {A} R xs ys i d y l zip pair =
     subst (λ (zs : List A). AllZip R zs (ys ++ y ∷ [])) (sym (take_more xs i d l)) (zip_push R (take i xs) ys (get_or xs i d) y zip pair)
 
-pub one_report_more : (ls : List Log) (rs : List SourceReport) (i : ℕ) (s : Log) (r : SourceReport) → i < length ls → s ≡ get_or ls i s → AllZip IsReportOf (take i ls) rs → IsReportOf s r
+pub one_report_more : (ls : List ReceivedLog) (rs : List SourceReport) (i : ℕ) (s : ReceivedLog) (r : SourceReport) → i < length ls → s ≡ get_or ls i s → AllZip IsReportOf (take i ls) rs → IsReportOf s r
     → AllZip IsReportOf (take (i + 1) ls) (rs ++ r ∷ [])
-one_report_more ls rs i s r l is zip report = zip_more IsReportOf ls rs i s r l zip (subst (λ (x : Log). IsReportOf x r) is report)
+one_report_more ls rs i s r l is zip report = zip_more IsReportOf ls rs i s r l zip (subst (λ (x : ReceivedLog). IsReportOf x r) is report)

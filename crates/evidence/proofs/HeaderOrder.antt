@@ -15,7 +15,7 @@ use Rattle.std.proofs.lemmas.Map.Views.{btree_map_get_iff, tells_apart}
 use Rattle.blocks.specs.Headers.{Header, HasLowerId, header_id}
 use Rattle.blocks.proofs.Members.{Has, Has-from_Contains, Contains-from_Has}
 use Rattle.blocks.specs.Chains.{HasNone}
-use Rattle.evidence.specs.Keyed.{AreById, HasOwnId, IsKeptInOrder}
+use Rattle.evidence.specs.Keyed.{AreById, IsUnderItsId, IsKeptInOrder}
 use Rattle.evidence.specs.Evidence.{IsNotBelowParent}
 use Rattle.evidence.specs.Gathering.{Gains}
 use Rattle.evidence.proofs.Lists.{all_of, no_pairs}
@@ -25,9 +25,9 @@ id_cmp = slice_cmp nat_cmp
 
 -- ---- entries and values
 
-own_of : (es : List (List ℕ × Header)) (k : List ℕ) (h : Header) → AllByRecursion HasOwnId es → Has es (k, h) → k ≡ header_id h
+own_of : (es : List (List ℕ × Header)) (k : List ℕ) (h : Header) → AllByRecursion IsUnderItsId es → Has es (k, h) → k ≡ header_id h
 own_of [] k h a m = absurd m
-own_of (e ∷ es) k h a (inl is) = subst HasOwnId is a.0
+own_of (e ∷ es) k h a (inl is) = subst IsUnderItsId is a.0
 own_of (e ∷ es) k h a (inr m) = own_of es k h a.1 m
 
 in_values : (es : List (List ℕ × Header)) (h : Header) → Has (values_of es) h → (k : List ℕ) × Has es (k, h)
@@ -94,12 +94,12 @@ gained_header old new v a b none updates h =
       ])),
     )
 
-own_insert : (es : List (List ℕ × Header)) (k : List ℕ) (v : Header) → k ≡ header_id v → AllByRecursion HasOwnId es → AllByRecursion HasOwnId (insert_entry id_cmp es k v)
+own_insert : (es : List (List ℕ × Header)) (k : List ℕ) (v : Header) → k ≡ header_id v → AllByRecursion IsUnderItsId es → AllByRecursion IsUnderItsId (insert_entry id_cmp es k v)
 own_insert [] k v is a = (is, tt)
 own_insert (e ∷ es) k v is a = by_order (own_insert es k v is a.1) (id_cmp k e.0) refl
   where
-    by_order : AllByRecursion HasOwnId (insert_entry id_cmp es k v) → (o : Ordering) → id_cmp k e.0 ≡ o
-        → AllByRecursion HasOwnId (match_ordering o ((k, v) ∷ e ∷ es) ((e.0, v) ∷ es) (e ∷ insert_entry id_cmp es k v))
+    by_order : AllByRecursion IsUnderItsId (insert_entry id_cmp es k v) → (o : Ordering) → id_cmp k e.0 ≡ o
+        → AllByRecursion IsUnderItsId (match_ordering o ((k, v) ∷ e ∷ es) ((e.0, v) ∷ es) (e ∷ insert_entry id_cmp es k v))
     by_order later Less q = (is, a)
     by_order later Equal q = (sym (exact_bytes k e.0 q) ∙ is, a.1)
     by_order later Greater q = (a.0, later)
@@ -117,7 +117,7 @@ order_insert (e ∷ es) k v is a = by_order (order_insert es k v is a.1) (id_cmp
 pub still_by_id : (old : List (List ℕ × Header)) (new : BTreeMap (List ℕ) Header) (k : List ℕ) (v : Header) → AreById old → k ≡ header_id v → IsNotBelowParent v
     → new.entries ≡ insert_entry id_cmp old k v → IsStrictlySortedBy id_cmp (keys_of new.entries) → AreById new.entries
 still_by_id old new k v are is above entries rising = record {
-  own = subst (AllByRecursion HasOwnId) (sym entries) (own_insert old k v is are.own);
+  own = subst (AllByRecursion IsUnderItsId) (sym entries) (own_insert old k v is are.own);
   in_order = subst (AllByRecursion IsKeptInOrder) (sym entries) (order_insert old k v above are.in_order);
   rising = rising;
 }
@@ -125,12 +125,12 @@ still_by_id old new k v are is above entries rising = record {
 -- ---- in order
 
 lower : (k : List ℕ) (h : Header) (es : List (List ℕ × Header)) → k ≡ header_id h → AllByRecursion (λ (y : List ℕ). id_cmp k y ≡ Less) (keys_of es)
-    → AllByRecursion HasOwnId es → AllByRecursion (HasLowerId h) (values_of es)
+    → AllByRecursion IsUnderItsId es → AllByRecursion (HasLowerId h) (values_of es)
 lower k h [] is below own = tt
 lower k h (e ∷ es) is below own =
     (subst (λ (x : List ℕ). id_cmp x (header_id e.1) ≡ Less) is (subst (λ (y : List ℕ). id_cmp k y ≡ Less) own.0 below.0), lower k h es is below.1 own.1)
 
-rise : (es : List (List ℕ × Header)) → AllByRecursion HasOwnId es → IsStrictlySortedBy id_cmp (keys_of es) → AllPairs HasLowerId (values_of es)
+rise : (es : List (List ℕ × Header)) → AllByRecursion IsUnderItsId es → IsStrictlySortedBy id_cmp (keys_of es) → AllPairs HasLowerId (values_of es)
 unfolding IsStrictlySortedBy
 rise [] own sorted = no_pairs HasLowerId
 rise (e ∷ es) own sorted = AllPairs-cons HasLowerId e.1 (values_of es) (all_of (HasLowerId e.1) (values_of es) (lower e.0 e.1 es own.0 sorted.0 own.1)) (rise es own.1 sorted.1)

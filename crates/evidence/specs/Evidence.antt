@@ -9,21 +9,21 @@ use Rattle.evidence.specs.declared.refusal.EvidenceRefusal.{EvidenceRefusal}
 use Rattle.evidence.specs.declared.refusal.EvidenceRefusal.TheVariants.{Memory, Collision}
 use Rattle.evidence.specs.declared.source.SourceReport.{SourceReport}
 use Rattle.evidence.specs.Sets.{InSome}
-use Rattle.evidence.specs.Logs.{Log, HaveEntries, LogHasHeader, LogHasVote}
+use Rattle.evidence.specs.Logs.{ReceivedLog, HaveEntries, LogHasHeader, LogHasVote}
 use Rattle.evidence.specs.Votes.{IsLowerVote}
 
 -- ---- what is in evidence
 
 -- genesis, and the headers of all entries
-abbrev pub IsHeaderInEvidence : List ℕ → List Log → Header → Type 0
+abbrev pub IsHeaderInEvidence : List ℕ → List ReceivedLog → Header → Type 0
 IsHeaderInEvidence committee logs h = (h ≡ genesis_of committee) ⊎ InSome LogHasHeader logs h
 
 -- the good votes of all entries
-abbrev pub IsVoteInEvidence : List ℕ → List Log → SignedVote → Type 0
+abbrev pub IsVoteInEvidence : List ℕ → List ReceivedLog → SignedVote → Type 0
 IsVoteInEvidence committee logs v = InSome (LogHasVote committee) logs v
 
 -- of a log: its replica, how it ends, how many frames came, and how many of them spell entries
-pub record IsReportOf (l : Log) (r : SourceReport) : Type 0 where
+pub record IsReportOf (l : ReceivedLog) (r : SourceReport) : Type 0 where
   pub replica : r.replica ≡ l.replica
   pub status : r.status ≡ l.status
   pub count : r.frames ≡ length l.frames
@@ -52,7 +52,7 @@ pub record IsEvidence (e : Evidence) : Type 0 where
   pub good : (v : SignedVote) → Contains e.votes v → IsGoodVote e.committee v
 
 -- it is the union of what the logs show
-pub record IsEvidenceOf (committee : List ℕ) (logs : List Log) (e : Evidence) : Type 0 where
+pub record IsEvidenceOf (committee : List ℕ) (logs : List ReceivedLog) (e : Evidence) : Type 0 where
   pub under : e.committee ≡ committee
   pub headers : (h : Header) → Contains e.headers h ↔ IsHeaderInEvidence committee logs h
   pub votes : (v : SignedVote) → Contains e.votes v ↔ IsVoteInEvidence committee logs v
@@ -61,9 +61,9 @@ pub record IsEvidenceOf (committee : List ℕ) (logs : List Log) (e : Evidence) 
 -- ---- why there is none
 
 -- two different headers of this kind have one id
-abbrev pub IsFault : (Header → Type 0) → EvidenceRefusal → Type 0
-IsFault Is Memory = ⊤
-IsFault Is (Collision h k) = Is h × Is k × (h ≢ k) × (header_id h ≡ header_id k)
+abbrev pub IsEvidenceRefusal : (Header → Type 0) → EvidenceRefusal → Type 0
+IsEvidenceRefusal Is Memory = ⊤
+IsEvidenceRefusal Is (Collision h k) = Is h × Is k × (h ≢ k) × (header_id h ≡ header_id k)
 
 abbrev pub evidence_refusal_number : EvidenceRefusal → ℕ
 evidence_refusal_number Memory = 1

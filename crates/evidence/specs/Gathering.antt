@@ -6,11 +6,11 @@ use Rattle.certificates.specs.Certificates.{Certificate}
 use Rattle.certificates.specs.Votes.{IsGoodVote}
 use Rattle.certificates.specs.declared.certificate.Endorsement.{Endorsement}
 use Rattle.certificates.specs.declared.vote.SignedVote.{SignedVote}
-use Rattle.log_format.specs.EntryText.{Entry, vote_of as own_vote_of}
+use Rattle.log_format.specs.EntryText.{Entry, own_vote_of}
 use Rattle.evidence.specs.declared.refusal.EvidenceRefusal.{EvidenceRefusal}
 use Rattle.evidence.specs.Sets.{InSome, IsEither}
 use Rattle.evidence.specs.Logs.{IsVoteOf}
-use Rattle.evidence.specs.Evidence.{IsFault}
+use Rattle.evidence.specs.Evidence.{IsEvidenceRefusal}
 
 pub record Gathered : Type 0 where
   pub committee : List ℕ
@@ -32,8 +32,8 @@ pub record Grows (old new : Gathered) (IsHeader : Header → Type 0) (IsVote : S
   pub votes : Gains old.votes new.votes IsVote
 
 -- two different headers that were gathered before, or are of this kind, have one id
-abbrev pub IsGatherFault : Gathered → (Header → Type 0) → EvidenceRefusal → Type 0
-IsGatherFault g Is refusal = IsFault (IsEither (Contains g.headers) Is) refusal
+abbrev pub IsGatheringRefusal : Gathered → (Header → Type 0) → EvidenceRefusal → Type 0
+IsGatheringRefusal g Is refusal = IsEvidenceRefusal (IsEither (Contains g.headers) Is) refusal
 
 -- ---- the good votes of an entry, in two steps
 

@@ -8,14 +8,14 @@ use Rattle.std.specs.Map.{keys_of}
 use Rattle.blocks.specs.Headers.{Header, header_id}
 use Rattle.evidence.specs.Evidence.{IsNotBelowParent}
 
-abbrev pub HasOwnId : List ℕ × Header → Type 0
-HasOwnId e = e.0 ≡ header_id e.1
+abbrev pub IsUnderItsId : List ℕ × Header → Type 0
+IsUnderItsId e = e.0 ≡ header_id e.1
 
 abbrev pub IsKeptInOrder : List ℕ × Header → Type 0
 IsKeptInOrder e = IsNotBelowParent e.1
 
 -- headers beside their ids, which rise
 pub record AreById (entries : List (List ℕ × Header)) : Type 0 where
-  pub own : AllByRecursion HasOwnId entries
+  pub own : AllByRecursion IsUnderItsId entries
   pub in_order : AllByRecursion IsKeptInOrder entries
   pub rising : IsStrictlySortedBy (slice_cmp nat_cmp) (keys_of entries)

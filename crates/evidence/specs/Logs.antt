@@ -5,12 +5,12 @@ use Rattle.certificates.specs.Certificates.{Certificate, vote_of}
 use Rattle.certificates.specs.Votes.{IsGoodVote}
 use Rattle.certificates.specs.declared.certificate.Endorsement.{Endorsement}
 use Rattle.certificates.specs.declared.vote.SignedVote.{SignedVote}
-use Rattle.log_format.specs.EntryText.{Entry, IsEntryOf, vote_of as own_vote_of}
+use Rattle.log_format.specs.EntryText.{Entry, IsEntryOf, own_vote_of}
 use Rattle.log_format.specs.declared.status.Status.{Status}
 use Rattle.evidence.specs.Sets.{InSome}
 
 -- what came of a source: the number of a replica, the whole frames of its log, and how they end
-pub record Log : Type 0 where
+pub record ReceivedLog : Type 0 where
   pub replica : ℕ
   pub frames : List (List ℕ)
   pub status : Status
@@ -56,8 +56,8 @@ HaveEntries (f ∷ fs) n =
 -- ---- a log
 
 -- what one of its frames has
-abbrev pub LogHasHeader : Log → Header → Type 0
+abbrev pub LogHasHeader : ReceivedLog → Header → Type 0
 LogHasHeader l h = InSome FrameHasHeader l.frames h
 
-abbrev pub LogHasVote : List ℕ → Log → SignedVote → Type 0
+abbrev pub LogHasVote : List ℕ → ReceivedLog → SignedVote → Type 0
 LogHasVote committee l v = InSome (FrameHasVote committee l.replica) l.frames v

@@ -2,10 +2,11 @@
 
 ghost use Rattle.std.specs.Prelude.{◌≡◌, ◌≢◌, ◌++◌, [], ◌∷◌, IfErr, IfOk, OnOk, MatchOption};
 ghost use Rattle.std.specs.List.{All, AllPairs, Contains};
+ghost use Rattle.blocks.specs.Committees.{IsCommittee};
 ghost use Rattle.blocks.specs.Genesis.{genesis_of};
 ghost use Rattle.blocks.specs.Headers.{HasLowerId, header_id};
 ghost use Rattle.certificates.specs.declared.vote.SignedVote.{SignedVote as SignedVoteValue};
-ghost use Rattle.evidence.specs.Evidence.{IsEvidence, IsEvidenceOf, IsFault, IsHeaderInEvidence};
+ghost use Rattle.evidence.specs.Evidence.{IsEvidence, IsEvidenceOf, IsEvidenceRefusal, IsHeaderInEvidence};
 ghost use Rattle.certificates.specs.Votes.{IsGoodVote};
 
 use crate::gathering::Gathered;
@@ -61,6 +62,7 @@ impl<'a> Evidence<'a> {
     /// The committee under which the votes are good.
     pub fn committee(&self) -> CommitteeView<'a>
         ensures value { result ≡ self.now.committee }
+        ensures is_committee { IsCommittee self.now.committee }
         ensures is_evidence { IsEvidence self.now }
     {
         self.committee.again()
@@ -117,7 +119,7 @@ pub fn evidence_of_logs<'a>(
     logs: &[SourceLog],
 ) -> Result<Evidence<'a>, EvidenceRefusal>
     ensures ok { IfOk result (IsEvidenceOf committee.now logs.now) }
-    ensures refused { IfErr result (IsFault (IsHeaderInEvidence committee.now logs.now)) }
+    ensures refused { IfErr result (IsEvidenceRefusal (IsHeaderInEvidence committee.now logs.now)) }
 {
     let mut gathered = Gathered::new(alloc, committee)?;
     let mut reports = Vec::new(alloc);

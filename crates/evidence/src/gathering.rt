@@ -1,12 +1,13 @@
 //! Gathering of headers and votes.
 
-ghost use Rattle.std.specs.Prelude.{◌≡◌, ◌↔◌, [], ◌∷◌, take, IfErr, IfOk, IsTrue, OnOk};
+ghost use Rattle.std.specs.Prelude.{◌≡◌, ◌↔◌, [], ◌∷◌, take, IfErr, IfOk, IsErrOf, IsTrue, OnOk};
 ghost use Rattle.std.specs.List.{All, AllPairs, Contains};
 ghost use Rattle.blocks.specs.Genesis.{genesis_of};
-ghost use Rattle.blocks.specs.Headers.{HasLowerId};
+ghost use Rattle.blocks.specs.Chains.{HasNone};
+ghost use Rattle.blocks.specs.Headers.{HasLowerId, header_id};
 ghost use Rattle.certificates.specs.declared.vote.SignedVote.{SignedVote as SignedVoteValue};
 ghost use Rattle.evidence.specs.Evidence.{IsNotBelowParent, IsReportOf};
-ghost use Rattle.evidence.specs.Gathering.{CertificateHasGood, Grows, HasGoodOwn, IsGatherFault, IsNone};
+ghost use Rattle.evidence.specs.Gathering.{CertificateHasGood, Grows, HasGoodOwn, IsGatheringRefusal, IsNone};
 ghost use Rattle.evidence.specs.Sets.{InSome};
 ghost use Rattle.evidence.specs.Votes.{IsLowerVote};
 ghost use Rattle.certificates.specs.Votes.{IsGoodVote};
@@ -58,7 +59,9 @@ impl<'a> Gathered<'a> {
     // Adds a header.
     fn add_header(&mut self, header: &Header) -> Result<(), EvidenceRefusal>
         ensures ok { OnOk result (Grows self.old self.new (λ h. h ≡ header.now) IsNone) }
-        ensures err { IfErr result (IsGatherFault self.old (λ h. h ≡ header.now)) }
+        ensures err { IfErr result (IsGatheringRefusal self.old (λ h. h ≡ header.now)) }
+        // Nothing grows for a header that is gathered already, nor for one that collides.
+        ensures memory { IsErrOf result EvidenceRefusal.Memory → HasNone self.old.headers (header_id header.now) }
     {
         let named = NamedHeader::of(*header);
         if let Some(held) = self.headers.get(named.id()) {
@@ -104,7 +107,7 @@ impl<'a> Gathered<'a> {
     // Adds the headers of an entry.
     fn add_headers(&mut self, entry: &Entry) -> Result<(), EvidenceRefusal>
         ensures ok { OnOk result (Grows self.old self.new (HasHeader entry.now) IsNone) }
-        ensures err { IfErr result (IsGatherFault self.old (HasHeader entry.now)) }
+        ensures err { IfErr result (IsGatheringRefusal self.old (HasHeader entry.now)) }
     {
         self.add_header(entry.block())?;
         self.add_header(entry.parent())
@@ -121,7 +124,7 @@ impl<'a> Gathered<'a> {
     // Adds what an entry of a replica's log shows.
     fn add_entry(&mut self, replica: u16, entry: &Entry) -> Result<(), EvidenceRefusal>
         ensures ok { OnOk result (Grows self.old self.new (HasHeader entry.now) (HasGoodVote self.old.committee replica entry.now)) }
-        ensures err { IfErr result (IsGatherFault self.old (HasHeader entry.now)) }
+        ensures err { IfErr result (IsGatheringRefusal self.old (HasHeader entry.now)) }
     {
         self.add_headers(entry)?;
         self.add_votes(replica, entry)?;
@@ -137,7 +140,7 @@ impl<'a> Gathered<'a> {
     ) -> Result<bool, EvidenceRefusal>
         ensures ok { OnOk result (Grows self.old self.new (FrameHasHeader frame.now) (FrameHasVote self.old.committee replica frame.now)) }
         ensures entry { IfOk result (λ is. IsTrue is ↔ SpellsEntry frame.now) }
-        ensures err { IfErr result (IsGatherFault self.old (FrameHasHeader frame.now)) }
+        ensures err { IfErr result (IsGatheringRefusal self.old (FrameHasHeader frame.now)) }
     {
         entries_have_one_spelling();
         match Entry::read(alloc, frame) {
@@ -159,7 +162,7 @@ impl<'a> Gathered<'a> {
     ) -> Result<usize, EvidenceRefusal>
         ensures ok { OnOk result (Grows self.old self.new (InSome FrameHasHeader frames.now.frames) (InSome (FrameHasVote self.old.committee replica) frames.now.frames)) }
         ensures entries { IfOk result (HaveEntries frames.now.frames) }
-        ensures err { IfErr result (IsGatherFault self.old (InSome FrameHasHeader frames.now.frames)) }
+        ensures err { IfErr result (IsGatheringRefusal self.old (InSome FrameHasHeader frames.now.frames)) }
     {
         let mut entries = 0;
         for k in 0..frames.len() {
@@ -178,7 +181,7 @@ impl<'a> Gathered<'a> {
     ) -> Result<SourceReport, EvidenceRefusal>
         ensures ok { OnOk result (Grows self.old self.new (LogHasHeader log.now) (LogHasVote self.old.committee log.now)) }
         ensures report { IfOk result (IsReportOf log.now) }
-        ensures err { IfErr result (IsGatherFault self.old (LogHasHeader log.now)) }
+        ensures err { IfErr result (IsGatheringRefusal self.old (LogHasHeader log.now)) }
     {
         let entries = self.add_frames(alloc, log.replica, &log.frames)?;
         Ok(SourceReport {
@@ -192,7 +195,7 @@ impl<'a> Gathered<'a> {
     // Adds headers.
     fn absorb_headers(&mut self, headers: &[NamedHeader]) -> Result<(), EvidenceRefusal>
         ensures ok { OnOk result (Grows self.old self.new (Contains headers.now) IsNone) }
-        ensures err { IfErr result (IsGatherFault self.old (Contains headers.now)) }
+        ensures err { IfErr result (IsGatheringRefusal self.old (Contains headers.now)) }
     {
         for header in headers {
             self.add_header(header.header())?;
@@ -221,7 +224,7 @@ impl<'a> Gathered<'a> {
     /// other was gathered under the same committee. After a refusal a part of them may have been added.
     pub fn merge(&mut self, alloc: Global, other: Gathered) -> Result<(), EvidenceRefusal>
         ensures ok { OnOk result (Grows self.old self.new (Contains other.entry.headers) (Contains other.entry.votes)) }
-        ensures err { IfErr result (IsGatherFault self.old (Contains other.entry.headers)) }
+        ensures err { IfErr result (IsGatheringRefusal self.old (Contains other.entry.headers)) }
     {
         let (_, headers, votes) = other.into_parts(alloc)?;
         self.absorb_headers(&headers)?;

@@ -15,9 +15,9 @@ pub struct SourceLog<'a> {
 }
 
 impl<'a> Model for SourceLog<'a> {
-    ghost use Rattle.evidence.specs.Logs.{Log};
+    ghost use Rattle.evidence.specs.Logs.{ReceivedLog};
 
-    ghost Value = { Log };
+    ghost Value = { ReceivedLog };
 
     ghost view = { λ l. record { replica = l.replica; frames = l.frames.frames; status = l.frames.status } };
 }

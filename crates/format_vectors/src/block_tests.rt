@@ -2,9 +2,11 @@
 
 use crate::stored::{certificate, committee, with_byte, with_entries};
 use blocks::Header;
-use certificates::{BlockRefusal, LmsVerifier, check_block};
+use certificates::{BlockRefusal, LmsVerifier, Verifier, check_block};
 use fixtures::certificates as texts;
+use lms_tree::PublicKey;
 use std::alloc::Global;
+use std::cell::Cell;
 use std::process::Abort;
 use std::test::Fail;
 
@@ -59,5 +61,32 @@ fn votes_that_are_not_good(rt: HostRuntime) -> Result<(), Fail> {
 fn genesis_needs_no_votes(rt: HostRuntime) -> Result<(), Fail> {
     let refusal = refusal_of(rt.alloc(), texts::header_on_genesis(), texts::of_genesis())?;
     assert!(rt; refusal == None);
+    Ok(())
+}
+
+// Checks signatures, and counts how often it is asked.
+#[derive(Drop)]
+struct Counting {
+    asked: Cell<u32>,
+}
+
+impl Verifier for Counting {
+    fn verify(&self, key: &PublicKey, message: &[u8], signature: &[u8]) -> bool {
+        self.asked.set(self.asked.get().wrapping_add(1));
+        LmsVerifier.verify(key, message, signature)
+    }
+}
+
+#[test]
+fn each_vote_is_asked_of_the_given_verifier(rt: HostRuntime) -> Result<(), Fail> {
+    let header = Header::from_bytes(texts::header_a2()).ok();
+    let header = header.ok_or("the header is refused")?;
+    let parent = certificate(rt.alloc(), texts::of_a1())?;
+    let verifier = Counting {
+        asked: Cell::new(0),
+    };
+    let is_good = check_block(&committee()?, &verifier, header, parent).is_ok();
+    assert!(rt; is_good);
+    assert!(rt; verifier.asked.get() == 3);
     Ok(())
 }

@@ -2,7 +2,7 @@
 use Rattle.std.proofs.Common.{◌≡◌, ◌≢◌, ℕ, zero, suc, ◌+◌, ◌≤◌, ◌<◌, List, [], ◌∷◌, ◌++◌, length, take, Some, inl, inr, refl, sym, ◌∙◌, ap, arith, add-one, length-append}
 use Rattle.std.specs.Prelude.{slice_get}
 use Rattle.std.proofs.lemmas.Bool.{cases_lt}
-use Rattle.key_index_store.specs.Boundary.{reservation, reservations}
+use Rattle.key_index_store.specs.Boundary.{reservation, reservations, taken_by}
 
 pub length-reservations : (n : ℕ) → length (reservations n) ≡ n
 length-reservations zero = refl
@@ -48,5 +48,5 @@ other_entry xs x k n is other lt same =
     other (cc both)
 
 -- nor are there too many
-pub too_many : (xs : List (List ℕ)) (n : ℕ) → 64 < length xs → n ≤ 64 → xs ≢ reservations n
-too_many xs n many few same = omega (arith, many, few, ap length same, length-reservations n)
+pub too_many : (limit : ℕ) (xs : List (List ℕ)) (n : ℕ) → limit < taken_by (length xs) → taken_by n ≤ limit → xs ≢ reservations n
+too_many limit xs n many few same = omega (arith, many, few, ap length same, length-reservations n)

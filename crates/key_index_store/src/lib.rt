@@ -6,4 +6,4 @@ mod error;
 mod store;
 
 pub use error::IndexError;
-pub use store::IndexStore;
+pub use store::{INDICES, INDICES_PER_RESERVATION, IndexStore, indices_are_those_of_the_format};

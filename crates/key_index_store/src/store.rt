@@ -1,21 +1,30 @@
 //! The indices of a key.
-ghost use Rattle.std.specs.Prelude.{◌≡◌, ◌≢◌, ◌<◌, ◌≤◌, ◌+◌, ◌-◌, ◌*◌, ◌%◌, [], ℕ, List, IsTrue, true, false, if◌then◌else◌, IfSome, IsSome, ◌↔◌, option_map, length, IfOk, IfErr, OnErr, OnOk, IsErrOf};
+ghost use Rattle.std.specs.Prelude.{◌≡◌, ◌≢◌, ◌<◌, ◌≤◌, ◌+◌, ◌-◌, ◌*◌, ◌%◌, ◌^◌, [], ℕ, List, IsTrue, true, false, if◌then◌else◌, IfSome, IsSome, ◌↔◌, option_map, length, IfOk, IfErr, OnErr, OnOk, IsErrOf};
 ghost use Rattle.faults.specs.Counting.{HasFailed};
-ghost use Rattle.stable_log.specs.Crash.{LeavesOnly, Unwritten, Torn, Follows};
+ghost use Rattle.stable_log.specs.Crash.{Torn, Follows};
+ghost use Rattle.stable_log.specs.Devices.{AtAnyMoment, Untouched};
 ghost use Rattle.stable_log.specs.Image.{empty_journal};
-ghost use Rattle.key_index_store.specs.Boundary.{reservation, reservations, IsBoundary, IsBoundedBy, LeavesBoundary};
-ghost use Rattle.key_index_store.specs.Refusals.{IsCreateRefusal, IsRecoverRefusal, MayGive, IsNextRefusal, IsReserveFault, IsReadFault};
+ghost use Rattle.key_index_store.specs.Boundary.{reservation, reservations, IsBoundary, IsBoundedBy, LeavesBoundary, taken_by};
+ghost use Rattle.wire.specs.declared.limits.TheConstants.{MOST_ENTRIES};
+ghost use Rattle.key_index_store.specs.declared.store.TheConstants.{INDICES, INDICES_PER_RESERVATION};
+ghost use Rattle.key_index_store.specs.Refusals.{IsIndexCreateRefusal, IsIndexRecoverRefusal, MayGive, IsNextRefusal, IsReserveRefusal, IsReservationsRefusal};
 
 use crate::IndexError;
 use stable_log::{Disk, Journal};
 use std::alloc::Global;
 use std::marker::Model;
 
-const INDICES: u32 = 1024;
+/// How many indices a key has.
+pub const INDICES: u32 = 1024;
 
-const INDICES_PER_RESERVATION: u32 = 16;
+/// How many indices are taken at a time.
+pub const INDICES_PER_RESERVATION: u32 = 16;
 
-const RESERVATIONS: u32 = INDICES / INDICES_PER_RESERVATION;
+/// Both are as docs/FORMATS.md says, "Index journal": the contract is the law, and nothing is computed.
+pub fn indices_are_those_of_the_format()
+    ensures indices { INDICES ≡ 1024 }
+    ensures reservation { INDICES_PER_RESERVATION ≡ 16 }
+{}
 
 /// The indices 0 to 1023 of a key, on a disk. An index is given once: before it is, a reservation of 16 indices that
 /// covers it is durable, and recovery skips what was reserved.
@@ -23,10 +32,12 @@ const RESERVATIONS: u32 = INDICES / INDICES_PER_RESERVATION;
 /// The disk holds a journal whose entry k, from 0 to 63, is the big-endian u32 16(k+1): all indices below it are
 /// taken.
 ///
-/// Contracts see the disk, the mark below which lies every index given or skipped, and whether the store is stopped.
+/// Contracts see the disk, how many indices the key has, the mark below which lies every index given or skipped, and whether the store is stopped.
 #[derive(Drop)]
 pub struct IndexStore<D: Disk> {
     journal: Journal<D>,
+    // how many indices the key has, a multiple of those of a reservation
+    limit: u32,
     // the least index that was not given
     next: u32,
     // how many reservations are stored
@@ -39,30 +50,31 @@ impl<D: Disk> Model for IndexStore<D> {
 
     ghost Value = { IndexState D };
 
-    ghost view = { λ s. record { disk = s.journal.disk; mark = s.next; stopped = s.journal.stopped } };
+    ghost view = { λ s. record { disk = s.journal.disk; limit = s.limit; mark = s.next; stopped = s.journal.stopped } };
 
-    ghost invariant = { λ s. IsStore (D.bytes s.journal.disk) (D.images s.journal.disk) s.journal.payloads s.next s.count };
+    ghost invariant = { λ s. IsStore (D.bytes s.journal.disk) (D.images s.journal.disk) s.journal.payloads s.limit s.next s.count };
 }
 
 // What entry k of the journal holds.
 fn reservation_text(k: u32) -> [u8; 4]
-    requires { k < 64 }
+    requires { k < MOST_ENTRIES }
     ensures { result ≡ reservation k }
 {
     (INDICES_PER_RESERVATION * (k + 1)).to_be_bytes()
 }
 
 fn is_reservation(entry: &[u8], k: u32) -> bool
-    requires { k < 64 }
+    requires { k < MOST_ENTRIES }
     ensures { IsTrue result ↔ (entry.now ≡ reservation k) }
 {
     entry == reservation_text(k).as_slice()
 }
 
-// Stores that 16 indices more are taken.
-fn reserve<D: Disk>(journal: &mut Journal<D>, count: u32) -> Result<(), IndexError>
+// Stores that the indices of one reservation more are taken, which the key must have.
+fn reserve<D: Disk>(journal: &mut Journal<D>, count: u32, limit: u32) -> Result<(), IndexError>
     requires running { journal.old.stopped ≡ false }
-    requires limit { count < 64 }
+    requires room { taken_by (count + 1) ≤ limit }
+    requires most { limit ≤ INDICES }
     requires counted { length journal.old.payloads ≡ count }
     requires listed { IfSome (D.bytes journal.old.disk) (λ _.
         journal.old.payloads ≡ reservations count) }
@@ -71,41 +83,48 @@ fn reserve<D: Disk>(journal: &mut Journal<D>, count: u32) -> Result<(), IndexErr
     ensures counted { OnOk result (length journal.new.payloads ≡ count + 1) }
     ensures running { OnOk result (journal.new.stopped ≡ false) }
     ensures durable { OnOk result (IfSome (D.bytes journal.old.disk) (λ _.
-        LeavesBoundary (D.images journal.new.disk) (16 * (count + 1)))) }
+        LeavesBoundary (D.images journal.new.disk) limit (taken_by (count + 1)))) }
     ensures no_failure { OnOk result (D.failed journal.new.disk ≡ D.failed journal.old.disk) }
     ensures tells { IsSome (D.bytes journal.new.disk) ↔ IsSome (D.bytes journal.old.disk) }
     ensures bounded { IfSome (D.bytes journal.old.disk) (λ _.
-        LeavesBoundary (D.images journal.new.disk) (16 * count)) }
+        LeavesBoundary (D.images journal.new.disk) limit (taken_by count)) }
     ensures any_moment { IfSome (D.bytes journal.old.disk) (λ _.
-        LeavesOnly D.moment D.images_since journal.old.disk journal.new.disk (IsBoundedBy
-        (16 * count))) }
-    ensures first_refusal { IfErr result IsReserveFault }
+        AtAnyMoment D.Disk journal.old.disk journal.new.disk
+        (IsBoundedBy limit (taken_by count))) }
+    ensures first_refusal { IfErr result IsReserveRefusal }
     ensures device { IsErrOf result IndexError.Device → (journal.new.payloads ≡ journal.old.payloads)
         × (journal.new.stopped ≡ true) }
     ensures err { IfErr result (λ e. e ≢ IndexError.Device → journal.new ≡ journal.old) }
     ensures cause { IsErrOf result IndexError.Device →
         HasFailed (D.failed journal.old.disk) (D.failed journal.new.disk) }
 {
+    prove!(INDICES_PER_RESERVATION * (count + 1) <= limit);
     journal.append(&reservation_text(count))?;
     Ok(())
 }
 
-// How many reservations a journal has, where it has nothing else.
-fn read_reservations<D: Disk>(alloc: Global, journal: &mut Journal<D>) -> Result<u32, IndexError>
-    requires { journal.old.stopped ≡ false }
+// How many reservations a journal has, where it has nothing else and they are of so many indices at most.
+fn read_reservations<D: Disk>(
+    alloc: Global,
+    journal: &mut Journal<D>,
+    limit: u32,
+) -> Result<u32, IndexError>
+    requires running { journal.old.stopped ≡ false }
+    requires most { limit ≤ INDICES }
     ensures ok { IfOk result (λ n. IfSome (D.bytes journal.old.disk) (λ _.
         journal.old.payloads ≡ reservations n)) }
-    ensures counted { IfOk result (λ n. (length journal.old.payloads ≡ n) × (n ≤ 64)) }
+    ensures counted { IfOk result (λ n. (length journal.old.payloads ≡ n) × (taken_by n ≤ limit)) }
     ensures same { (journal.new.payloads ≡ journal.old.payloads) × (journal.new.stopped ≡ false)
-        × Unwritten D.bytes D.images D.moment D.images_since journal.old.disk journal.new.disk }
+        × Untouched D.Disk journal.old.disk journal.new.disk }
     ensures no_failure { OnOk result (D.failed journal.new.disk ≡ D.failed journal.old.disk) }
-    ensures first_refusal { IfErr result (IsReadFault (D.bytes journal.old.disk) journal.old.payloads) }
+    ensures first_refusal { IfErr result (IsReservationsRefusal limit (D.bytes journal.old.disk)
+        journal.old.payloads) }
     ensures cause { IsErrOf result IndexError.Device →
         HasFailed (D.failed journal.old.disk) (D.failed journal.new.disk) }
     ensures kept { IfErr result (λ e. e ≢ IndexError.Device →
         D.failed journal.new.disk ≡ D.failed journal.old.disk) }
 {
-    if journal.count() > RESERVATIONS as usize {
+    if journal.count() > (limit / INDICES_PER_RESERVATION) as usize {
         return Err(IndexError::BadEntry);
     }
     let count = journal.count() as u32;
@@ -124,16 +143,16 @@ impl<D: Disk> IndexStore<D> {
     /// not written to, and after `Device` an empty one may hold any part of the 9 bytes of an empty journal. In this
     /// order: `Device`, `BadEntry`.
     pub fn create(alloc: Global, disk: D) -> Result<IndexStore<D>, (IndexError, D)>
-        ensures ok { IfOk result (λ s. (s.mark ≡ 0) × (s.stopped ≡ false)) }
+        ensures ok { IfOk result (λ s. (s.limit ≡ INDICES) × (s.mark ≡ 0) × (s.stopped ≡ false)) }
         ensures exact { OnOk result (IfSome (D.bytes disk) (λ bytes. bytes ≡ [])) }
         ensures told { IfOk result (λ s. D.bytes s.disk ≡ option_map (λ _. empty_journal) (D.bytes disk)) }
         ensures bounded { IfOk result (λ s. IfSome (D.bytes disk) (λ _.
-            LeavesBoundary (D.images s.disk) s.mark)) }
+            LeavesBoundary (D.images s.disk) s.limit s.mark)) }
         ensures no_failure { IfOk result (λ s. D.failed s.disk ≡ D.failed disk) }
 
-        ensures first_refusal { IfErr result (λ e. IsCreateRefusal (D.bytes disk) e.0) }
+        ensures first_refusal { IfErr result (λ e. IsIndexCreateRefusal (D.bytes disk) e.0) }
         ensures err { IfErr result (λ e. IfSome (D.bytes disk) (λ bytes. bytes ≢ [] →
-            Unwritten D.bytes D.images D.moment D.images_since disk e.1)) }
+            Untouched D.Disk disk e.1)) }
         ensures tells { IfErr result (λ e. IsSome (D.bytes e.1) ↔ IsSome (D.bytes disk)) }
         ensures torn { IfErr result (λ e. Follows (Torn 0 9) (D.images disk) (D.images e.1)) }
         ensures cause { IfErr result (λ e. e.0 ≡ IndexError.Device →
@@ -143,6 +162,7 @@ impl<D: Disk> IndexStore<D> {
         match Journal::create(alloc, disk) {
             Ok(journal) => Ok(IndexStore {
                 journal,
+                limit: INDICES,
                 next: 0,
                 count: 0,
             }),
@@ -153,20 +173,21 @@ impl<D: Disk> IndexStore<D> {
     /// Reads a store that a crash or a failed call may have left, and goes on at the stored boundary, 0 where nothing
     /// is stored. It writes nothing. A refusal hands the disk back. In this order: `Memory`, `Device`, `BadEntry`.
     pub fn recover(alloc: Global, disk: D) -> Result<IndexStore<D>, (IndexError, D)>
-        ensures ok { IfOk result (λ s. IfSome (D.bytes disk) (λ bytes. IsBoundary s.mark bytes)) }
+        ensures ok { IfOk result (λ s. IfSome (D.bytes disk) (λ bytes. IsBoundary s.limit s.mark bytes)) }
+        ensures limit { IfOk result (λ s. s.limit ≡ INDICES) }
 
         // No index is given again: each mark that the image bounds is at most the new one.
         ensures not_again { IfOk result (λ s. IfSome (D.bytes disk) (λ bytes. (mark : ℕ) →
-            IsBoundedBy mark bytes → mark ≤ s.mark)) }
+            IsBoundedBy s.limit mark bytes → mark ≤ s.mark)) }
 
         ensures running { IfOk result (λ s. s.stopped ≡ false) }
         ensures bounded { IfOk result (λ s. IfSome (D.bytes disk) (λ _.
-            LeavesBoundary (D.images s.disk) s.mark)) }
-        ensures same { IfOk result (λ s. Unwritten D.bytes D.images D.moment D.images_since disk s.disk) }
+            LeavesBoundary (D.images s.disk) s.limit s.mark)) }
+        ensures same { IfOk result (λ s. Untouched D.Disk disk s.disk) }
         ensures no_failure { IfOk result (λ s. D.failed s.disk ≡ D.failed disk) }
 
-        ensures first_refusal { IfErr result (λ e. IsRecoverRefusal (D.bytes disk) e.0) }
-        ensures err { IfErr result (λ e. Unwritten D.bytes D.images D.moment D.images_since disk e.1) }
+        ensures first_refusal { IfErr result (λ e. IsIndexRecoverRefusal INDICES (D.bytes disk) e.0) }
+        ensures err { IfErr result (λ e. Untouched D.Disk disk e.1) }
         ensures cause { IfErr result (λ e. e.0 ≡ IndexError.Device →
             HasFailed (D.failed disk) (D.failed e.1)) }
         ensures kept { IfErr result (λ e. e.0 ≢ IndexError.Device → D.failed e.1 ≡ D.failed disk) }
@@ -175,9 +196,10 @@ impl<D: Disk> IndexStore<D> {
             Ok(journal) => journal,
             Err((refusal, disk)) => return Err((IndexError::from(refusal), disk)),
         };
-        match read_reservations(alloc, &mut journal) {
+        match read_reservations(alloc, &mut journal, INDICES) {
             Ok(count) => Ok(IndexStore {
                 journal,
+                limit: INDICES,
                 next: INDICES_PER_RESERVATION * count,
                 count,
             }),
@@ -190,18 +212,20 @@ impl<D: Disk> IndexStore<D> {
     /// and any but `Device` changes nothing. In this order: `Memory`, `Stopped`, `Spent`, `Device`.
     pub fn next(&mut self) -> Result<u32, IndexError>
         ensures ok { IfOk result (λ n. (n ≡ self.old.mark) × (self.new.mark ≡ self.old.mark + 1)) }
+        ensures limit { self.new.limit ≡ self.old.limit }
+        ensures below { IfOk result (λ n. n < INDICES) }
         ensures exact { OnOk result (MayGive self.old) }
         ensures running { OnOk result (self.new.stopped ≡ false) }
         ensures bounded { IfSome (D.bytes self.old.disk) (λ _.
-            LeavesBoundary (D.images self.new.disk) self.new.mark) }
+            LeavesBoundary (D.images self.new.disk) self.old.limit self.new.mark) }
         ensures no_failure { OnOk result (D.failed self.new.disk ≡ D.failed self.old.disk) }
         ensures tells { IsSome (D.bytes self.new.disk) ↔ IsSome (D.bytes self.old.disk) }
-        ensures same { self.old.mark % 16 ≢ 0 → self.new.disk ≡ self.old.disk }
+        ensures same { self.old.mark % INDICES_PER_RESERVATION ≢ 0 → self.new.disk ≡ self.old.disk }
 
         // A crash at any moment of the call leaves a boundary that is at least the mark from before it.
         ensures any_moment { IfSome (D.bytes self.old.disk) (λ _.
-            LeavesOnly D.moment D.images_since self.old.disk self.new.disk
-            (IsBoundedBy self.old.mark)) }
+            AtAnyMoment D.Disk self.old.disk self.new.disk
+            (IsBoundedBy self.old.limit self.old.mark)) }
 
         ensures first_refusal { IfErr result (IsNextRefusal self.old) }
         ensures device { IsErrOf result IndexError.Device → (self.new.mark ≡ self.old.mark)
@@ -213,12 +237,12 @@ impl<D: Disk> IndexStore<D> {
         if self.journal.stopped() {
             return Err(IndexError::Stopped);
         }
-        if self.next >= INDICES {
+        if self.next >= self.limit {
             return Err(IndexError::Spent);
         }
         if self.next >= INDICES_PER_RESERVATION * self.count {
             // The boundary is on the disk before an index below it is given.
-            reserve(&mut self.journal, self.count)?;
+            reserve(&mut self.journal, self.count, self.limit)?;
             self.count += 1;
         }
         self.next += 1;
@@ -227,18 +251,21 @@ impl<D: Disk> IndexStore<D> {
 
     /// How many indices `next` can still give, 0 where the store is stopped.
     pub fn left(&self) -> u32
-        ensures { result ≡ (if self.now.stopped then 0 else 1024 - self.now.mark) }
+        ensures { result ≡ (if self.now.stopped then 0 else self.now.limit - self.now.mark) }
     {
         if self.journal.stopped() {
             0
         } else {
-            INDICES - self.next
+            self.limit - self.next
         }
     }
 
-    /// Whether the disk failed in a `next`.
+    /// Whether the disk failed in a `next`. Whatever a crash leaves of the disk now, stopped or not, has a boundary that is
+    /// at least the mark.
     pub fn stopped(&self) -> bool
-        ensures { result ≡ self.now.stopped }
+        ensures value { result ≡ self.now.stopped }
+        ensures bounded { IfSome (D.bytes self.now.disk) (λ _.
+            LeavesBoundary (D.images self.now.disk) self.now.limit self.now.mark) }
     {
         self.journal.stopped()
     }
@@ -249,6 +276,7 @@ impl<D: Disk> IndexStore<D> {
     {
         let IndexStore {
             journal,
+            limit: _,
             next: _,
             count: _,
         } = self;

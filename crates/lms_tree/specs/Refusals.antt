@@ -4,6 +4,7 @@ use Rattle.wire.specs.Pieces.{number_at}
 use Rattle.lms_tree.specs.declared.verification.SigRefusal.{SigRefusal}
 use Rattle.lms_tree.specs.declared.verification.SigRefusal.TheVariants.{Length, Index, OtsType, TreeType, Root}
 use Rattle.lms_tree.specs.Tree.{root_from_path}
+use Rattle.lms_tree.specs.declared.TheConstants.{LEAVES, SIGNATURE_LEN}
 
 -- the number of a refusal
 abbrev pub sig_refusal_number : SigRefusal → ℕ
@@ -15,13 +16,13 @@ sig_refusal_number Root = 5
 
 -- the bytes pass the tests before this one, and fail this one
 abbrev pub IsSigRefusal : SigRefusal → List ℕ → List ℕ → List ℕ → List ℕ → Type 0
-IsSigRefusal Length id root message signature = length signature ≢ 1452
-IsSigRefusal Index id root message signature = (length signature ≡ 1452) × (1024 ≤ number_at 4 signature 0)
+IsSigRefusal Length id root message signature = length signature ≢ SIGNATURE_LEN
+IsSigRefusal Index id root message signature = (length signature ≡ SIGNATURE_LEN) × (LEAVES ≤ number_at 4 signature 0)
 IsSigRefusal OtsType id root message signature =
-    (length signature ≡ 1452) × (number_at 4 signature 0 < 1024) × (number_at 4 signature 4 ≢ 4)
+    (length signature ≡ SIGNATURE_LEN) × (number_at 4 signature 0 < LEAVES) × (number_at 4 signature 4 ≢ 4)
 IsSigRefusal TreeType id root message signature =
-    (length signature ≡ 1452) × (number_at 4 signature 0 < 1024) × (number_at 4 signature 4 ≡ 4)
+    (length signature ≡ SIGNATURE_LEN) × (number_at 4 signature 0 < LEAVES) × (number_at 4 signature 4 ≡ 4)
     × (number_at 4 signature 1128 ≢ 6)
 IsSigRefusal Root id root message signature =
-    (length signature ≡ 1452) × (number_at 4 signature 0 < 1024) × (number_at 4 signature 4 ≡ 4)
+    (length signature ≡ SIGNATURE_LEN) × (number_at 4 signature 0 < LEAVES) × (number_at 4 signature 4 ≡ 4)
     × (number_at 4 signature 1128 ≡ 6) × (root_from_path id message signature ≢ root)

@@ -5,6 +5,7 @@ use Rattle.std.specs.Prelude.{◌≡◌, ℕ, zero, suc, ◌+◌, ◌-◌, ◌*�
 use Rattle.byteorder.specs.Endian.{big_bytes}
 use Rattle.sha2.specs.Sha256.{sha256}
 use Rattle.wire.specs.Pieces.{number_at, piece}
+use Rattle.lms_tree.specs.declared.TheConstants.{LEAVES, SIGNATURE_LEN}
 use Rattle.lmots.specs.Chains.{joined, ots_public_key, prefix}
 use Rattle.lmots.specs.Signatures.{candidate_key, ots_signature}
 
@@ -18,11 +19,11 @@ inner_hash id r left right = sha256 (prefix id r 0x8383 ++ left ++ right)
 
 -- T[r], where key q is the public key of leaf q, and r stands at most so many levels above the leaves
 unfoldable pub node_within : ℕ → List ℕ → (ℕ → List ℕ) → ℕ → List ℕ
-node_within zero id key r = leaf_hash id r (key (r - 1024))
+node_within zero id key r = leaf_hash id r (key (r - LEAVES))
 node_within (suc levels) id key r =
-    if nat_lt r 1024
+    if nat_lt r LEAVES
     then inner_hash id r (node_within levels id key (2 * r)) (node_within levels id key (2 * r + 1))
-    else leaf_hash id r (key (r - 1024))
+    else leaf_hash id r (key (r - LEAVES))
 
 -- T[r] of the tree over a seed's one-time keys (section 5.3)
 unfoldable pub tree_node : List ℕ → List ℕ → ℕ → List ℕ
@@ -48,7 +49,7 @@ ancestor r k = r / 2 ^ k
 
 -- path[k]: the sibling of the node at level k on the way from leaf q to the root
 unfoldable pub path_node : List ℕ → List ℕ → ℕ → ℕ → List ℕ
-path_node id seed q k = tree_node id seed (sibling (ancestor (1024 + q) k))
+path_node id seed q k = tree_node id seed (sibling (ancestor (LEAVES + q) k))
 
 -- the signature of a message with leaf q
 unfoldable pub lms_signature : List ℕ → List ℕ → ℕ → List ℕ → List ℕ
@@ -79,13 +80,13 @@ ots_in signature = piece 1124 signature 4
 unfoldable pub root_from_path : List ℕ → List ℕ → List ℕ → List ℕ
 root_from_path id message signature =
     let q = number_at 4 signature 0 in
-    let leaf = leaf_hash id (1024 + q) (candidate_key id q message (ots_in signature)) in
-    climbed id (path_in signature) (1024 + q) leaf 10
+    let leaf = leaf_hash id (LEAVES + q) (candidate_key id q message (ots_in signature)) in
+    climbed id (path_in signature) (LEAVES + q) leaf 10
 
 -- the bytes are a signature of the message under the key with this id and root
 pub record Verifies (id root message signature : List ℕ) : Type 0 where
-  pub long : length signature ≡ 1452
-  pub index : number_at 4 signature 0 < 1024
+  pub long : length signature ≡ SIGNATURE_LEN
+  pub index : number_at 4 signature 0 < LEAVES
   pub ots_type : number_at 4 signature 4 ≡ 4
   pub tree_type : number_at 4 signature 1128 ≡ 6
   pub same_root : root_from_path id message signature ≡ root

@@ -3,6 +3,7 @@
 ghost use Rattle.std.specs.Prelude.{◌≡◌, ◌<◌, length, IfOk};
 ghost use Rattle.wire.specs.Pieces.{number_at};
 ghost use Rattle.lms_tree.specs.Tree.{IsFilled, lms_signature, path_node, tree_root, Verifies};
+ghost use Rattle.lms_tree.specs.declared.TheConstants.{LEAVES};
 
 use crate::nodes::{inner_hash, leaf_hash, sibling};
 use crate::public_key::PublicKey;
@@ -60,7 +61,7 @@ impl SigningTree {
     // The hash that a signature with leaf `q` shows at a level.
     #[tactic(auto, using(crate::proofs::SignedVerifies::sibling_in_tree), unfolding(crate::specs::Tree::path_node))]
     fn path_node(&self, q: u32, level: usize) -> [u8; 32]
-        requires leaf { q < 1024 }
+        requires leaf { q < LEAVES }
         requires level { level < 10 }
         ensures { result ≡ path_node self.now.key_id self.now.seed q level }
     {
@@ -72,7 +73,7 @@ impl SigningTree {
     /// may sign one message only.
     #[tactic(auto, using(lmots::proofs::ChainLemmas::joined_none, lmots::proofs::ChainLemmas::joined_more))]
     pub fn sign_at(&self, q: u32, message: &[u8]) -> [u8; SIGNATURE_LEN]
-        requires { q < 1024 }
+        requires { q < LEAVES }
         ensures exact { result ≡ lms_signature self.now.key_id self.now.seed q message.now }
         ensures verifies { Verifies self.now.key_id (tree_root self.now.key_id self.now.seed) message.now result }
         ensures index { number_at 4 result 0 ≡ q }
@@ -95,7 +96,7 @@ impl SigningTree {
 // Fills in the leaves, over the seed's one-time keys.
 fn fill_leaves(secret: &PrivateSeed, nodes: &mut [[u8; 32]])
     requires { length nodes.old ≡ 2048 }
-    ensures { IsFilled secret.now.key_id secret.now.seed 1024 nodes.new }
+    ensures { IsFilled secret.now.key_id secret.now.seed LEAVES nodes.new }
 {
     for q in 0..LEAVES {
         let key = ots_public(secret, q);
@@ -106,7 +107,7 @@ fn fill_leaves(secret: &PrivateSeed, nodes: &mut [[u8; 32]])
 // Fills in the nodes above the leaves, each after its children.
 fn fill_inner(secret: &PrivateSeed, nodes: &mut [[u8; 32]])
     requires long { length nodes.old ≡ 2048 }
-    requires leaves { IsFilled secret.now.key_id secret.now.seed 1024 nodes.old }
+    requires leaves { IsFilled secret.now.key_id secret.now.seed LEAVES nodes.old }
     ensures { IsFilled secret.now.key_id secret.now.seed 1 nodes.new }
 {
     for r in (1..LEAVES).rev() {

@@ -5,6 +5,7 @@ ghost use Rattle.wire.specs.Pieces.{number_at};
 ghost use Rattle.lmots.specs.Signatures.{candidate_key};
 ghost use Rattle.lms_tree.specs.Refusals.{sig_refusal_number, IsSigRefusal};
 ghost use Rattle.lms_tree.specs.Tree.{climbed, ots_in, path_in, Verifies};
+ghost use Rattle.lms_tree.specs.declared.TheConstants.{SIGNATURE_LEN};
 
 use crate::nodes::{leaf_hash, parent_hash};
 use crate::public_key::PublicKey;
@@ -66,7 +67,7 @@ pub fn verify(key: &PublicKey, message: &[u8], signature: &[u8]) -> Result<(), S
 // The one-time key to which a signature leads, if it has the type of one-time signatures.
 #[tactic(auto, using(crate::proofs::PathLemmas::number_in_ots))]
 fn leaf_key(key_id: &[u8; 16], q: u32, message: &[u8], signature: &[u8]) -> Option<[u8; 32]>
-    requires { length signature.now ≡ 1452 }
+    requires { length signature.now ≡ SIGNATURE_LEN }
     ensures none { IfNone result (number_at 4 signature.now 4 ≢ 4) }
     ensures some { IfSome result (λ key. (number_at 4 signature.now 4 ≡ 4)
         × (key ≡ candidate_key key_id.now q message.now (ots_in signature.now))) }
@@ -80,7 +81,7 @@ fn leaf_key(key_id: &[u8; 16], q: u32, message: &[u8], signature: &[u8]) -> Opti
 // The root above leaf node `leaf`, whose hash is `leaf_hash`, along the path of a signature.
 #[tactic(auto, using(crate::proofs::PathLemmas::climbed_none, crate::proofs::PathLemmas::climbed_more, crate::proofs::PathLemmas::ancestor_none, crate::proofs::PathLemmas::ancestor_more))]
 fn climbed(key_id: &[u8; 16], signature: &[u8], leaf: u32, leaf_hash: [u8; 32]) -> [u8; 32]
-    requires { length signature.now ≡ 1452 }
+    requires { length signature.now ≡ SIGNATURE_LEN }
     ensures { result ≡ climbed key_id.now (path_in signature.now) leaf leaf_hash 10 }
 {
     let mut node = leaf;

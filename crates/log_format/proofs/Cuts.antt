@@ -5,7 +5,8 @@ use Rattle.std.proofs.lemmas.List.{length-append, append-nil, nil_from_length}
 use Rattle.std.proofs.lemmas.List.Elements.{All-head, All-tail}
 use Rattle.std.specs.List.{flat_map}
 use Rattle.wire.specs.Pieces.{number_at}
-use Rattle.log_format.specs.Exports.{IsPayload, frame_text, end_mark}
+use Rattle.wire.specs.Payloads.{IsPayload}
+use Rattle.log_format.specs.Exports.{frame_text, end_mark}
 use Rattle.log_format.specs.Readings.{unfinished, HasEndMark, IsOpen}
 use Rattle.log_format.specs.ReadingLaws.{AreFirstOf}
 use Rattle.log_format.specs.declared.status.Status.{Status}

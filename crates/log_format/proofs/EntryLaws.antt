@@ -12,14 +12,14 @@ use Rattle.blocks.specs.Headers.{Header, IsHeader, NamesParent, header_id, heade
 use Rattle.blocks.specs.HeaderReading.{header_at, header_in}
 use Rattle.blocks.proofs.HeaderLaws.{header_found, header_again}
 use Rattle.certificates.specs.Certificates.{Certificate, IsCertificate, certificate_text}
-use Rattle.certificates.specs.CertificateReading.{certificate_at, certificate_in, count_in, is_whole}
+use Rattle.certificates.specs.CertificateReading.{certificate_at, certificate_in, count_in, is_whole_certificate}
 use Rattle.certificates.proofs.CertificateLaws.{certificate_found, certificate_again}
 use Rattle.certificates.proofs.Entries.{length-entries_in}
 use Rattle.certificates.proofs.Pieces.{two_pieces}
 use Rattle.log_format.specs.declared.entry.EntryRefusal.{EntryRefusal}
 use Rattle.log_format.specs.declared.entry.EntryRefusal.TheVariants.{Memory, Length, Kind, Header as HeaderRefused, Parent, OwnVote, Certificate as CertificateRefused}
-use Rattle.log_format.specs.EntryText.{Entry, EntriesHaveOneSpelling, IsEntry, IsEntryOf, IsOn, IsSignature, entry_text, kind_of, own_vote_text}
-use Rattle.log_format.specs.EntryReading.{IsEntryRefusal, IsOwnVoteOn, IsReadable, PassesEntry, block_in, certificate_in_rest, certificate_place, entry_in, entry_order, entry_refusal_number, is_voted_in, kind_in, parent_in, rest_in, signature_in}
+use Rattle.log_format.specs.EntryText.{Entry, EntriesHaveOneSpelling, IsEntry, IsEntryOf, IsOn, IsSignature, entry_text, entry_kind, own_vote_text}
+use Rattle.log_format.specs.EntryReading.{IsEntryRefusal, IsOwnVoteOn, IsReadableEntry, PassesEntry, block_in, certificate_in_rest, certificate_place, entry_in, entry_order, entry_refusal_number, is_voted_in, entry_kind_in, parent_in, rest_in, signature_in}
 use Rattle.log_format.proofs.EntryParts.{read_header, read_certificate, whole_certificate, header_is, certificate_is, ok_from}
 
 -- ---- what is read is spelled so
@@ -31,7 +31,7 @@ whole_long : (len n : ℕ) → (nat_le 42 len && (len == 42 + 1454 * n)) ≡ tru
 whole_long len n e = grind (arith, nat_tests)
 
 -- there is a certificate's head behind the place
-long_enough : (bytes : List ℕ) (place : ℕ) → is_whole (drop place bytes) ≡ true → place + 42 ≤ length bytes
+long_enough : (bytes : List ℕ) (place : ℕ) → is_whole_certificate (drop place bytes) ≡ true → place + 42 ≤ length bytes
 long_enough bytes place whole =
     let long = whole_long (length (drop place bytes)) (count_in (drop place bytes)) whole in
     omega (arith, long, length-drop place bytes)
@@ -39,7 +39,7 @@ long_enough bytes place whole =
 one_byte : (bytes : List ℕ) → 0 < length bytes → piece 1 bytes 0 ≡ slice_index bytes 0 ∷ []
 one_byte bytes some = ap (take 1) (drop_more bytes 0 0 some)
 
-kind_is : (k : ℕ) (bytes : List ℕ) → (k ≡ 1) ⊎ (k ≡ 2) → k ≡ kind_of (signature_in (k == 1) bytes)
+kind_is : (k : ℕ) (bytes : List ℕ) → (k ≡ 1) ⊎ (k ≡ 2) → k ≡ entry_kind (signature_in (k == 1) bytes)
 unfolding signature_in
 kind_is k bytes (inl one) = rw one refl
 kind_is k bytes (inr two) = rw two refl
@@ -69,7 +69,7 @@ least_place true = omega arith
 least_place false = omega arith
 
 -- the parts of a readable text spell it
-pub entry_found : (bytes : List ℕ) → AreBytes bytes → IsReadable bytes → IsEntryOf bytes (entry_in bytes)
+pub entry_found : (bytes : List ℕ) → AreBytes bytes → IsReadableEntry bytes → IsEntryOf bytes (entry_in bytes)
 unfolding entry_text block_in parent_in certificate_in_rest
 entry_found bytes fit readable =
     let voted = is_voted_in bytes in
@@ -85,8 +85,8 @@ entry_found bytes fit readable =
     let block = header_found (piece 84 bytes 1) (block_in bytes) (AreBytes-piece 84 bytes 1 fit) (header_is (piece 84 bytes 1) headers.0) in
     let parent = header_found (piece 84 bytes 85) (parent_in bytes) (AreBytes-piece 84 bytes 85 fit) (header_is (piece 84 bytes 85) headers.1) in
     let last = certificate_found rest (certificate_in_rest rest) (AreBytes-drop (certificate_place voted) bytes fit) (certificate_is rest certificate.0) in
-    let first : piece 1 bytes 0 ≡ kind_of (signature_in voted bytes) ∷ [] =
-    one_byte bytes (omega arith) ∙ ap (λ (k : ℕ). k ∷ []) (kind_is (kind_in bytes) bytes kind) in
+    let first : piece 1 bytes 0 ≡ entry_kind (signature_in voted bytes) ∷ [] =
+    one_byte bytes (omega arith) ∙ ap (λ (k : ℕ). k ∷ []) (kind_is (entry_kind_in bytes) bytes kind) in
     record {
       entry = record {
         block = block.0;
@@ -140,7 +140,7 @@ reads_header text at h rest is here =
 record ReadsCertificate (text : List ℕ) (c : Certificate) : Type 0 where
   readable : IsOk (certificate_in text)
   same : certificate_at text ≡ c
-  whole : is_whole text ≡ true
+  whole : is_whole_certificate text ≡ true
 
 reads_certificate : (text : List ℕ) (c : Certificate) → IsCertificate c → text ≡ certificate_text c → ReadsCertificate text c
 reads_certificate text c is here =
@@ -159,7 +159,7 @@ record ReadsTail (text : List ℕ) (block : Header) (signature : Option (List �
   rest_is : rest_in (is_voted_in text) text ≡ rest
 
 reads_tail : (text : List ℕ) (block : Header) (o : Option (List ℕ)) (rest : List ℕ) → IsHeader block → IfSome o IsSignature
-    → length (header_id block) ≡ 32 → slice_index text 0 ≡ kind_of o → drop 169 text ≡ own_vote_text block o ++ rest → ReadsTail text block o rest
+    → length (header_id block) ≡ 32 → slice_index text 0 ≡ entry_kind o → drop 169 text ≡ own_vote_text block o ++ rest → ReadsTail text block o rest
 unfolding signature_in
 reads_tail text block (Some s) rest is signed id kind here =
     let voted : is_voted_in text ≡ true = ap (λ (k : ℕ). k == 1) kind in
@@ -193,15 +193,15 @@ same_entry e b p s c q r t u =
     ∙ ap (λ (x : Option (List ℕ)). entry_from e.block e.parent x c) t ∙ ap (entry_from e.block e.parent e.signature) u
 
 -- what is written is read, with its parts
-pub entry_again : (bytes : List ℕ) (e : Entry) → IsEntryOf bytes e → IsReadable bytes × (entry_in bytes ≡ e)
+pub entry_again : (bytes : List ℕ) (e : Entry) → IsEntryOf bytes e → IsReadableEntry bytes × (entry_in bytes ≡ e)
 unfolding entry_text block_in parent_in certificate_in_rest
 entry_again text e is =
     let entry = is.entry in
     let own = own_vote_text e.block e.signature ++ certificate_text e.certificate in
-    let start : drop 0 text ≡ (kind_of e.signature ∷ []) ++ (header_text e.block ++ (header_text e.parent ++ own)) = is.text in
-    let block = reads_header text 1 e.block (header_text e.parent ++ own) entry.block (behind text 0 1 (kind_of e.signature ∷ []) _ start refl) in
+    let start : drop 0 text ≡ (entry_kind e.signature ∷ []) ++ (header_text e.block ++ (header_text e.parent ++ own)) = is.text in
+    let block = reads_header text 1 e.block (header_text e.parent ++ own) entry.block (behind text 0 1 (entry_kind e.signature ∷ []) _ start refl) in
     let parent = reads_header text 85 e.parent own entry.parent block.rest_is in
-    let kind : slice_index text 0 ≡ kind_of e.signature = ap (λ (t : List ℕ). slice_index t 0) start in
+    let kind : slice_index text 0 ≡ entry_kind e.signature = ap (λ (t : List ℕ). slice_index t 0) start in
     let tail = reads_tail text e.block e.signature (certificate_text e.certificate) entry.block entry.signature (length-header_id e.block) kind parent.rest_is in
     let last = reads_certificate (rest_in (is_voted_in text) text) e.certificate entry.certificate tail.rest_is in
     let names : NamesParent (block_in text) (parent_in text) =
@@ -215,7 +215,7 @@ entry_again text e is =
 
 -- ---- what a reading of all parts tells
 
-pub found_of : (bytes : List ℕ) (r : Result Entry EntryRefusal) → AreBytes bytes → IfOk r (λ e. IsReadable bytes × (e ≡ entry_in bytes)) → IfOk r (IsEntryOf bytes)
+pub found_of : (bytes : List ℕ) (r : Result Entry EntryRefusal) → AreBytes bytes → IfOk r (λ e. IsReadableEntry bytes × (e ≡ entry_in bytes)) → IfOk r (IsEntryOf bytes)
 found_of bytes (Ok e) fit ok = subst (IsEntryOf bytes) (sym ok.1) (entry_found bytes fit ok.0)
 found_of bytes (Err refusal) fit ok = tt
 
@@ -229,7 +229,7 @@ not_spelled bytes Parent e refused other is = refused_fails entry_refusal_number
 not_spelled bytes OwnVote e refused other is = refused_fails entry_refusal_number (PassesEntry bytes) entry_order OwnVote refused (entry_again bytes e is).0
 not_spelled bytes CertificateRefused e refused other is = refused_fails entry_refusal_number (PassesEntry bytes) entry_order CertificateRefused refused (entry_again bytes e is).0
 
-pub only_of : (bytes : List ℕ) (r : Result Entry EntryRefusal) (e : Entry) → IfOk r (λ e. IsReadable bytes × (e ≡ entry_in bytes)) → IfErr r (IsEntryRefusal bytes)
+pub only_of : (bytes : List ℕ) (r : Result Entry EntryRefusal) (e : Entry) → IfOk r (λ e. IsReadableEntry bytes × (e ≡ entry_in bytes)) → IfErr r (IsEntryRefusal bytes)
     → IsEntryOf bytes e → r ≢ Err Memory → r ≡ Ok e
 only_of bytes (Ok x) e ok refused is no_want = ap (λ (y : Entry). Ok y) (ok.1 ∙ (entry_again bytes e is).1)
 only_of bytes (Err refusal) e ok refused is no_want = absurd (not_spelled bytes refusal e refused (λ same. no_want (ap (λ (x : EntryRefusal). Err x) same)) is)
@@ -278,11 +278,11 @@ length-entry_text e is =
 -- ---- what is written
 
 -- the pieces of an entry, one after the other
-pub written : (e : Entry) (a b c d f g : List ℕ) → a ≡ [] → b ≡ a ++ kind_of e.signature ∷ [] → c ≡ b ++ header_text e.block
+pub written : (e : Entry) (a b c d f g : List ℕ) → a ≡ [] → b ≡ a ++ entry_kind e.signature ∷ [] → c ≡ b ++ header_text e.block
     → d ≡ c ++ header_text e.parent → f ≡ d ++ own_vote_text e.block e.signature → g ≡ f ++ certificate_text e.certificate → g ≡ entry_text e
 unfolding entry_text
 written e a b c d f g p q r s t u =
-    let kind = kind_of e.signature ∷ [] in
+    let kind = entry_kind e.signature ∷ [] in
     let block = header_text e.block in
     let parent = header_text e.parent in
     let own = own_vote_text e.block e.signature in

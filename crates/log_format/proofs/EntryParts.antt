@@ -9,7 +9,7 @@ use Rattle.blocks.specs.Headers.{Header}
 use Rattle.blocks.specs.HeaderReading.{are_in_order, header_at, header_in}
 use Rattle.blocks.specs.declared.header.HeaderRefusal.TheVariants.{Length, Magic, ViewOrder}
 use Rattle.certificates.specs.Certificates.{Certificate}
-use Rattle.certificates.specs.CertificateReading.{certificate_at, certificate_in, count_in, entries_in, has_count, is_rising, is_whole}
+use Rattle.certificates.specs.CertificateReading.{certificate_at, certificate_in, count_in, entries_in, has_count, is_rising, is_whole_certificate}
 use Rattle.certificates.specs.declared.certificate.CertificateRefusal.TheVariants.{Length as CertificateLength, Order, Count}
 
 -- what passed three tests is what stands behind them
@@ -30,12 +30,12 @@ read_header bytes h e =
 pub read_certificate : (bytes : List ℕ) (c : Certificate) → Ok c ≡ certificate_in bytes → c ≡ certificate_at bytes
 unfolding certificate_in
 read_certificate bytes c e =
-    sym (past_three (is_whole bytes) (is_rising (entries_in bytes (count_in bytes))) (has_count (number_at 8 bytes 0) (count_in bytes)) CertificateLength Order Count (certificate_at bytes) c (sym e))
+    sym (past_three (is_whole_certificate bytes) (is_rising (entries_in bytes (count_in bytes))) (has_count (number_at 8 bytes 0) (count_in bytes)) CertificateLength Order Count (certificate_at bytes) c (sym e))
 
 -- and its bytes are as many as it asks for
-pub whole_certificate : (bytes : List ℕ) (c : Certificate) → certificate_in bytes ≡ Ok c → is_whole bytes ≡ true
+pub whole_certificate : (bytes : List ℕ) (c : Certificate) → certificate_in bytes ≡ Ok c → is_whole_certificate bytes ≡ true
 unfolding certificate_in
-whole_certificate bytes c e = (need_ok (is_whole bytes) CertificateLength _ c e).0
+whole_certificate bytes c e = (need_ok (is_whole_certificate bytes) CertificateLength _ c e).0
 
 value_of : {A R : Type 0} (r : Result A R) → IsOk r → (x : A) × (r ≡ Ok x)
 value_of (Ok x) is = (x, refl)

@@ -5,7 +5,8 @@ use Rattle.std.proofs.lemmas.List.Elements.{All-nil, All-push}
 use Rattle.std.specs.Prelude.{codes}
 use Rattle.std.specs.List.{flat_map}
 use Rattle.wire.specs.Pieces.{number_at, AreBytes}
-use Rattle.log_format.specs.Exports.{IsPayload, frame_text}
+use Rattle.wire.specs.Payloads.{IsPayload}
+use Rattle.log_format.specs.Exports.{frame_text}
 use Rattle.log_format.specs.Fronts.{IsFrame, AreFramesOf}
 use Rattle.log_format.specs.Readings.{Ends, IsReading}
 use Rattle.log_format.specs.declared.status.Status.{Status}

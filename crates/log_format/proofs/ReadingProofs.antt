@@ -9,7 +9,8 @@ use Rattle.std.proofs.lemmas.List.{length-append, length-drop, length-take, take
 use Rattle.std.proofs.lemmas.List.Elements.{All-head, All-take, All-drop}
 use Rattle.std.proofs.lemmas.List.Concat.{flat_map-append}
 use Rattle.std.specs.List.{flat_map}
-use Rattle.log_format.specs.Exports.{IsPayload, frame_text, end_mark, asked_for}
+use Rattle.wire.specs.Payloads.{IsPayload}
+use Rattle.log_format.specs.Exports.{frame_text, end_mark, asked_for}
 use Rattle.log_format.specs.Readings.{IsReading, HasFrames, unfinished, room_beside}
 use Rattle.log_format.specs.ReadingLaws.{AStreamHasOneReading, EveryStreamHasAReading, AnExportReadsBack, ALongExportIsTooLong, ACutExportHasTheFirstFrames, AreFirstOf}
 use Rattle.log_format.specs.declared.status.Status.{Status}

@@ -4,7 +4,8 @@ use Rattle.std.proofs.lemmas.List.{take_at, drop_at, get_or-drop, length-append,
 use Rattle.byteorder.specs.Endian.{big_bytes}
 use Rattle.wire.specs.Pieces.{piece, number_at, AreBytes}
 use Rattle.wire.proofs.Numbers.{cut, length-piece, piece-number_at, number_again}
-use Rattle.log_format.specs.Exports.{IsPayload, frame_text, end_mark}
+use Rattle.wire.specs.Payloads.{IsPayload}
+use Rattle.log_format.specs.Exports.{frame_text, end_mark}
 use Rattle.log_format.specs.Readings.{HasLength, HasEndMark}
 
 -- ---- a frame

@@ -5,19 +5,20 @@ use Rattle.wire.specs.Refusals.{AllPassed, IsFirst}
 use Rattle.blocks.specs.Headers.{Header as BlockHeader, NamesParent, header_id}
 use Rattle.blocks.specs.HeaderReading.{header_at, header_in}
 use Rattle.certificates.specs.Certificates.{Certificate as ParentCertificate}
-use Rattle.certificates.specs.CertificateReading.{certificate_at, certificate_in, is_whole}
+use Rattle.certificates.specs.CertificateReading.{certificate_at, certificate_in, is_whole_certificate}
 use Rattle.log_format.specs.declared.entry.EntryRefusal.{EntryRefusal}
 use Rattle.log_format.specs.declared.entry.EntryRefusal.TheVariants.{Memory, Length, Kind, Header, Parent, OwnVote, Certificate}
+use Rattle.lms_tree.specs.declared.TheConstants.{SIGNATURE_LEN}
 use Rattle.log_format.specs.EntryText.{Entry, IsOn}
 
 -- ---- the parts of an entry at their places
 
 -- 1 with the replica's own vote, 2 without
-abbrev pub kind_in : List ℕ → ℕ
-kind_in bytes = slice_index bytes 0
+abbrev pub entry_kind_in : List ℕ → ℕ
+entry_kind_in bytes = slice_index bytes 0
 
 abbrev pub is_voted_in : List ℕ → Bool
-is_voted_in bytes = kind_in bytes == 1
+is_voted_in bytes = entry_kind_in bytes == 1
 
 -- the block's header, and its parent's
 unfoldable pub block_in : List ℕ → BlockHeader
@@ -28,7 +29,7 @@ parent_in bytes = header_at (piece 84 bytes 85)
 
 -- the signature in the own vote, if there is one
 unfoldable pub signature_in : Bool → List ℕ → Option (List ℕ)
-signature_in voted bytes = if voted then Some (piece 1452 bytes 209) else None
+signature_in voted bytes = if voted then Some (piece SIGNATURE_LEN bytes 209) else None
 
 -- the certificate is the rest, behind the own vote or in its place
 abbrev pub certificate_place : Bool → ℕ
@@ -64,8 +65,8 @@ IsReadableOn parent rest = IsOk (certificate_in rest) × IsOn parent (certificat
 -- what each refusal tests; where there is no first byte, the kind is not at fault
 abbrev pub PassesEntry : List ℕ → EntryRefusal → Type 0
 PassesEntry bytes Memory = ⊤
-PassesEntry bytes Length = is_whole (rest_in (is_voted_in bytes) bytes) ≡ true
-PassesEntry bytes Kind = 0 < length bytes → (kind_in bytes ≡ 1) ⊎ (kind_in bytes ≡ 2)
+PassesEntry bytes Length = is_whole_certificate (rest_in (is_voted_in bytes) bytes) ≡ true
+PassesEntry bytes Kind = 0 < length bytes → (entry_kind_in bytes ≡ 1) ⊎ (entry_kind_in bytes ≡ 2)
 PassesEntry bytes Header = AreReadable (piece 84 bytes 1) (piece 84 bytes 85)
 PassesEntry bytes Parent = NamesParent (block_in bytes) (parent_in bytes)
 PassesEntry bytes OwnVote = is_voted_in bytes ≡ true → IsOwnVoteOn (block_in bytes) bytes
@@ -86,8 +87,8 @@ entry_refusal_number OwnVote = 6
 entry_refusal_number Certificate = 7
 
 -- the bytes pass each test
-abbrev pub IsReadable : List ℕ → Type 0
-IsReadable bytes = AllPassed (PassesEntry bytes) entry_order
+abbrev pub IsReadableEntry : List ℕ → Type 0
+IsReadableEntry bytes = AllPassed (PassesEntry bytes) entry_order
 
 -- they don't pass this one, and it is the first such
 abbrev pub IsFirstFailed : List ℕ → EntryRefusal → Type 0
@@ -101,7 +102,7 @@ IsEntryRefusal bytes refusal = IsFirstFailed bytes refusal
 -- ---- the tests of the certificate alone
 
 -- memory was refused, or the certificate is not readable or not on the parent
-abbrev pub IsRestFault : BlockHeader → List ℕ → EntryRefusal → Type 0
-IsRestFault parent rest Memory = Unit {0}
-IsRestFault parent rest Certificate = IsReadableOn parent rest → ⊥
-IsRestFault parent rest _ = ⊥
+abbrev pub IsCertificateRefusal : BlockHeader → List ℕ → EntryRefusal → Type 0
+IsCertificateRefusal parent rest Memory = Unit {0}
+IsCertificateRefusal parent rest Certificate = IsReadableOn parent rest → ⊥
+IsCertificateRefusal parent rest _ = ⊥

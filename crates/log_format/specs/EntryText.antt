@@ -4,6 +4,7 @@ use Rattle.std.specs.Prelude.{◌≡◌, ◌++◌, ℕ, List, [], ◌∷◌, len
 use Rattle.byteorder.specs.Endian.{big_bytes}
 use Rattle.blocks.specs.Headers.{Header, IsHeader, NamesParent, header_id, header_text}
 use Rattle.blocks.specs.Replica.{Stored}
+use Rattle.lms_tree.specs.declared.TheConstants.{SIGNATURE_LEN}
 use Rattle.certificates.specs.Certificates.{Certificate, IsCertificate, certificate_text}
 use Rattle.certificates.specs.declared.vote.SignedVote.{SignedVote}
 
@@ -22,9 +23,9 @@ pub record IsOn (b : Header) (c : Certificate) : Type 0 where
   pub id : c.id ≡ header_id b
   pub view : c.view ≡ b.view
 
--- the 1,452 bytes of a signature
+-- the bytes of a signature
 abbrev pub IsSignature : List ℕ → Type 0
-IsSignature signature = length signature ≡ 1452
+IsSignature signature = length signature ≡ SIGNATURE_LEN
 
 -- an entry that has bytes: the block names the parent, and the certificate is on the parent
 pub record IsEntry (e : Entry) : Type 0 where
@@ -38,9 +39,9 @@ pub record IsEntry (e : Entry) : Type 0 where
 -- ---- the bytes of an entry
 
 -- 1 with the replica's own vote, 2 without
-abbrev pub kind_of : Option (List ℕ) → ℕ
-kind_of (Some signature) = 1
-kind_of None = 2
+abbrev pub entry_kind : Option (List ℕ) → ℕ
+entry_kind (Some signature) = 1
+entry_kind None = 2
 
 -- the own vote, if there is one: the block's view and id, and the signature
 abbrev pub own_vote_text : Header → Option (List ℕ) → List ℕ
@@ -49,7 +50,7 @@ own_vote_text block None = []
 
 -- the kind, the block's header, its parent's, the own vote, and the certificate
 unfoldable pub entry_text : Entry → List ℕ
-entry_text e = (kind_of e.signature ∷ []) ++ (header_text e.block ++ (header_text e.parent ++ (own_vote_text e.block e.signature ++ certificate_text e.certificate)))
+entry_text e = (entry_kind e.signature ∷ []) ++ (header_text e.block ++ (header_text e.parent ++ (own_vote_text e.block e.signature ++ certificate_text e.certificate)))
 
 -- the bytes are those of this entry
 pub record IsEntryOf (bytes : List ℕ) (e : Entry) : Type 0 where
@@ -68,8 +69,8 @@ signature_of (Some vote) = Some vote.signature
 signature_of None = None
 
 -- the replica's vote for the block, if it voted
-abbrev pub vote_of : Entry → ℕ → Option SignedVote
-vote_of e replica = option_map (λ (s : List ℕ). record { replica = replica; view = e.block.view; id = header_id e.block; signature = s }) e.signature
+abbrev pub own_vote_of : Entry → ℕ → Option SignedVote
+own_vote_of e replica = option_map (λ (s : List ℕ). record { replica = replica; view = e.block.view; id = header_id e.block; signature = s }) e.signature
 
 -- ---- what replay sees of an entry
 

@@ -1,11 +1,7 @@
 -- The stream in which the log of a replica goes out. docs/FORMATS.md, 'Export'.
-use Rattle.std.specs.Prelude.{ℕ, ◌≤◌, ◌<◌, ◌++◌, List, length, take, drop, codes}
+use Rattle.std.specs.Prelude.{ℕ, ◌++◌, List, length, take, drop, codes}
 use Rattle.std.specs.List.{flat_map}
 use Rattle.byteorder.specs.Endian.{big_bytes}
-
--- a payload has 1 to 65536 bytes
-abbrev pub IsPayload : List ℕ → Type 0
-IsPayload payload = (0 < length payload) × (length payload ≤ 65536)
 
 -- the length, then the payload
 unfoldable pub frame_text : List ℕ → List ℕ

@@ -2,7 +2,8 @@
 use Rattle.std.specs.Prelude.{ℕ, ◌≡◌, ◌≤◌, ◌<◌, ◌++◌, ◌⊎◌, List, [], length, take, Bool}
 use Rattle.std.specs.List.{All}
 use Rattle.wire.specs.Pieces.{AreBytes}
-use Rattle.log_format.specs.Exports.{IsPayload, asked_for, export_text}
+use Rattle.wire.specs.Payloads.{IsPayload}
+use Rattle.log_format.specs.Exports.{asked_for, export_text}
 use Rattle.log_format.specs.Readings.{Reading, IsReading, room_beside, unfinished}
 use Rattle.log_format.specs.declared.status.Status.{Status}
 use Rattle.log_format.specs.declared.status.Status.TheVariants.{Whole, TooLong}

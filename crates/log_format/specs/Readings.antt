@@ -2,7 +2,9 @@
 use Rattle.std.specs.Prelude.{ℕ, ◌≡◌, ◌≢◌, ◌≤◌, ◌<◌, ◌+◌, ◌-◌, ◌++◌, ◌⊎◌, List, [], length, take, codes, Bool, true, false}
 use Rattle.std.specs.List.{All, flat_map}
 use Rattle.wire.specs.Pieces.{number_at}
-use Rattle.log_format.specs.Exports.{IsPayload, frame_text}
+use Rattle.wire.specs.Payloads.{IsPayload}
+use Rattle.wire.specs.declared.limits.TheConstants.{LONGEST_PAYLOAD, MOST_ENTRIES}
+use Rattle.log_format.specs.Exports.{frame_text}
 use Rattle.log_format.specs.declared.status.Status.{Status}
 use Rattle.log_format.specs.declared.status.Status.TheVariants.{Whole, Cut, Broken, TooLong, Failed}
 
@@ -21,7 +23,7 @@ status_name Failed = codes "Failed"
 
 -- how many frames a source may still send where so many are held
 abbrev pub room_beside : ℕ → ℕ
-room_beside held = 4096 - held
+room_beside held = MOST_ENTRIES - held
 
 -- a stream that says too little to decide: a read of it failed, or it ended
 abbrev pub unfinished : Bool → Status
@@ -32,12 +34,12 @@ unfinished false = Cut
 pub record HasLength (rest : List ℕ) : Type 0 where
   pub came : 4 ≤ length rest
   pub some : 0 < number_at 4 rest 0
-  pub fits : number_at 4 rest 0 ≤ 65536
+  pub fits : number_at 4 rest 0 ≤ LONGEST_PAYLOAD
 
 -- a length has come that no frame has
 pub record HasGreatLength (rest : List ℕ) : Type 0 where
   pub came : 4 ≤ length rest
-  pub great : 65536 < number_at 4 rest 0
+  pub great : LONGEST_PAYLOAD < number_at 4 rest 0
 
 -- an end mark has come that names so many frames
 pub record HasEndMark (rest : List ℕ) (count : ℕ) : Type 0 where
@@ -86,7 +88,7 @@ pub record HasOtherMagic (stream : List ℕ) (frames : List (List ℕ)) (status 
   pub none : frames ≡ []
   pub named : status ≡ Broken
 
--- the stream is the magic, these frames, and a rest that gives the status; with those held they are 4096 at most
+-- the stream is the magic, these frames, and a rest that gives the status; with those held there is room for them
 pub record HasFrames (held : ℕ) (stream : List ℕ) (failed : Bool) (frames : List (List ℕ)) (status : Status) : Type 0 where
   pub rest : List ℕ
   pub split : stream ≡ codes "HSL1" ++ (flat_map frame_text frames ++ rest)

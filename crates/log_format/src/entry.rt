@@ -5,17 +5,19 @@ ghost use Rattle.std.specs.Option.{ForSome};
 ghost use Rattle.wire.specs.Pieces.{piece};
 ghost use Rattle.blocks.specs.Headers.{Header as HeaderValue, IsHeader, NamesParent, header_id};
 ghost use Rattle.certificates.specs.Assembling.{IsVoteFor};
-ghost use Rattle.certificates.specs.CertificateReading.{is_whole};
-ghost use Rattle.log_format.specs.EntryReading.{AreReadable, IsEntryRefusal, IsOwnVoteOn, IsReadable, IsReadableOn, IsRestFault, block_in, certificate_in_rest, certificate_place, entry_in, entry_refusal_number, is_voted_in, kind_in, parent_in, signature_in};
-ghost use Rattle.log_format.specs.EntryText.{Entry as EntryValue, EntriesHaveOneSpelling, IsEntry, IsEntryOf, IsOn, entry_text, kind_of, is_signed, own_vote_text, signature_of, stored_in, vote_of};
+ghost use Rattle.certificates.specs.CertificateReading.{is_whole_certificate};
+ghost use Rattle.log_format.specs.EntryReading.{AreReadable, IsEntryRefusal, IsOwnVoteOn, IsReadableEntry, IsReadableOn, IsCertificateRefusal, block_in, certificate_in_rest, certificate_place, entry_in, entry_refusal_number, is_voted_in, entry_kind_in, parent_in, signature_in};
+ghost use Rattle.log_format.specs.EntryText.{Entry as EntryValue, EntriesHaveOneSpelling, IsEntry, IsEntryOf, IsOn, entry_text, entry_kind, is_signed, own_vote_text, signature_of, stored_in, own_vote_of};
 
 use blocks::{Header, Id};
-use certificates::{Certificate, CertificateRefusal, CheckedBlock, SignedVote};
+use certificates::{
+    Certificate, CertificateRefusal, CheckedBlock, SignedVote, is_whole_certificate,
+};
 use lms_tree::Signature;
 use replica_core::Stored;
 use std::alloc::{AllocError, Global};
 use std::marker::Model;
-use wire::{append, array_at, u16_at, u64_at};
+use wire::{append, array_at, u64_at};
 
 /// The first byte of an entry with the replica's own vote.
 const VOTED: u8 = 1;
@@ -31,12 +33,6 @@ const VOTE_AT: usize = 169;
 
 /// Where the certificate begins behind an own vote.
 const BEHIND_VOTE: usize = 1661;
-
-/// The length in bytes of what a certificate has before its votes.
-const CERTIFICATE_HEAD: usize = 42;
-
-/// The length in bytes of each vote in a certificate.
-const CERTIFICATE_VOTE: usize = 1454;
 
 /// What a replica stores of a block that it voted for, or that raised its lock without a vote: the block's
 /// header, its parent's, the signature of the own vote if it voted, and the parent's certificate. The
@@ -91,7 +87,7 @@ impl EntryRefusal {
 // Whether the own vote stands in the entry, as its first byte says.
 fn is_voted(bytes: &[u8]) -> Result<bool, EntryRefusal>
     ensures ok { IfOk result (λ voted. is_voted_in bytes.now ≡ voted) }
-    ensures kind { OnOk result ((kind_in bytes.now ≡ 1) ⊎ (kind_in bytes.now ≡ 2)) }
+    ensures kind { OnOk result ((entry_kind_in bytes.now ≡ 1) ⊎ (entry_kind_in bytes.now ≡ 2)) }
     ensures first_refusal { IfErr result (IsEntryRefusal bytes.now) }
 {
     match bytes.first() {
@@ -110,18 +106,14 @@ fn certificate_place(voted: bool) -> usize
 }
 
 // Whether the bytes from place `at` on are as many as a certificate there has.
-fn is_whole(bytes: &[u8], at: usize) -> bool
-    ensures value { result ≡ is_whole (drop at bytes.now) }
+fn has_whole_certificate(bytes: &[u8], at: usize) -> bool
+    ensures value { result ≡ is_whole_certificate (drop at bytes.now) }
     ensures long { IsTrue result → at + 42 ≤ length bytes.now }
 {
     if bytes.len() < at {
         return false;
     }
-    let rest = &bytes[at..];
-    if rest.len() < CERTIFICATE_HEAD {
-        return false;
-    }
-    rest.len() == CERTIFICATE_HEAD + CERTIFICATE_VOTE * u16_at(rest, 40) as usize
+    is_whole_certificate(&bytes[at..])
 }
 
 // The two headers, if both can be read.
@@ -186,7 +178,7 @@ fn certificate_in(
     requires { NamesParent block.now parent.now }
     ensures ok { IfOk result (λ c. c ≡ certificate_in_rest rest.now) }
     ensures passes { OnOk result (IsReadableOn parent.now rest.now) }
-    ensures refused { IfErr result (IsRestFault parent.now rest.now) }
+    ensures refused { IfErr result (IsCertificateRefusal parent.now rest.now) }
 {
     let certificate = match Certificate::read(alloc, rest) {
         Ok(certificate) => certificate,
@@ -210,8 +202,8 @@ fn signature_of(vote: Option<SignedVote>) -> Option<Signature>
 }
 
 // The first byte of an entry with this signature or without one.
-fn kind_of(signature: &Option<Signature>) -> u8
-    ensures { result ≡ kind_of signature.now }
+fn entry_kind(signature: &Option<Signature>) -> u8
+    ensures { result ≡ entry_kind signature.now }
 {
     match signature {
         Some(_) => VOTED,
@@ -263,12 +255,12 @@ impl Entry {
     }
 
     fn read_all(alloc: Global, bytes: &[u8]) -> Result<Entry, EntryRefusal>
-        ensures ok { IfOk result (λ e. IsReadable bytes.now × (e ≡ entry_in bytes.now)) }
+        ensures ok { IfOk result (λ e. IsReadableEntry bytes.now × (e ≡ entry_in bytes.now)) }
         ensures first_refusal { IfErr result (IsEntryRefusal bytes.now) }
     {
         let voted = is_voted(bytes)?;
         let at = certificate_place(voted);
-        if !is_whole(bytes, at) {
+        if !has_whole_certificate(bytes, at) {
             return Err(EntryRefusal::Length);
         }
         let Some((block, parent)) = headers_in(bytes) else {
@@ -300,7 +292,7 @@ impl Entry {
     {
         let certificate = self.certificate.write(alloc)?;
         let mut text = Vec::new(alloc);
-        append(&mut text, &[kind_of(&self.signature)])?;
+        append(&mut text, &[entry_kind(&self.signature)])?;
         append(&mut text, &self.block.to_bytes())?;
         append(&mut text, &self.parent.to_bytes())?;
         put_own_vote(&mut text, &self.block, &self.signature)?;
@@ -362,7 +354,7 @@ impl Entry {
 
     /// The replica's vote for the block, if it voted. An entry does not say whose log it stands in.
     pub fn vote(&self, replica: u16) -> Option<SignedVote>
-        ensures { result ≡ vote_of self.now replica }
+        ensures { result ≡ own_vote_of self.now replica }
     {
         let signature = self.signature?;
         Some(SignedVote {

@@ -3,18 +3,13 @@
 ghost use Rattle.std.specs.Prelude.{◌≡◌, ◌≤◌, ◌-◌, false, length, map, IfOk, ◌<◌, [], slice_index_or};
 ghost use Rattle.wire.specs.Pieces.{number_at};
 ghost use Rattle.log_format.specs.Readings.{Ends, IsReading};
+ghost use Rattle.wire.specs.declared.limits.TheConstants.{MOST_ENTRIES};
 ghost use Rattle.log_format.specs.Fronts.{IsFront, AreFramesOf};
 
 use crate::Status;
 use std::alloc::{AllocError, Global};
 use std::marker::Model;
-use wire::u32_at;
-
-/// The greatest number of frames of one source.
-const MOST_FRAMES: usize = 4096;
-
-/// The greatest length of a payload, in bytes.
-const LONGEST: u32 = 65536;
+use wire::{LONGEST_PAYLOAD, MOST_ENTRIES, u32_at};
 
 /// The whole frames at the front of a stream, each a part of the text, and how the stream ends. Contracts see
 /// the payloads in order and the status.
@@ -45,7 +40,7 @@ enum Front<'a> {
 fn end_of(rest: &[u8], count: usize) -> Status
     requires came { 4 ≤ length rest.now }
     requires none { number_at 4 rest.now 0 ≡ 0 }
-    ensures { Ends false count (4096 - count) rest.now result }
+    ensures { Ends false count (MOST_ENTRIES - count) rest.now result }
 {
     if rest.len() < 8 {
         return Status::Cut;
@@ -59,8 +54,8 @@ fn end_of(rest: &[u8], count: usize) -> Status
 
 // What stands at the front of the rest, behind `count` frames.
 fn front_of<'a>(rest: &'a [u8], count: usize) -> Front<'a>
-    requires { count ≤ 4096 }
-    ensures { IsFront false count (4096 - count) rest.now result }
+    requires { count ≤ MOST_ENTRIES }
+    ensures { IsFront false count (MOST_ENTRIES - count) rest.now result }
 {
     if rest.len() < 4 {
         return Front::End(Status::Cut);
@@ -69,10 +64,10 @@ fn front_of<'a>(rest: &'a [u8], count: usize) -> Front<'a>
     if len == 0 {
         return Front::End(end_of(rest, count));
     }
-    if len > LONGEST {
+    if len as usize > LONGEST_PAYLOAD {
         return Front::End(Status::Broken);
     }
-    if count == MOST_FRAMES {
+    if count == MOST_ENTRIES {
         return Front::End(Status::TooLong);
     }
     let len = len as usize;
@@ -84,7 +79,7 @@ fn front_of<'a>(rest: &'a [u8], count: usize) -> Front<'a>
 
 // The frames at the front of what stands behind the magic, and how it ends.
 fn read_frames<'a>(alloc: Global, text: &'a [u8]) -> Result<Frames<'a>, AllocError>
-    ensures { IfOk result (λ r. AreFramesOf false 4096 text.now r.frames r.status) }
+    ensures { IfOk result (λ r. AreFramesOf false MOST_ENTRIES text.now r.frames r.status) }
 {
     let mut frames = Vec::new(alloc);
     let mut rest = text;

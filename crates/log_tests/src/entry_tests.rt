@@ -186,8 +186,13 @@ fn checked_a2<R: Abort + AllocGlobal>(rt: &R) -> CheckedBlock<'static> {
     block.ok().expect(rt, "a good block")
 }
 
-// The entry of a block and its parent, with a vote of this signature.
-fn entry_of<R: Abort>(rt: &R, block: CheckedBlock, parent: Header, signature: [u8; 1452]) -> Entry {
+/// The entry of a block and its parent, with a vote of this signature.
+pub(crate) fn entry_of<R: Abort>(
+    rt: &R,
+    block: CheckedBlock,
+    parent: Header,
+    signature: [u8; 1452],
+) -> Entry {
     let header = *block.header();
     assert!(rt; header.parent == parent.id() && header.parent_view == parent.view);
     let vote = SignedVote {

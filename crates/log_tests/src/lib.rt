@@ -6,4 +6,6 @@ mod entry_tests;
 #[cfg(test)]
 mod export_tests;
 #[cfg(test)]
+mod limit_tests;
+#[cfg(test)]
 mod log_tests;

@@ -43,8 +43,8 @@ pub(crate) fn failing_after<R: Abort + AllocGlobal>(rt: &R, pass: u32) -> VoteLo
     created(rt, disk)
 }
 
-// The log that a disk holds.
-fn recovered<R: Abort + AllocGlobal, D: Disk>(rt: &R, disk: D) -> VoteLog<D> {
+/// The log that a disk holds.
+pub(crate) fn recovered<R: Abort + AllocGlobal, D: Disk>(rt: &R, disk: D) -> VoteLog<D> {
     let log = VoteLog::recover(rt.alloc(), disk, genesis(rt));
     log.ok().expect(rt, "recover")
 }

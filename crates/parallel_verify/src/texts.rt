@@ -2,7 +2,7 @@
 
 ghost use Rattle.std.specs.Prelude.{◌≡◌, ◌++◌, [], ◌∷◌, IfErr, IfOk, OnOk};
 ghost use Rattle.std.specs.List.{AllZip};
-ghost use Rattle.parallel_verify.specs.Sources.{IsEvidenceOfTexts, IsFaultOfTexts, IsLogOf};
+ghost use Rattle.parallel_verify.specs.Sources.{IsEvidenceOfTexts, IsRefusalOfTexts, IsLogOf};
 
 use crate::SourceText;
 use blocks::CommitteeView;
@@ -48,7 +48,7 @@ pub fn evidence_of<'a>(
     sources: &[SourceText],
 ) -> Result<Evidence<'a>, EvidenceRefusal>
     ensures ok { IfOk result (IsEvidenceOfTexts committee.now sources.now) }
-    ensures refused { IfErr result (IsFaultOfTexts committee.now sources.now) }
+    ensures refused { IfErr result (IsRefusalOfTexts committee.now sources.now) }
 {
     let logs = logs_of(alloc, sources)?;
     evidence_of_logs(alloc, committee, &logs)

@@ -7,7 +7,7 @@ use Rattle.std.proofs.lemmas.List.Elements.{Contains-append_left, Contains-push,
 use Rattle.blocks.specs.Headers.{Header, header_id}
 use Rattle.blocks.specs.Replica.{Stored}
 use Rattle.blocks.specs.Replay.{Durable, replay, replay_from, replay_entry, first_durable, IsLegal, IsLegalFrom, IsLegalEntry}
-use Rattle.replica_core.specs.Restarts.{headers_in, known_headers, IsFirstOfId}
+use Rattle.replica_core.specs.Restarts.{headers_of_list, known_headers, IsFirstOfId}
 use Rattle.replica_core.specs.Tables.{AddsEntry, AddsFirst}
 
 -- ---- replay
@@ -95,14 +95,14 @@ firsts_push list kept new y f a h =
 
 -- ---- one entry more
 
-headers_in-push : (xs : List Stored) (x : Stored) → headers_in (xs ++ x ∷ []) ≡ (headers_in xs ++ x.block ∷ []) ++ x.parent ∷ []
-headers_in-push [] x = refl
-headers_in-push (y ∷ ys) x = ap (λ (hs : List Header). y.block ∷ y.parent ∷ hs) (headers_in-push ys x)
+headers_of_list-push : (xs : List Stored) (x : Stored) → headers_of_list (xs ++ x ∷ []) ≡ (headers_of_list xs ++ x.block ∷ []) ++ x.parent ∷ []
+headers_of_list-push [] x = refl
+headers_of_list-push (y ∷ ys) x = ap (λ (hs : List Header). y.block ∷ y.parent ∷ hs) (headers_of_list-push ys x)
 
 pub known_more : (genesis : Header) (xs : List Stored) (i : ℕ) (x : Stored) → i < length xs → x ≡ get_or xs i x → known_headers genesis (take (i + 1) xs) ≡ (known_headers genesis (take i xs) ++ x.block ∷ []) ++ x.parent ∷ []
 known_more genesis xs i x l e =
     ap (known_headers genesis) (take_more xs i x l)
-    ∙ ap (λ (hs : List Header). genesis ∷ hs) (headers_in-push (take i xs) (get_or xs i x))
+    ∙ ap (λ (hs : List Header). genesis ∷ hs) (headers_of_list-push (take i xs) (get_or xs i x))
     ∙ ap (λ (y : Stored). (known_headers genesis (take i xs) ++ y.block ∷ []) ++ y.parent ∷ []) (sym e)
 
 pub firsts_more : (genesis : Header) (xs : List Stored) (i : ℕ) (x : Stored) (kept new : List Header) → i < length xs → x ≡ get_or xs i x → AreFirsts (known_headers genesis (take i xs)) kept → AddsEntry kept new x → AreFirsts (known_headers genesis (take (i + 1) xs)) new

@@ -9,7 +9,7 @@ use Rattle.std.proofs.lemmas.Slice.Eq.{bytes_eq-Decides}
 use Rattle.blocks.specs.Headers.{Header, header_id}
 use Rattle.blocks.specs.Chains.{NoCollision}
 use Rattle.blocks.specs.Chains.{HasNone}
-use Rattle.replica_core.specs.Tables.{AllDiffer, ArePlaces, HasId}
+use Rattle.replica_core.specs.Tables.{AllDiffer, ArePlacesById, HasId}
 
 -- one element stands at a place
 one_at : {X : Type 0} (xs : List X) (k : ℕ) (x y : X) → k < length xs → get_or xs k x ≡ x → y ≡ get_or xs k y → y ≡ x
@@ -18,13 +18,13 @@ one_at (z ∷ xs) zero x y l e f = f ∙ e
 one_at (z ∷ xs) (suc k) x y l e f = one_at xs k x y (omega arith) e f
 
 -- the header at the place of an id
-pub found : (hs : List Header) (place : List ℕ → Option ℕ) (id : List ℕ) (k : ℕ) (h : Header) → ArePlaces hs place → place id ≡ Some k → h ≡ slice_index_or hs k h → HasId hs id h
+pub found : (hs : List Header) (place : List ℕ → Option ℕ) (id : List ℕ) (k : ℕ) (h : Header) → ArePlacesById hs place → place id ≡ Some k → h ≡ slice_index_or hs k h → HasId hs id h
 found hs place id k h p e is =
     let b = p.back id k e in
     let same : h ≡ b.0 = one_at hs k b.0 h b.1 b.2 is in
     ((k, b.1, sym is), ap header_id same ∙ b.3)
 
-pub same_places : (hs : List Header) (old new : List ℕ → Option ℕ) → ArePlaces hs old → ((q : List ℕ) → new q ≡ old q) → ArePlaces hs new
+pub same_places : (hs : List Header) (old new : List ℕ → Option ℕ) → ArePlacesById hs old → ((q : List ℕ) → new q ≡ old q) → ArePlacesById hs new
 same_places hs old new p same = record {
   each = λ k h l e. same (header_id h) ∙ p.each k h l e;
   back = λ id k e. p.back id k (sym (same id) ∙ e);
@@ -45,7 +45,7 @@ at_end hs h g k l e =
     length-push [] x = refl
     length-push (y ∷ xs) x = let i = length-push xs x in omega arith
 
-pub pushed_places : (hs : List Header) (h : Header) (old new : List ℕ → Option ℕ) → ArePlaces hs old → HasNone hs (header_id h) → ((q : List ℕ) → new q ≡ cond (bytes_eq (header_id h) q) (Some (length hs)) (old q)) → ArePlaces (hs ++ h ∷ []) new
+pub pushed_places : (hs : List Header) (h : Header) (old new : List ℕ → Option ℕ) → ArePlacesById hs old → HasNone hs (header_id h) → ((q : List ℕ) → new q ≡ cond (bytes_eq (header_id h) q) (Some (length hs)) (old q)) → ArePlacesById (hs ++ h ∷ []) new
 pushed_places hs h old new p none now = record {
   each = λ k g l e. (elim (at_end hs h g k l e) [
     | inl b ↦ now (header_id g) ∙ ap (λ (t : Bool). cond t (Some (length hs)) (old (header_id g))) (apart (header_id h) (header_id g) (λ s. none g (k, b.0, b.1) (sym s))) ∙ p.each k g b.0 b.1
@@ -75,11 +75,11 @@ from_ok (Ok v) i p = p
 from_ok (Err e) i p = absurd (false≢true i)
 
 -- the same, where the id and the place are known by other names
-pub pushed_at : (hs : List Header) (h : Header) (id : List ℕ) (n : ℕ) (old new : List ℕ → Option ℕ) → ArePlaces hs old → HasNone hs (header_id h) → id ≡ header_id h → n ≡ length hs → ((q : List ℕ) → new q ≡ cond (bytes_eq id q) (Some n) (old q)) → ArePlaces (hs ++ h ∷ []) new
+pub pushed_at : (hs : List Header) (h : Header) (id : List ℕ) (n : ℕ) (old new : List ℕ → Option ℕ) → ArePlacesById hs old → HasNone hs (header_id h) → id ≡ header_id h → n ≡ length hs → ((q : List ℕ) → new q ≡ cond (bytes_eq id q) (Some n) (old q)) → ArePlacesById (hs ++ h ∷ []) new
 pushed_at hs h id n old new p none is at now =
     pushed_places hs h old new p none (λ q. now q ∙ ap (λ (i : List ℕ). cond (bytes_eq i q) (Some n) (old q)) is ∙ ap (λ (m : ℕ). cond (bytes_eq (header_id h) q) (Some m) (old q)) at)
 
-pub no_collision : (hs : List Header) (place : List ℕ → Option ℕ) → ArePlaces hs place → NoCollision hs
+pub no_collision : (hs : List Header) (place : List ℕ → Option ℕ) → ArePlacesById hs place → NoCollision hs
 no_collision hs place p h k m n e =
     let s : Some m.0 ≡ Some n.0 = sym (p.each m.0 h m.1 m.2) ∙ ap place e ∙ p.each n.0 k n.1 n.2 in
     let i : m.0 ≡ n.0 = same_Some m.0 n.0 s in
@@ -90,7 +90,7 @@ at_itself [] k d l = absurd (omega arith)
 at_itself (x ∷ hs) zero d l = refl
 at_itself (x ∷ hs) (suc k) d l = at_itself hs k d (omega arith)
 
-pub all_differ : (hs : List Header) (place : List ℕ → Option ℕ) → ArePlaces hs place → AllDiffer hs
+pub all_differ : (hs : List Header) (place : List ℕ → Option ℕ) → ArePlacesById hs place → AllDiffer hs
 all_differ hs place p i j d l m e =
     let f = p.each i (get_or hs i d) (omega arith) (at_itself hs i d (omega arith)) in
     let g = p.each j (get_or hs j d) m (at_itself hs j d m) in

@@ -4,8 +4,9 @@ use Rattle.std.specs.List.{Contains}
 use Rattle.blocks.specs.Headers.{Header}
 use Rattle.replica_core.specs.declared.refusal.CoreRefusal.{CoreRefusal}
 use Rattle.replica_core.specs.declared.refusal.CoreRefusal.TheVariants.{Memory, UnknownParent, ParentView, TreeFull, SameId}
+use Rattle.replica_core.specs.declared.replica.TheConstants.{MOST_HEADERS}
 use Rattle.replica_core.specs.Cores.{Core}
-use Rattle.replica_core.specs.Tables.{HasId, HasOwnId}
+use Rattle.replica_core.specs.Tables.{HasId, HasIdAlone}
 
 -- a header of the id that b names as its parent is held
 abbrev pub HasParent : Core → Header → Type 0
@@ -17,14 +18,14 @@ HasParentView c b = (p : Header) → HasId c.headers b.parent p → p.view ≡ b
 
 -- b is held, or fewer than 65,536 headers are
 abbrev pub HasPlace : Core → Header → Type 0
-HasPlace c b = Contains c.headers b ⊎ (length c.headers < 65536)
+HasPlace c b = Contains c.headers b ⊎ (length c.headers < MOST_HEADERS)
 
 -- b passes all tests
 pub record IsAdmissible (c : Core) (b : Header) : Type 0 where
   pub parent : HasParent c b
   pub parent_view : HasParentView c b
   pub place : HasPlace c b
-  pub own_id : HasOwnId c.headers b
+  pub own_id : HasIdAlone c.headers b
 
 -- b passes the tests before this one, and fails this one; memory is asked for last, and only for a header
 -- that is new
@@ -33,7 +34,7 @@ IsCoreRefusal Memory c b = IsAdmissible c b × (Contains c.headers b → ⊥) ×
 IsCoreRefusal UnknownParent c b = HasParent c b → ⊥
 IsCoreRefusal ParentView c b = HasParent c b × (HasParentView c b → ⊥)
 IsCoreRefusal TreeFull c b = HasParent c b × HasParentView c b × (HasPlace c b → ⊥)
-IsCoreRefusal SameId c b = HasParent c b × HasParentView c b × HasPlace c b × (HasOwnId c.headers b → ⊥)
+IsCoreRefusal SameId c b = HasParent c b × HasParentView c b × HasPlace c b × (HasIdAlone c.headers b → ⊥)
 
 -- the number that docs/REFUSALS.md gives a refusal
 abbrev pub core_refusal_number : CoreRefusal → ℕ

@@ -1,6 +1,7 @@
 -- The core of a replica: its state, and the headers that it holds.
 use Rattle.std.specs.Prelude.{◌≡◌, ◌≤◌, ℕ, List, length}
 use Rattle.std.specs.List.{Contains}
+use Rattle.replica_core.specs.declared.replica.TheConstants.{MOST_HEADERS}
 use Rattle.blocks.specs.Headers.{Header, IsGenesis}
 use Rattle.blocks.specs.Chains.{IsLinked, NoCollision}
 use Rattle.blocks.specs.Replica.{ReplicaState}
@@ -23,7 +24,7 @@ pub record IsHeaderTree (genesis : Header) (hs : List Header) : Type 0 where
   pub linked : (h : Header) → Contains hs h → IsLinked hs genesis h
   pub apart : NoCollision hs
   pub once : AllDiffer hs
-  pub most : length hs ≤ 65536
+  pub most : length hs ≤ MOST_HEADERS
 
 -- what outlives a restart, with a vote view
 abbrev pub state_of : ℕ → Durable → ReplicaState

@@ -2,6 +2,7 @@
 -- "Chained HotStuff"); profile: views, not heights.
 use Rattle.std.specs.Prelude.{◌≡◌, ◌⊎◌, ◌<◌, ◌+◌, ◌==◌, ◌&&◌, ◌++◌, ℕ, List, [], ◌∷◌, length, Bool, nat_lt, Option, None, Some, if◌then◌else◌}
 use Rattle.std.specs.List.{Contains}
+use Rattle.replica_core.specs.declared.replica.TheConstants.{MOST_HEADERS}
 use Rattle.blocks.specs.Headers.{Header, NamesParent, header_id}
 use Rattle.blocks.specs.Chains.{IsChain, AllIn}
 use Rattle.blocks.specs.Replica.{ReplicaState, Event, Vote, Raise, Pass, IsAllowed, after}
@@ -28,13 +29,13 @@ pub record IsHeldParent (c : Core) (b p : Header) : Type 0 where
 abbrev pub IsActOn : Header → ReplicaState → Header → List Header → Act → Type 0
 IsActOn genesis s b ps act.Vote = IsAllowed genesis s (Vote b ps)
 IsActOn genesis s b ps act.Raise = (IsAllowed genesis s (Vote b ps) → ⊥) × IsAllowed genesis s (Raise b ps)
-IsActOn genesis s b ps act.Nothing = (IsAllowed genesis s (Vote b ps) → ⊥) × (IsAllowed genesis s (Raise b ps) → ⊥)
+IsActOn genesis s b ps act.Pass = (IsAllowed genesis s (Vote b ps) → ⊥) × (IsAllowed genesis s (Raise b ps) → ⊥)
 
 -- the event that an act is
 abbrev pub event_of : Act → Header → List Header → Event
 event_of act.Vote b ps = Vote b ps
 event_of act.Raise b ps = Raise b ps
-event_of act.Nothing b ps = Pass b ps
+event_of act.Pass b ps = Pass b ps
 
 -- ---- the commit
 
@@ -60,7 +61,7 @@ pub record CommitsBy (c : Core) (p : Header) (id : Option (List ℕ)) : Type 0 w
 -- there is memory and a place for a block that is not held, and its id is new
 pub record HasRoomFor (c : Core) (b : Header) : Type 0 where
   pub room : 0 < c.room
-  pub place : length c.headers < 65536
+  pub place : length c.headers < MOST_HEADERS
   pub new_id : HasNone c.headers (header_id b)
 
 -- the act and the commit for the plan's block, by its chain through the plan's parent; the block is held

@@ -8,13 +8,13 @@ use Rattle.blocks.specs.Replica.{Stored}
 use Rattle.replica_core.specs.Tables.{AllDiffer}
 
 -- of each entry the block, and then its parent
-abbrev pub headers_in : List Stored → List Header
-headers_in [] = []
-headers_in (x ∷ xs) = x.block ∷ x.parent ∷ headers_in xs
+abbrev pub headers_of_list : List Stored → List Header
+headers_of_list [] = []
+headers_of_list (x ∷ xs) = x.block ∷ x.parent ∷ headers_of_list xs
 
 -- the headers that are known: genesis first
 abbrev pub known_headers : Header → List Stored → List Header
-known_headers genesis list = genesis ∷ headers_in list
+known_headers genesis list = genesis ∷ headers_of_list list
 
 -- h stands in the list, and the first header of its id is h
 abbrev pub IsFirstOfId : List Header → Header → Type 0

@@ -15,8 +15,8 @@ abbrev pub HasId : List Header → List ℕ → Header → Type 0
 HasId hs id h = Contains hs h × (header_id h ≡ id)
 
 -- no header of the list but b has the id of b
-abbrev pub HasOwnId : List Header → Header → Type 0
-HasOwnId hs b = (h : Header) → HasId hs (header_id b) h → h ≡ b
+abbrev pub HasIdAlone : List Header → Header → Type 0
+HasIdAlone hs b = (h : Header) → HasId hs (header_id b) h → h ≡ b
 
 -- the parent that b names stands in the list, in an earlier view
 abbrev pub HasParentIn : List Header → Header → Type 0
@@ -37,6 +37,6 @@ abbrev pub AddsEntry : (old new : List Header) → Stored → Type 0
 AddsEntry old new x = (middle : List Header) × AddsFirst old middle x.block × AddsFirst middle new x.parent
 
 -- the places of the headers by their ids, and nothing else
-pub record ArePlaces (hs : List Header) (place : List ℕ → Option ℕ) : Type 0 where
+pub record ArePlacesById (hs : List Header) (place : List ℕ → Option ℕ) : Type 0 where
   pub each : (k : ℕ) (h : Header) → k < length hs → slice_index_or hs k h ≡ h → place (header_id h) ≡ Some k
   pub back : (id : List ℕ) (k : ℕ) → place id ≡ Some k → (h : Header) × (k < length hs) × (slice_index_or hs k h ≡ h) × (header_id h ≡ id)

@@ -10,7 +10,7 @@ pub enum Act {
     /// It raises its lock to the parent's parent, without a vote.
     Raise,
     /// Neither: the block is held and no more.
-    Nothing,
+    Pass,
 }
 
 /// What a core does with a block, and what is committed by it.

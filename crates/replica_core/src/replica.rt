@@ -6,6 +6,7 @@ ghost use Rattle.blocks.specs.Chains.{IsChain};
 ghost use Rattle.blocks.specs.Headers.{Header as HeaderValue, IsGenesis, NamesParent};
 ghost use Rattle.blocks.specs.Replay.{IsOnLock, replay};
 ghost use Rattle.blocks.specs.Replica.{Raise, Vote, after, first_state, timed_out};
+ghost use Rattle.wire.specs.declared.limits.TheConstants.{MOST_ENTRIES};
 ghost use Rattle.replica_core.specs.Admission.{HasPlace, IsAdmissible, IsCoreRefusal};
 ghost use Rattle.replica_core.specs.Cores.{IsHeaderTree, IsSameCore, restarted_with};
 ghost use Rattle.replica_core.specs.Plans.{CommitsBy, HasRoomFor, HoldsAlso, IsActOn, IsChainOf, IsHeldParent, IsPlan, TakesEvent, event_of, is_three_chain};
@@ -85,7 +86,7 @@ impl Core {
     /// memory was refused.
     pub fn restart(alloc: Global, genesis: Header, entries: &[Stored]) -> Result<Core, AllocError>
         requires genesis { IsGenesis genesis }
-        requires few { length entries.now ≤ 4096 }
+        requires few { length entries.now ≤ MOST_ENTRIES }
         ensures genesis { IfOk result (λ c. c.genesis ≡ genesis) }
         ensures state { IfOk result (λ c. c.state ≡ restarted_with (replay genesis entries.now)) }
         ensures headers { IfOk result (λ c. HoldsLinked genesis entries.now c.headers) }
@@ -194,7 +195,7 @@ impl Core {
         } else if self.durable.lock().view < parent.parent_view {
             Act::Raise
         } else {
-            Act::Nothing
+            Act::Pass
         }
     }
 
@@ -333,7 +334,7 @@ impl Core {
         match act {
             Act::Vote => self.vote(block, parent),
             Act::Raise => self.raise(block, parent),
-            Act::Nothing => {}
+            Act::Pass => {}
         }
     }
 

@@ -3,6 +3,7 @@
 ghost use Rattle.std.specs.Prelude.{◌≡◌, ◌⊎◌, ◌↔◌, ◌<◌, ◌≤◌, ◌+◌, ◌*◌, length, IsTrue, IfOk, OnOk};
 ghost use Rattle.std.specs.List.{Contains};
 ghost use Rattle.std.specs.List.Sorted.{IsNonDecreasingBy, IsPermutation};
+ghost use Rattle.wire.specs.declared.limits.TheConstants.{MOST_ENTRIES};
 ghost use Rattle.blocks.specs.Chains.{NoCollision};
 ghost use Rattle.blocks.specs.Headers.{Header as HeaderValue, IsGenesis};
 ghost use Rattle.blocks.specs.Replay.{replay};
@@ -106,7 +107,7 @@ pub fn restored_headers(
     entries: &[Stored],
 ) -> Result<HeaderTable, AllocError>
     requires genesis { IsGenesis genesis.now }
-    requires few { length entries.now ≤ 4096 }
+    requires few { length entries.now ≤ MOST_ENTRIES }
     ensures headers { IfOk result (λ t. HoldsLinked genesis.now entries.now t.headers) }
     ensures tree { IfOk result (λ t. IsHeaderTree genesis.now t.headers) }
 {

@@ -5,7 +5,7 @@ ghost use Rattle.std.specs.List.{Contains};
 ghost use Rattle.blocks.specs.Chains.{NoCollision};
 ghost use Rattle.blocks.specs.Headers.{header_id};
 ghost use Rattle.blocks.specs.Chains.{HasNone};
-ghost use Rattle.replica_core.specs.Tables.{AddsFirst, AllDiffer, HasId, HasOwnId};
+ghost use Rattle.replica_core.specs.Tables.{AddsFirst, AllDiffer, HasId, HasIdAlone};
 
 use blocks::{Header, Id, NamedHeader};
 use std::alloc::{AllocError, Global};
@@ -24,13 +24,13 @@ impl Model for HeaderTable {
     ghost use Rattle.std.specs.Prelude.{◌-◌, min, vec_len, vec_capacity};
     ghost use Rattle.std.specs.Str.{bytes_eq};
     ghost use Rattle.std.specs.HashMap.{get, spare};
-    ghost use Rattle.replica_core.specs.Tables.{HeaderTable as HeaderTableValue, ArePlaces};
+    ghost use Rattle.replica_core.specs.Tables.{HeaderTable as HeaderTableValue, ArePlacesById};
 
     ghost Value = { HeaderTableValue };
 
     ghost view = { λ t. record { headers = t.headers.items; room = min (spare t.places) (vec_capacity t.headers - vec_len t.headers) } };
 
-    ghost invariant = { λ t. ArePlaces t.headers.items (get bytes_eq t.places) };
+    ghost invariant = { λ t. ArePlacesById t.headers.items (get bytes_eq t.places) };
 }
 
 impl HeaderTable {
@@ -73,7 +73,7 @@ impl HeaderTable {
 
     /// Whether no other header has the header's id.
     pub fn has_own_id(&self, header: &NamedHeader) -> bool
-        ensures { IsTrue result ↔ HasOwnId self.now.headers header.now }
+        ensures { IsTrue result ↔ HasIdAlone self.now.headers header.now }
     {
         match self.get(header.id()) {
             Some(held) => *held == *header.header(),

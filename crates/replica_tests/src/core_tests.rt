@@ -64,7 +64,7 @@ fn is_legal(genesis: &NamedHeader, entries: &[Stored]) -> bool
 
 // What is stored of a plan that was followed.
 fn store(entries: &mut Vec<Stored>, plan: &Plan) -> Result<(), Fail> {
-    if plan.act == Act::Nothing {
+    if plan.act == Act::Pass {
         return Ok(());
     }
     entries.push(Stored {
@@ -130,7 +130,7 @@ enum Step {
     Does(Block, Act),
     // A block is delivered, and refused.
     IsRefused(Block, CoreRefusal),
-    // A block is delivered, and commits the parent of the other header, or nothing.
+    // A block is delivered and voted for, and commits the parent of the other header, or nothing.
     Commits(Block, Option<&'static [u8]>),
     // The views up to 9 are given up.
     TimesOut,
@@ -161,9 +161,14 @@ fn is_refused(replica: &mut Replica, block: Block, want: CoreRefusal) -> Result<
     Ok(replica.refusal_of(block)? == Some(want))
 }
 
-fn commits(replica: &mut Replica, block: Block, above: Option<&[u8]>) -> Result<bool, Fail> {
+fn votes_and_commits(
+    replica: &mut Replica,
+    block: Block,
+    above: Option<&[u8]>,
+) -> Result<bool, Fail> {
     let id = named_by(above)?;
-    Ok(replica.deliver(block)?.committed == id)
+    let plan = replica.deliver(block)?;
+    Ok(plan.act == Act::Vote && plan.committed == id)
 }
 
 fn is_locked_on(replica: &Replica, above: &[u8], view: u64) -> Result<bool, Fail> {
@@ -180,7 +185,7 @@ fn takes(replica: &mut Replica, step: Step) -> Result<bool, Fail> {
     match step {
         Step::Does(block, act) => does(replica, block, act),
         Step::IsRefused(block, refusal) => is_refused(replica, block, refusal),
-        Step::Commits(block, above) => commits(replica, block, above),
+        Step::Commits(block, above) => votes_and_commits(replica, block, above),
         Step::TimesOut => Ok(replica.times_out()),
         Step::Restarts => replica.restart(),
         Step::IsLockedOnParent(above, view) => is_locked_on(replica, above, view),
@@ -251,13 +256,13 @@ fn raised_lock_survives_restart(rt: HostRuntime) -> Result<(), Fail> {
         Step::Does(a1(), Act::Vote),
         Step::Does(a2(), Act::Vote),
         Step::Does(a3(), Act::Vote),
-        Step::Does(w4(), Act::Nothing),
+        Step::Does(w4(), Act::Pass),
         Step::TimesOut,
-        Step::Does(x5(), Act::Nothing),
+        Step::Does(x5(), Act::Pass),
         Step::Does(x6(), Act::Raise),
         Step::Restarts,
         Step::IsLockedOnParent(core_blocks::x5(), 4),
-        Step::Does(w4(), Act::Nothing),
+        Step::Does(w4(), Act::Pass),
     ];
     runs(&rt, rt.alloc(), &steps)
 }
@@ -268,7 +273,7 @@ fn timeout_is_forgotten_at_restart(rt: HostRuntime) -> Result<(), Fail> {
         Step::Does(a1(), Act::Vote),
         Step::Does(a3_on_a1(), Act::Vote),
         Step::TimesOut,
-        Step::Does(f5(), Act::Nothing),
+        Step::Does(f5(), Act::Pass),
         Step::Restarts,
         Step::Does(f5(), Act::Vote),
     ];
@@ -285,7 +290,7 @@ fn raise_without_vote_is_stored(rt: HostRuntime) -> Result<(), Fail> {
         Step::Restarts,
         Step::HasVoteView(2),
         Step::IsLockedOnParent(texts::header_a2(), 1),
-        Step::Does(z4(), Act::Nothing),
+        Step::Does(z4(), Act::Pass),
     ];
     runs(&rt, rt.alloc(), &steps)
 }
@@ -294,8 +299,8 @@ fn raise_without_vote_is_stored(rt: HostRuntime) -> Result<(), Fail> {
 #[test]
 fn three_views_in_a_row_commit(rt: HostRuntime) -> Result<(), Fail> {
     let steps = [
-        Step::Does(a1(), Act::Vote),
-        Step::Does(a2(), Act::Vote),
+        Step::Commits(a1(), None),
+        Step::Commits(a2(), None),
         Step::Commits(a3(), None),
         Step::Commits(a4(), Some(texts::header_a2())),
     ];
@@ -309,9 +314,9 @@ fn a_restart_drops_a_block_whose_parent_was_not_stored(rt: HostRuntime) -> Resul
         Step::Does(a1(), Act::Vote),
         Step::Does(a2(), Act::Vote),
         Step::Does(a3(), Act::Vote),
-        Step::Does(w4(), Act::Nothing),
+        Step::Does(w4(), Act::Pass),
         Step::TimesOut,
-        Step::Does(x5(), Act::Nothing),
+        Step::Does(x5(), Act::Pass),
         Step::Does(x6(), Act::Raise),
         Step::HoldsParent(core_blocks::x6()),
         Step::Restarts,

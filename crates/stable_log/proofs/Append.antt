@@ -4,9 +4,10 @@ use Rattle.std.proofs.lemmas.List.{take_at, map-append}
 use Rattle.std.proofs.lemmas.List.Elements.{All-push, All-weaker}
 use Rattle.stable_log.specs.Crash.{Only, LeavesOnly}
 use Rattle.stable_log.specs.Disk.{written}
-use Rattle.stable_log.specs.Image.{IsBeforeOrAfter, IsPayload, StandsFor, LeavesList, journal_text, staged_text}
+use Rattle.wire.specs.Payloads.{IsPayload}
+use Rattle.stable_log.specs.Image.{IsBeforeOrAfter, StandsFor, LeavesList, journal_text, staged_text}
 use Rattle.stable_log.specs.MemoryLaws.{length-written, torn_written}
-use Rattle.stable_log.specs.Places.{IsAtRest, IsEntryStep, IsJournal, payloads_at, piece_at, with_entry}
+use Rattle.stable_log.specs.Places.{IsAtRest, IsPayloadStep, IsJournal, payloads_at, piece_at, with_text}
 use Rattle.stable_log.specs.declared.reading.Place.{Place}
 use Rattle.stable_log.proofs.Crash.{stage_stands, IsStaged, is_staged, gate_stands, opened_is, with_payload, long_text}
 use Rattle.stable_log.proofs.Moments.{weaker}
@@ -15,12 +16,12 @@ use Rattle.stable_log.proofs.Told.{some_if, if_some, mapped_some}
 
 -- the list with its payload or without
 pub step_leaves : (bs : List ℕ) (list : List (List ℕ)) (p : List ℕ) (end : ℕ) → StandsFor bs list → end ≡ length (journal_text list) → IsPayload p → length list < 4096
-    → (image : List ℕ) → IsEntryStep bs end (staged_text p) image → IsBeforeOrAfter list p image
+    → (image : List ℕ) → IsPayloadStep bs end (staged_text p) image → IsBeforeOrAfter list p image
 step_leaves bs list p end s gate_at size few image (inl torn) = inl (stage_stands bs list end (length (staged_text p)) s gate_at image torn)
 step_leaves bs list p end s gate_at size few image (inr torn) = gate_stands (written bs (end + 1) (staged_text p)) list p end (is_staged bs list p end s gate_at size few) gate_at image torn
 
 -- and all that stands before the gate
-pub step_front : (bs text : List ℕ) (end : ℕ) → end ≤ length bs → (image : List ℕ) → IsEntryStep bs end text image → take end image ≡ take end bs
+pub step_front : (bs text : List ℕ) (end : ℕ) → end ≤ length bs → (image : List ℕ) → IsPayloadStep bs end text image → take end image ≡ take end bs
 step_front bs text end fits image (inl torn) = torn_front end (end + 1) (length text) bs image (omega arith) fits torn
 step_front bs text end fits image (inr torn) =
     let mid = written bs (end + 1) text in
@@ -33,7 +34,7 @@ module _ (o : Option (List ℕ)) (images : List ℕ → Type 0) (places : List P
   list bs = payloads_at (Some bs) places
 
   abbrev whole : List ℕ → List ℕ
-  whole bs = with_entry bs end (staged_text p)
+  whole bs = with_text bs end (staged_text p)
 
   abbrev place : Place
   place = record { at = end + 5; len = length p }
@@ -50,17 +51,17 @@ module _ (o : Option (List ℕ)) (images : List ℕ → Type 0) (places : List P
       let at = at_rest bs is in
       omega (arith, ap length at.stands.split, length-append (journal_text (list bs)) (at.stands.gate ∷ at.stands.rest), at.gate_at))
 
-  step_keeps : (bs : List ℕ) → o ≡ Some bs → (image : List ℕ) → IsEntryStep bs end text image → IsBeforeOrAfter (payloads_at o places) p image
+  step_keeps : (bs : List ℕ) → o ≡ Some bs → (image : List ℕ) → IsPayloadStep bs end text image → IsBeforeOrAfter (payloads_at o places) p image
   step_keeps bs is image step =
       let at = at_rest bs is in
       subst (λ (v : Option (List ℕ)). IsBeforeOrAfter (payloads_at v places) p image) (sym is)
-      (step_leaves bs (list bs) p end at.stands at.gate_at size (short bs) image (subst (λ (t : List ℕ). IsEntryStep bs end t image) is_text step))
+      (step_leaves bs (list bs) p end at.stands at.gate_at size (short bs) image (subst (λ (t : List ℕ). IsPayloadStep bs end t image) is_text step))
 
-  module _ {D : Type 0} (moment : D → ℕ) (images_since : D → ℕ → List ℕ → Type 0) (old new : D) (run : (bs : List ℕ) → o ≡ Some bs → Only bs images → LeavesOnly moment images_since old new (IsEntryStep bs end text)) where
+  module _ {D : Type 0} (moment : D → ℕ) (images_since : D → ℕ → List ℕ → Type 0) (old new : D) (run : (bs : List ℕ) → o ≡ Some bs → Only bs images → LeavesOnly moment images_since old new (IsPayloadStep bs end text)) where
     -- at any moment a crash leaves the list with the payload or without
     pub run_keeps : IfSome o (λ _. LeavesOnly moment images_since old new (IsBeforeOrAfter (payloads_at o places) p))
     run_keeps = some_if o (λ _. LeavesOnly moment images_since old new (IsBeforeOrAfter (payloads_at o places) p)) (λ bs is.
-        weaker moment images_since old new (IsEntryStep bs end text) (IsBeforeOrAfter (payloads_at o places) p) (run bs is (at_rest bs is).durable) (step_keeps bs is))
+        weaker moment images_since old new (IsPayloadStep bs end text) (IsBeforeOrAfter (payloads_at o places) p) (run bs is (at_rest bs is).durable) (step_keeps bs is))
 
     -- whatever was written, the list is as before
     pub list_kept : (o1 : Option (List ℕ)) (images1 : List ℕ → Type 0) → IsSome o1 ↔ IsSome o → IfSome o1 images1
@@ -70,12 +71,12 @@ module _ (o : Option (List ℕ)) (images : List ℕ → Type 0) (places : List P
         let so_far = run bs is (at_rest bs is).durable in
         step_front bs text end (omega (arith, inside)) cs (so_far.each cs (counts_now (moment old) cs so_far.later (if_some o1 images1 cs read is1)))) j.placed.inside
 
-  module _ (o1 : Option (List ℕ)) (images1 : List ℕ → Type 0) (done : o1 ≡ option_map (λ bs. with_entry bs end text) o) (durable : IfSome o1 (λ bs. Only bs images1)) where
-    told : o1 ≡ option_map (λ bs. with_entry bs end (staged_text p)) o
-    told = done ∙ ap (λ (t : List ℕ). option_map (λ bs. with_entry bs end t) o) is_text
+  module _ (o1 : Option (List ℕ)) (images1 : List ℕ → Type 0) (done : o1 ≡ option_map (λ bs. with_text bs end text) o) (durable : IfSome o1 (λ bs. Only bs images1)) where
+    told : o1 ≡ option_map (λ bs. with_text bs end (staged_text p)) o
+    told = done ∙ ap (λ (t : List ℕ). option_map (λ bs. with_text bs end t) o) is_text
 
     told_whole : (bs : List ℕ) → o ≡ Some bs → o1 ≡ Some (whole bs)
-    told_whole bs is = told ∙ ap (λ (v : Option (List ℕ)). option_map (λ l. with_entry l end (staged_text p)) v) is
+    told_whole bs is = told ∙ ap (λ (v : Option (List ℕ)). option_map (λ l. with_text l end (staged_text p)) v) is
 
     only_whole : (bs : List ℕ) → o ≡ Some bs → Only (whole bs) images1
     only_whole bs is = if_some o1 (λ l. Only l images1) (whole bs) durable (told_whole bs is)
@@ -118,7 +119,7 @@ module _ (o : Option (List ℕ)) (images : List ℕ → Type 0) (places : List P
         small = All-push (λ (q : Place). q.len ≤ 65536) places place j.placed.small size.1;
       };
       at_rest = λ _ cs is1.
-          let from = mapped_some (λ bs. with_entry bs end (staged_text p)) o cs (sym told ∙ is1) in
+          let from = mapped_some (λ bs. with_text bs end (staged_text p)) o cs (sym told ∙ is1) in
           let bs = from.0 in
           let is = from.1 in
           let now : IsAtRest (whole bs) images1 (payloads_at (Some (whole bs)) (places ++ place ∷ [])) (end + 5 + length p) = record {

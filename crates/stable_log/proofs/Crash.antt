@@ -7,15 +7,16 @@ use Rattle.std.specs.List.{flat_map}
 use Rattle.byteorder.specs.Endian.{big_bytes}
 use Rattle.stable_log.specs.Crash.{Torn}
 use Rattle.stable_log.specs.Disk.{written}
-use Rattle.stable_log.specs.Image.{magic, entry_text, staged_text, journal_text, IsPayload, StandsFor, IsBeforeOrAfter}
+use Rattle.wire.specs.Payloads.{IsPayload}
+use Rattle.stable_log.specs.Image.{magic, payload_text, staged_text, journal_text, StandsFor, IsBeforeOrAfter}
 
 flat_map-append : (f : List ℕ → List ℕ) (xs : List (List ℕ)) (x : List ℕ) → flat_map f (xs ++ x ∷ []) ≡ flat_map f xs ++ f x
 flat_map-append f [] x = append-nil (f x)
 flat_map-append f (y ∷ xs) x = ap (λ (l : List ℕ). f y ++ l) (flat_map-append f xs x) ∙ sym (append_assoc (f y) (flat_map f xs) (f x))
 
 -- the text of one payload more
-pub text-push : (payloads : List (List ℕ)) (p : List ℕ) → journal_text (payloads ++ p ∷ []) ≡ journal_text payloads ++ entry_text p
-text-push payloads p = ap (λ (l : List ℕ). magic ++ l) (flat_map-append entry_text payloads p) ∙ sym (append_assoc magic (flat_map entry_text payloads) (entry_text p))
+pub text-push : (payloads : List (List ℕ)) (p : List ℕ) → journal_text (payloads ++ p ∷ []) ≡ journal_text payloads ++ payload_text p
+text-push payloads p = ap (λ (l : List ℕ). magic ++ l) (flat_map-append payload_text payloads p) ∙ sym (append_assoc magic (flat_map payload_text payloads) (payload_text p))
 
 -- an open gate with what `append` staged behind it is an entry and a closed gate
 pub opened_entry : (payloads : List (List ℕ)) (p junk : List ℕ) → journal_text payloads ++ 1 ∷ (staged_text p ++ junk) ≡ journal_text (payloads ++ p ∷ []) ++ 0 ∷ junk
@@ -23,7 +24,7 @@ opened_entry payloads p junk =
     let size = big_bytes 4 (length p) in
     let inner : staged_text p ++ junk ≡ (size ++ p) ++ 0 ∷ junk =
     append_assoc size (p ++ 0 ∷ []) junk ∙ ap (λ (l : List ℕ). size ++ l) (append_assoc p (0 ∷ []) junk) ∙ sym (append_assoc size p (0 ∷ junk)) in
-    ap (λ (l : List ℕ). journal_text payloads ++ 1 ∷ l) inner ∙ sym (append_assoc (journal_text payloads) (entry_text p) (0 ∷ junk))
+    ap (λ (l : List ℕ). journal_text payloads ++ 1 ∷ l) inner ∙ sym (append_assoc (journal_text payloads) (payload_text p) (0 ∷ junk))
     ∙ ap (λ (l : List ℕ). l ++ 0 ∷ junk) (sym (text-push payloads p))
 
 -- a file of a text, a gate and what stands behind it
@@ -142,4 +143,4 @@ with_payload mid payloads payload end s gate_at = opened_stands payloads payload
 
 pub long_text : (payloads : List (List ℕ)) (payload : List ℕ) → length (journal_text (payloads ++ payload ∷ [])) ≡ length (journal_text payloads) + 5 + length payload
 long_text payloads payload =
-    ap length (text-push payloads payload) ∙ omega (arith, length-append (journal_text payloads) (entry_text payload), length-append (big_bytes 4 (length payload)) payload)
+    ap length (text-push payloads payload) ∙ omega (arith, length-append (journal_text payloads) (payload_text payload), length-append (big_bytes 4 (length payload)) payload)

@@ -4,10 +4,11 @@ use Rattle.std.proofs.lemmas.List.{take_at, drop_more, drop-drop, map-append, le
 use Rattle.std.proofs.lemmas.List.Elements.{All-push}
 use Rattle.byteorder.specs.Endian.{big_bytes}
 use Rattle.stable_log.specs.Crash.{Only}
-use Rattle.stable_log.specs.Image.{magic, entry_text, journal_text, IsPayload, StandsFor}
-use Rattle.stable_log.specs.Places.{IsClosedAt, IsEntryAt, IsRead, IsJournal, ArePlaces, IsBrokenAt, IsEntryFault, IsEntriesFault, payloads_at, piece_at}
+use Rattle.wire.specs.Payloads.{IsPayload}
+use Rattle.stable_log.specs.Image.{magic, payload_text, journal_text, StandsFor}
+use Rattle.stable_log.specs.Places.{IsClosedAt, IsPayloadAt, IsRead, IsJournal, ArePlaces, IsBrokenAt, IsPayloadRefusal, IsPayloadsRefusal, payloads_at, piece_at}
 use Rattle.stable_log.specs.declared.reading.Place.{Place}
-use Rattle.stable_log.specs.Refusals.{IsDamaged, IsRecoverRefusal}
+use Rattle.stable_log.specs.Refusals.{IsDamaged, IsJournalRecoverRefusal}
 use Rattle.stable_log.specs.declared.error.JournalError.{JournalError}
 use Rattle.stable_log.specs.declared.error.JournalError.TheVariants.{Memory, Device, NotAJournal, Damaged, Full, TooLong, Stopped, NoSuchEntry}
 use Rattle.stable_log.proofs.Crash.{text-push}
@@ -15,7 +16,7 @@ use Rattle.stable_log.proofs.OneList.{only_list}
 use Rattle.stable_log.proofs.Told.{some_if}
 
 -- an open gate, a length and as many bytes are an entry
-pub entry_at : (bs : List ℕ) (end len : ℕ) → end + 5 + len ≤ length bs → 0 < len → len ≤ 65536 → get_or bs end 0 ≡ 1 → take 4 (drop (end + 1) bs) ≡ big_bytes 4 len → IsEntryAt bs end (record { at = end + 5; len = len })
+pub entry_at : (bs : List ℕ) (end len : ℕ) → end + 5 + len ≤ length bs → 0 < len → len ≤ 65536 → get_or bs end 0 ≡ 1 → take 4 (drop (end + 1) bs) ≡ big_bytes 4 len → IsPayloadAt bs end (record { at = end + 5; len = len })
 entry_at bs end len fits some small open_gate size_is =
     let place : Place = record { at = end + 5; len = len } in
     let piece = piece_at bs place in
@@ -36,7 +37,7 @@ entry_at bs end len fits some small open_gate size_is =
     five = omega arith
 
 -- one entry more
-pub read_more : (bs : List ℕ) (places : List Place) (end : ℕ) (place : Place) → IsRead bs places end → IsEntryAt bs end place → place.at + place.len ≤ length bs → place.at ≡ end + 5 → IsRead bs (places ++ place ∷ []) (place.at + place.len)
+pub read_more : (bs : List ℕ) (places : List Place) (end : ℕ) (place : Place) → IsRead bs places end → IsPayloadAt bs end place → place.at + place.len ≤ length bs → place.at ≡ end + 5 → IsRead bs (places ++ place ∷ []) (place.at + place.len)
 read_more bs places end place so_far entry fits at_is =
     let list = payloads_at (Some bs) places in
     let piece = piece_at bs place in
@@ -44,12 +45,12 @@ read_more bs places end place so_far entry fits at_is =
     let len_is : length piece ≡ place.len = length-take-le place.len (drop place.at bs) (omega (arith, length-drop place.at bs, fits)) in
     let more : payloads_at (Some bs) (places ++ place ∷ []) ≡ list ++ piece ∷ [] = map-append (piece_at bs) places (place ∷ []) in
     let text = journal_text list in
-    let whole : bs ≡ (text ++ entry_text piece) ++ rest =
-    sym (take-append-drop end bs) ∙ ap (λ (l : List ℕ). l ++ drop end bs) so_far.front ∙ ap (λ (l : List ℕ). text ++ l) entry.text ∙ sym (append_assoc text (entry_text piece) rest) in
-    let size : length (text ++ entry_text piece) ≡ place.at + place.len =
-    omega (arith, length-append text (entry_text piece), length-append (big_bytes 4 (length piece)) piece, ap length so_far.front, length-take-le end bs so_far.fits) in
+    let whole : bs ≡ (text ++ payload_text piece) ++ rest =
+    sym (take-append-drop end bs) ∙ ap (λ (l : List ℕ). l ++ drop end bs) so_far.front ∙ ap (λ (l : List ℕ). text ++ l) entry.text ∙ sym (append_assoc text (payload_text piece) rest) in
+    let size : length (text ++ payload_text piece) ≡ place.at + place.len =
+    omega (arith, length-append text (payload_text piece), length-append (big_bytes 4 (length piece)) piece, ap length so_far.front, length-take-le end bs so_far.fits) in
     record {
-      front = ap (λ (l : List ℕ). take (place.at + place.len) l) whole ∙ take_at (text ++ entry_text piece) rest (place.at + place.len) size ∙ sym (text-push list piece) ∙ ap journal_text (sym more);
+      front = ap (λ (l : List ℕ). take (place.at + place.len) l) whole ∙ take_at (text ++ payload_text piece) rest (place.at + place.len) size ∙ sym (text-push list piece) ∙ ap journal_text (sym more);
       fits = fits;
       sizes = subst (λ (l : List (List ℕ)). All IsPayload l) (sym more) (All-push IsPayload list piece so_far.sizes entry.size);
     }
@@ -93,7 +94,7 @@ stands_read o images places end kept told bs is =
     subst (λ (v : Option (List ℕ)). StandsFor bs (payloads_at v places)) (sym is) (read_all bs places end t.0 t.1 kept.few)
 
 -- entries that can't be read, behind a good head
-pub recover_refusal : (told now : Option (List ℕ)) (e : JournalError) → IsEntriesFault now e → now ≡ told → ((bs : List ℕ) → told ≡ Some bs → take 8 bs ≡ magic) → IsRecoverRefusal told e
+pub recover_refusal : (told now : Option (List ℕ)) (e : JournalError) → IsPayloadsRefusal now e → now ≡ told → ((bs : List ℕ) → told ≡ Some bs → take 8 bs ≡ magic) → IsJournalRecoverRefusal told e
 recover_refusal told now Memory fault same head = tt
 recover_refusal told now Device fault same head = tt
 recover_refusal told now Damaged fault same head = some_if told IsDamaged (λ bs is. (head bs is, fault bs (same ∙ is)))
@@ -104,8 +105,8 @@ recover_refusal told now Stopped fault same head = absurd fault
 recover_refusal told now NoSuchEntry fault same head = absurd fault
 
 -- a gate that can't be read, behind entries that were read
-pub entries_fault : (told now : Option (List ℕ)) (size at : ℕ) (e : JournalError) → IsEntryFault now size at e → now ≡ told → ((bs : List ℕ) → told ≡ Some bs → size ≡ length bs)
-    → ((bs : List ℕ) → told ≡ Some bs → IsBrokenAt bs at → (list : List (List ℕ)) → StandsFor bs list → ⊥) → IsEntriesFault told e
+pub entries_fault : (told now : Option (List ℕ)) (size at : ℕ) (e : JournalError) → IsPayloadRefusal now size at e → now ≡ told → ((bs : List ℕ) → told ≡ Some bs → size ≡ length bs)
+    → ((bs : List ℕ) → told ≡ Some bs → IsBrokenAt bs at → (list : List (List ℕ)) → StandsFor bs list → ⊥) → IsPayloadsRefusal told e
 entries_fault told now size at Memory fault same long none = tt
 entries_fault told now size at Device fault same long none = tt
 entries_fault told now size at Damaged fault same long none = λ bs is. none bs is (fault bs (same ∙ is) (long bs is))

@@ -1,23 +1,21 @@
 -- What the bytes of a journal stand for. docs/FORMATS.md, 'Journal file'.
-use Rattle.std.specs.Prelude.{ℕ, ◌≡◌, ◌≢◌, ◌≤◌, ◌<◌, ◌++◌, ◌⊎◌, List, [], ◌∷◌, length, All}
+use Rattle.std.specs.Prelude.{ℕ, ◌≡◌, ◌≢◌, ◌≤◌, ◌++◌, ◌⊎◌, List, [], ◌∷◌, length, All}
 use Rattle.std.specs.List.{flat_map}
 use Rattle.byteorder.specs.Endian.{big_bytes}
+use Rattle.wire.specs.Payloads.{IsPayload}
+use Rattle.wire.specs.declared.limits.TheConstants.{MOST_ENTRIES}
 
 -- HSJ1 and four zero bytes
 abbrev pub magic : List ℕ
 magic = 0x48 ∷ 0x53 ∷ 0x4a ∷ 0x31 ∷ 0 ∷ 0 ∷ 0 ∷ 0 ∷ []
 
--- a payload has 1 to 65536 bytes
-abbrev pub IsPayload : List ℕ → Type 0
-IsPayload payload = (0 < length payload) × (length payload ≤ 65536)
-
 -- an open gate, the length, the payload
-abbrev pub entry_text : List ℕ → List ℕ
-entry_text payload = 1 ∷ (big_bytes 4 (length payload) ++ payload)
+abbrev pub payload_text : List ℕ → List ℕ
+payload_text payload = 1 ∷ (big_bytes 4 (length payload) ++ payload)
 
--- a journal's bytes up to the gate behind its last entry
+-- a journal's bytes up to the gate behind its last payload
 abbrev pub journal_text : List (List ℕ) → List ℕ
-journal_text payloads = magic ++ flat_map entry_text payloads
+journal_text payloads = magic ++ flat_map payload_text payloads
 
 -- an image stands for the payloads behind its open gates, up to the first gate that is not open; what lies
 -- behind that gate doesn't matter
@@ -27,7 +25,7 @@ pub record StandsFor (image : List ℕ) (payloads : List (List ℕ)) : Type 0 wh
   pub split : image ≡ journal_text payloads ++ gate ∷ rest
   pub closed : gate ≢ 1
   pub sizes : All IsPayload payloads
-  pub few : length payloads ≤ 4096
+  pub few : length payloads ≤ MOST_ENTRIES
 
 -- a journal of no payload, as `create` writes it
 abbrev pub empty_journal : List ℕ

@@ -1,6 +1,7 @@
 pub use Rattle.faults.specs.Counting
 pub use Rattle.faults.specs.Fuse
 pub mod Crash
+pub mod Devices
 pub mod Disk
 pub mod MemoryParts
 pub mod Image

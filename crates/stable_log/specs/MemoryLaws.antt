@@ -5,17 +5,17 @@ use Rattle.std.proofs.lemmas.Bool.{cases_lt}
 use Rattle.std.proofs.lemmas.List.{take_all, take_at, drop_all, drop_at, take-take}
 use Rattle.stable_log.specs.Disk.{written}
 use Rattle.stable_log.specs.Crash.{Torn}
-use Rattle.stable_log.specs.Memory.{State, fresh, step, after_calls, state_of, IsImageOf, WasImage}
+use Rattle.stable_log.specs.Memory.{DiskState, fresh, step, after_calls, disk_state, IsImageOf, WasImage}
 use Rattle.stable_log.specs.declared.memory_disk.Call.{Call}
 use Rattle.stable_log.specs.declared.memory_disk.Call.TheVariants.{Write, Sync}
 
 -- this moment is one of those since an earlier one
-pub counts_now_of : (first : List ℕ) (calls : List Call) (t : ℕ) (image : List ℕ) → t ≤ length calls → IsImageOf (state_of first calls) image → WasImage first calls t image
-counts_now_of first calls t image le now = (length calls, le, omega arith, subst (λ (l : List Call). IsImageOf (state_of first l) image) (sym (take_all (length calls) calls (omega arith))) now)
+pub counts_now_of : (first : List ℕ) (calls : List Call) (t : ℕ) (image : List ℕ) → t ≤ length calls → IsImageOf (disk_state first calls) image → WasImage first calls t image
+counts_now_of first calls t image le now = (length calls, le, omega arith, subst (λ (l : List Call). IsImageOf (disk_state first l) image) (sym (take_all (length calls) calls (omega arith))) now)
 
 -- since this moment there is no other
-pub only_now_of : (first : List ℕ) (calls : List Call) (image : List ℕ) → WasImage first calls (length calls) image → IsImageOf (state_of first calls) image
-only_now_of first calls image (k, le, ge, was) = subst (λ (l : List Call). IsImageOf (state_of first l) image) (take_all k calls (omega (arith, le))) was
+pub only_now_of : (first : List ℕ) (calls : List Call) (image : List ℕ) → WasImage first calls (length calls) image → IsImageOf (disk_state first calls) image
+only_now_of first calls image (k, le, ge, was) = subst (λ (l : List Call). IsImageOf (disk_state first l) image) (take_all k calls (omega (arith, le))) was
 
 abbrev rest : List ℕ → List ℕ → ℕ → List ℕ
 rest old piece at = drop (at + length piece) old
@@ -47,14 +47,14 @@ torn_written old piece at = elim (cases_lt at (length old)) [
       }
 ]
 
-image_step : (s : State) (call : Call) → IsImageOf s s.bytes → IsImageOf (step s call) (step s call).bytes
+image_step : (s : DiskState) (call : Call) → IsImageOf s s.bytes → IsImageOf (step s call) (step s call).bytes
 image_step s (Write at piece) now = (s.bytes, now, torn_written s.bytes piece.items at)
 image_step s Sync now = refl
 
-image_after : (s : State) (calls : List Call) → IsImageOf s s.bytes → IsImageOf (after_calls s calls) (after_calls s calls).bytes
+image_after : (s : DiskState) (calls : List Call) → IsImageOf s s.bytes → IsImageOf (after_calls s calls) (after_calls s calls).bytes
 image_after s [] now = now
 image_after s (call ∷ calls) now = image_after (step s call) calls (image_step s call now)
 
 -- the disk as it is read is one of its images
-pub as_read_of : (first : List ℕ) (calls : List Call) (bytes : List ℕ) → bytes ≡ (state_of first calls).bytes → IsImageOf (state_of first calls) bytes
-as_read_of first calls bytes is = subst (λ (l : List ℕ). IsImageOf (state_of first calls) l) (sym is) (image_after (fresh first) calls refl)
+pub as_read_of : (first : List ℕ) (calls : List Call) (bytes : List ℕ) → bytes ≡ (disk_state first calls).bytes → IsImageOf (disk_state first calls) bytes
+as_read_of first calls bytes is = subst (λ (l : List ℕ). IsImageOf (disk_state first calls) l) (sym is) (image_after (fresh first) calls refl)

@@ -1,6 +1,6 @@
 -- What a disk in memory keeps besides its bytes.
 use Rattle.std.specs.Prelude.{ℕ, List, Bool, Option}
-use Rattle.stable_log.specs.Memory.{state_of}
+use Rattle.stable_log.specs.Memory.{disk_state}
 use Rattle.stable_log.specs.declared.memory_disk.MemoryDisk.{MemoryDisk}
 
 -- how many calls still succeed, and whether all behind them fail or one
@@ -9,4 +9,4 @@ fuse_of disk = disk.fuse
 
 -- the bytes of the last sync
 abbrev pub synced_of : MemoryDisk → List ℕ
-synced_of disk = (state_of disk.first.items disk.calls.items).synced
+synced_of disk = (disk_state disk.first.items disk.calls.items).synced

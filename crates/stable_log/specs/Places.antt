@@ -3,7 +3,9 @@ use Rattle.std.specs.Prelude.{ℕ, ◌≡◌, ◌≢◌, ◌≤◌, ◌<◌, ◌
 use Rattle.std.specs.List.{flat_map}
 use Rattle.stable_log.specs.Disk.{written}
 use Rattle.stable_log.specs.Crash.{Only, Torn}
-use Rattle.stable_log.specs.Image.{entry_text, journal_text, IsPayload, StandsFor}
+use Rattle.wire.specs.Payloads.{IsPayload}
+use Rattle.wire.specs.declared.limits.TheConstants.{LONGEST_PAYLOAD, MOST_ENTRIES}
+use Rattle.stable_log.specs.Image.{payload_text, journal_text, StandsFor}
 use Rattle.stable_log.specs.declared.reading.Place.{Place}
 use Rattle.stable_log.specs.declared.error.JournalError.{JournalError}
 use Rattle.stable_log.specs.declared.error.JournalError.TheVariants.{Memory, Device, Damaged}
@@ -17,12 +19,12 @@ abbrev pub payloads_at : Option (List ℕ) → List Place → List (List ℕ)
 payloads_at None places = map (λ _. []) places
 payloads_at (Some bytes) places = map (piece_at bytes) places
 
--- places of at most 4096 payloads, all before the gate
+-- places of no more payloads than a journal has, all before the gate
 pub record ArePlaces (places : List Place) (end : ℕ) : Type 0 where
-  pub few : length places ≤ 4096
-  pub near : end ≤ 8 + 65541 * length places
+  pub few : length places ≤ MOST_ENTRIES
+  pub near : end ≤ 8 + (5 + LONGEST_PAYLOAD) * length places
   pub inside : All (λ (p : Place). p.at + p.len ≤ end) places
-  pub small : All (λ (p : Place). p.len ≤ 65536) places
+  pub small : All (λ (p : Place). p.len ≤ LONGEST_PAYLOAD) places
 
 -- all of the file is on the disk; it stands for the payloads, and its closed gate is at `end`
 pub record IsAtRest (bytes : List ℕ) (images : List ℕ → Type 0) (payloads : List (List ℕ)) (end : ℕ) : Type 0 where
@@ -39,46 +41,46 @@ pub record IsJournal (bytes : Option (List ℕ)) (images : List ℕ → Type 0) 
 abbrev pub IsClosedAt : List ℕ → ℕ → Type 0
 IsClosedAt bytes at = (at < length bytes) × (get_or bytes at 0 ≢ 1)
 
--- an open gate stands there, and behind it a whole entry, whose payload is at this place
-pub record IsEntryAt (bytes : List ℕ) (at : ℕ) (place : Place) : Type 0 where
-  pub text : drop at bytes ≡ entry_text (piece_at bytes place) ++ drop (place.at + place.len) bytes
+-- an open gate stands there, and behind it a whole payload, at this place
+pub record IsPayloadAt (bytes : List ℕ) (at : ℕ) (place : Place) : Type 0 where
+  pub text : drop at bytes ≡ payload_text (piece_at bytes place) ++ drop (place.at + place.len) bytes
   pub size : IsPayload (piece_at bytes place)
 
 -- bytes that begin with a gate hold these payloads and no others
 pub record Holds (bytes : List ℕ) (payloads : List (List ℕ)) : Type 0 where
   pub gate : ℕ
   pub rest : List ℕ
-  pub split : bytes ≡ flat_map entry_text payloads ++ gate ∷ rest
+  pub split : bytes ≡ flat_map payload_text payloads ++ gate ∷ rest
   pub closed : gate ≢ 1
   pub sizes : All IsPayload payloads
 
--- neither a closed gate nor a whole entry stands there
+-- neither a closed gate nor a whole payload stands there
 abbrev pub IsBrokenAt : List ℕ → ℕ → Type 0
 IsBrokenAt bytes at = (payloads : List (List ℕ)) → Holds (drop at bytes) payloads → ⊥
 
--- the entries up to a gate
+-- the payloads up to a gate
 pub record IsRead (bytes : List ℕ) (places : List Place) (end : ℕ) : Type 0 where
   pub front : take end bytes ≡ journal_text (payloads_at (Some bytes) places)
   pub fits : end ≤ length bytes
   pub sizes : All IsPayload (payloads_at (Some bytes) places)
 
 -- reading from a gate on fails: the disk failed, or what stands there is broken
-abbrev pub IsEntryFault : Option (List ℕ) → ℕ → ℕ → JournalError → Type 0
-IsEntryFault told size at Device = Unit {0}
-IsEntryFault told size at Damaged = (bytes : List ℕ) → told ≡ Some bytes → size ≡ length bytes → IsBrokenAt bytes at
-IsEntryFault told size at _ = ⊥
+abbrev pub IsPayloadRefusal : Option (List ℕ) → ℕ → ℕ → JournalError → Type 0
+IsPayloadRefusal told size at Device = Unit {0}
+IsPayloadRefusal told size at Damaged = (bytes : List ℕ) → told ≡ Some bytes → size ≡ length bytes → IsBrokenAt bytes at
+IsPayloadRefusal told size at _ = ⊥
 
--- reading all entries fails: no list stands for the bytes
-abbrev pub IsEntriesFault : Option (List ℕ) → JournalError → Type 0
-IsEntriesFault told Memory = Unit {0}
-IsEntriesFault told Device = Unit {0}
-IsEntriesFault told Damaged = (bytes : List ℕ) → told ≡ Some bytes → (payloads : List (List ℕ)) → StandsFor bytes payloads → ⊥
-IsEntriesFault told _ = ⊥
+-- reading all payloads fails: no list stands for the bytes
+abbrev pub IsPayloadsRefusal : Option (List ℕ) → JournalError → Type 0
+IsPayloadsRefusal told Memory = Unit {0}
+IsPayloadsRefusal told Device = Unit {0}
+IsPayloadsRefusal told Damaged = (bytes : List ℕ) → told ≡ Some bytes → (payloads : List (List ℕ)) → StandsFor bytes payloads → ⊥
+IsPayloadsRefusal told _ = ⊥
 
 -- the file with this text behind its gate, and the gate open
-abbrev pub with_entry : List ℕ → ℕ → List ℕ → List ℕ
-with_entry bytes gate_at text = written (written bytes (gate_at + 1) text) gate_at (1 ∷ [])
+abbrev pub with_text : List ℕ → ℕ → List ℕ → List ℕ
+with_text bytes gate_at text = written (written bytes (gate_at + 1) text) gate_at (1 ∷ [])
 
 -- a crash while the text is written, or while its gate opens
-abbrev pub IsEntryStep : List ℕ → ℕ → List ℕ → List ℕ → Type 0
-IsEntryStep bytes gate_at text image = Torn (gate_at + 1) (length text) bytes image ⊎ Torn gate_at 1 (written bytes (gate_at + 1) text) image
+abbrev pub IsPayloadStep : List ℕ → ℕ → List ℕ → List ℕ → Type 0
+IsPayloadStep bytes gate_at text image = Torn (gate_at + 1) (length text) bytes image ⊎ Torn gate_at 1 (written bytes (gate_at + 1) text) image

@@ -15,7 +15,7 @@ pub enum JournalError {
     Device = 2,
     /// `create`: the disk is not empty. `recover`: the first 8 bytes are not HSJ1 and four zero bytes.
     NotAJournal = 3,
-    /// An open gate without a whole entry of 1 to 65,536 bytes behind it, no gate, or more than 4,096 entries.
+    /// An open gate without a whole payload of 1 to 65,536 bytes behind it, no gate, or more than 4,096 entries.
     Damaged = 4,
     /// There are 4,096 entries.
     Full = 5,

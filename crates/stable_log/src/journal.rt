@@ -1,16 +1,19 @@
 //! A list of payloads on a disk.
 ghost use Rattle.std.specs.Prelude.{◌≡◌, ◌≢◌, ◌<◌, ◌≤◌, ◌+◌, ◌++◌, ◌∷◌, [], ℕ, List, true, false, Some, IfSome, IsSome, ◌↔◌, option_map, length, slice_get, take, IfOk, IfErr, OnErr, OnOk, IsErrOf};
 ghost use Rattle.faults.specs.Counting.{HasFailed};
-ghost use Rattle.stable_log.specs.Crash.{Only, LeavesOnly, Unwritten, Torn, Follows};
+ghost use Rattle.wire.specs.declared.limits.TheConstants.{LONGEST_PAYLOAD, MOST_ENTRIES};
+ghost use Rattle.stable_log.specs.Crash.{Only, Torn, Follows};
+ghost use Rattle.stable_log.specs.Devices.{AtAnyMoment, Untouched};
 ghost use Rattle.stable_log.specs.Image.{empty_journal, staged_text, StandsFor, IsBeforeOrAfter, LeavesList};
-ghost use Rattle.stable_log.specs.Refusals.{IsCreateRefusal, IsRecoverRefusal, MayAppend, IsAppendRefusal, MayRead, IsEntryRefusal, IsEntryIntoRefusal};
+ghost use Rattle.stable_log.specs.Refusals.{IsJournalCreateRefusal, IsJournalRecoverRefusal, MayAppend, IsJournalAppendRefusal, MayRead, IsJournalEntryRefusal, IsJournalEntryIntoRefusal};
 
-use crate::calls::{fill, fill_front, write_entry, write_synced};
-use crate::reading::{LONGEST, MOST_ENTRIES, Place, read_journal};
+use crate::calls::{fill, fill_front, write_payload, write_synced};
+use crate::reading::{Place, read_journal};
 use crate::{Disk, JournalError};
 use byteorder::{BigEndian, ByteOrder};
 use std::alloc::{AllocError, Global};
 use std::marker::Model;
+use wire::{LONGEST_PAYLOAD, MOST_ENTRIES};
 
 /// An append-only list of payloads of 1 to 65,536 bytes each, at most 4,096 of them, on a disk.
 ///
@@ -25,7 +28,7 @@ pub struct Journal<D: Disk> {
     alloc: Global,
     disk: D,
     places: Vec<Place>,
-    // the offset of the gate behind the last entry
+    // the offset of the gate behind the last payload
     gate_at: u64,
     stopped: bool,
 }
@@ -43,7 +46,7 @@ impl<D: Disk> Model for Journal<D> {
 
 // The length, the payload and a closed gate.
 fn staged(alloc: Global, payload: &[u8]) -> Result<Vec<u8>, AllocError>
-    requires { length payload.now ≤ 65536 }
+    requires { length payload.now ≤ LONGEST_PAYLOAD }
     ensures { IfOk result (λ v. v.items ≡ staged_text payload.now) }
 {
     let mut size = [0u8; 4];
@@ -65,9 +68,9 @@ impl<D: Disk> Journal<D> {
         ensures durable { IfOk result (λ j. IfSome (D.bytes disk) (λ _. LeavesList (D.images j.disk) [])) }
         ensures no_failure { IfOk result (λ j. D.failed j.disk ≡ D.failed disk) }
 
-        ensures first_refusal { IfErr result (λ e. IsCreateRefusal (D.bytes disk) e.0) }
+        ensures first_refusal { IfErr result (λ e. IsJournalCreateRefusal (D.bytes disk) e.0) }
         ensures err { IfErr result (λ e. IfSome (D.bytes disk) (λ bytes. bytes ≢ [] →
-            Unwritten D.bytes D.images D.moment D.images_since disk e.1)) }
+            Untouched D.Disk disk e.1)) }
         ensures tells { IfErr result (λ e. IsSome (D.bytes e.1) ↔ IsSome (D.bytes disk)) }
         ensures torn { IfErr result (λ e. Follows (Torn 0 9) (D.images disk) (D.images e.1)) }
         ensures cause { IfErr result (λ e. e.0 ≡ JournalError.Device →
@@ -103,11 +106,11 @@ impl<D: Disk> Journal<D> {
         ensures running { IfOk result (λ j. j.stopped ≡ false) }
         ensures durable { IfOk result (λ j. IfSome (D.bytes disk) (λ bytes.
             Only bytes (D.images j.disk))) }
-        ensures same { IfOk result (λ j. Unwritten D.bytes D.images D.moment D.images_since disk j.disk) }
+        ensures same { IfOk result (λ j. Untouched D.Disk disk j.disk) }
         ensures no_failure { IfOk result (λ j. D.failed j.disk ≡ D.failed disk) }
 
-        ensures first_refusal { IfErr result (λ e. IsRecoverRefusal (D.bytes disk) e.0) }
-        ensures err { IfErr result (λ e. Unwritten D.bytes D.images D.moment D.images_since disk e.1) }
+        ensures first_refusal { IfErr result (λ e. IsJournalRecoverRefusal (D.bytes disk) e.0) }
+        ensures err { IfErr result (λ e. Untouched D.Disk disk e.1) }
         ensures cause { IfErr result (λ e. e.0 ≡ JournalError.Device →
             HasFailed (D.failed disk) (D.failed e.1)) }
         ensures kept { IfErr result (λ e. e.0 ≢ JournalError.Device → D.failed e.1 ≡ D.failed disk) }
@@ -143,10 +146,10 @@ impl<D: Disk> Journal<D> {
 
         // A crash at any moment of the call leaves the list from before it, with the payload or without.
         ensures any_moment { self.old.stopped ≡ false → IfSome (D.bytes self.old.disk) (λ _.
-            LeavesOnly D.moment D.images_since self.old.disk self.new.disk
+            AtAnyMoment D.Disk self.old.disk self.new.disk
             (IsBeforeOrAfter self.old.payloads payload.now)) }
 
-        ensures first_refusal { IfErr result (IsAppendRefusal self.old payload.now) }
+        ensures first_refusal { IfErr result (IsJournalAppendRefusal self.old payload.now) }
         ensures device { IsErrOf result JournalError.Device → (self.new.payloads ≡ self.old.payloads)
             × (self.new.stopped ≡ true) }
         ensures err { IfErr result (λ e. e ≢ JournalError.Device → self.new ≡ self.old) }
@@ -159,14 +162,14 @@ impl<D: Disk> Journal<D> {
         if self.places.len() >= MOST_ENTRIES {
             return Err(JournalError::Full);
         }
-        if payload.len() > LONGEST {
+        if payload.len() > LONGEST_PAYLOAD {
             return Err(JournalError::TooLong);
         }
         // All that memory can refuse comes before the disk is touched.
         let text = staged(self.alloc, payload)?;
         self.places.reserve(1)?;
         let gate_at = self.gate_at;
-        if write_entry(&mut self.disk, gate_at, &text).is_err() {
+        if write_payload(&mut self.disk, gate_at, &text).is_err() {
             self.stopped = true;
             return Err(JournalError::Device);
         }
@@ -187,10 +190,10 @@ impl<D: Disk> Journal<D> {
             slice_get self.old.payloads k ≡ Some out.new.items)) }
         ensures exact { OnOk result (MayRead self.old k) }
         ensures same { (self.new.payloads ≡ self.old.payloads) × (self.new.stopped ≡ self.old.stopped)
-            × Unwritten D.bytes D.images D.moment D.images_since self.old.disk self.new.disk }
+            × Untouched D.Disk self.old.disk self.new.disk }
         ensures no_failure { OnOk result (D.failed self.new.disk ≡ D.failed self.old.disk) }
 
-        ensures first_refusal { IfErr result (IsEntryRefusal self.old k) }
+        ensures first_refusal { IfErr result (IsJournalEntryRefusal self.old k) }
         ensures device { IsErrOf result JournalError.Device → out.new.items ≡ [] }
         ensures err { IfErr result (λ e. e ≢ JournalError.Device → (self.new ≡ self.old)
             × (out.new.items ≡ out.old.items)) }
@@ -218,18 +221,18 @@ impl<D: Disk> Journal<D> {
     /// `Device` it holds any bytes. The journal stays as it is, and runs on after `Device`. In this order: `Stopped`,
     /// `NoSuchEntry`, `Device`.
     pub fn entry_into(&mut self, k: usize, buffer: &mut [u8]) -> Result<usize, JournalError>
-        requires { 65536 ≤ length buffer.old }
+        requires { LONGEST_PAYLOAD ≤ length buffer.old }
 
         ensures ok { IfOk result (λ n. IfSome (D.bytes self.old.disk) (λ _.
             slice_get self.old.payloads k ≡ Some (take n buffer.new))) }
-        ensures size { IfOk result (λ n. n ≤ 65536) }
+        ensures size { IfOk result (λ n. n ≤ LONGEST_PAYLOAD) }
         ensures room { length buffer.new ≡ length buffer.old }
         ensures exact { OnOk result (MayRead self.old k) }
         ensures same { (self.new.payloads ≡ self.old.payloads) × (self.new.stopped ≡ self.old.stopped)
-            × Unwritten D.bytes D.images D.moment D.images_since self.old.disk self.new.disk }
+            × Untouched D.Disk self.old.disk self.new.disk }
         ensures no_failure { OnOk result (D.failed self.new.disk ≡ D.failed self.old.disk) }
 
-        ensures first_refusal { IfErr result (IsEntryIntoRefusal self.old k) }
+        ensures first_refusal { IfErr result (IsJournalEntryIntoRefusal self.old k) }
         ensures err { IfErr result (λ e. e ≢ JournalError.Device → (self.new ≡ self.old)
             × (buffer.new ≡ buffer.old)) }
         ensures cause { IsErrOf result JournalError.Device →
@@ -252,7 +255,7 @@ impl<D: Disk> Journal<D> {
     /// How many entries there are, at most 4,096.
     pub fn count(&self) -> usize
         ensures value { result ≡ length self.now.payloads }
-        ensures few { length self.now.payloads ≤ 4096 }
+        ensures few { length self.now.payloads ≤ MOST_ENTRIES }
     {
         self.places.len()
     }

@@ -1,4 +1,4 @@
-//! An append-only journal whose entries survive a crash at any moment, over a disk that may fail. Needs no threads
+//! An append-only journal whose payloads survive a crash at any moment, over a disk that may fail. Needs no threads
 //! or network.
 #![tactic(auto)]
 

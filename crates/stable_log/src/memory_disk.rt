@@ -3,7 +3,7 @@ ghost use Rattle.std.specs.Prelude.{◌≡◌, ◌≤◌, ◌+◌, ◌-◌, ◌^
 ghost use Rattle.stable_log.specs.Disk.{written};
 ghost use Rattle.faults.specs.Counting.{Counts, one_more};
 ghost use Rattle.stable_log.specs.Crash.{Torn, Only, Unwritten};
-ghost use Rattle.stable_log.specs.Memory.{state_of, IsImageOf, WasImage};
+ghost use Rattle.stable_log.specs.Memory.{disk_state, IsImageOf, WasImage};
 ghost use Rattle.stable_log.specs.MemoryLaws.{counts_now_of, only_now_of, as_read_of};
 
 use crate::Disk;
@@ -43,7 +43,7 @@ pub struct MemoryDisk {
     bytes: Vec<u8>,
     fuse: Fuse,
     failures: u64,
-    pub ghost replayed: { bytes.items ≡ (state_of first.items calls.items).bytes },
+    pub ghost replayed: { bytes.items ≡ (disk_state first.items calls.items).bytes },
 }
 
 // `bytes` with a piece written at an offset.
@@ -230,7 +230,7 @@ impl MemoryDisk {
 impl Disk for MemoryDisk {
     ghost bytes = { λ d. Some d.bytes.items };
 
-    ghost images = { λ d c. IsImageOf (state_of d.first.items d.calls.items) c };
+    ghost images = { λ d c. IsImageOf (disk_state d.first.items d.calls.items) c };
 
     ghost moment = { λ d. length d.calls.items };
 

@@ -2,20 +2,17 @@
 ghost use Rattle.std.specs.Prelude.{◌≡◌, ◌≢◌, ◌<◌, ◌≤◌, ◌+◌, ℕ, List, IsTrue, ◌↔◌, MatchOption, take, drop, Some, IfSome, length, IfOk, IfErr, OnOk, IsErrOf};
 ghost use Rattle.byteorder.specs.Endian.{big_bytes};
 ghost use Rattle.faults.specs.Counting.{HasFailed};
-ghost use Rattle.stable_log.specs.Crash.{Only, Unwritten};
+ghost use Rattle.wire.specs.declared.limits.TheConstants.{LONGEST_PAYLOAD, MOST_ENTRIES};
+ghost use Rattle.stable_log.specs.Crash.{Only};
+ghost use Rattle.stable_log.specs.Devices.{Untouched};
 ghost use Rattle.stable_log.specs.Image.{magic};
-ghost use Rattle.stable_log.specs.Places.{IsClosedAt, IsEntryAt, IsRead, ArePlaces, IsEntryFault, IsEntriesFault};
-ghost use Rattle.stable_log.specs.Refusals.{IsRecoverRefusal};
+ghost use Rattle.stable_log.specs.Places.{IsClosedAt, IsPayloadAt, IsRead, ArePlaces, IsPayloadRefusal, IsPayloadsRefusal};
+ghost use Rattle.stable_log.specs.Refusals.{IsJournalRecoverRefusal};
 
 use crate::calls::{read, settle};
 use crate::{Disk, JournalError};
 use std::alloc::Global;
-
-// of one journal
-pub(crate) const MOST_ENTRIES: usize = 4096;
-
-// payload, in bytes
-pub(crate) const LONGEST: usize = 65536;
+use wire::{LONGEST_PAYLOAD, MOST_ENTRIES};
 
 // Where a payload stands in the file, and how long it is, in bytes.
 #[derive(Clone, Copy)]
@@ -31,15 +28,19 @@ fn number(text: &[u8; 4]) -> u32
     u32::from_be_bytes(*text)
 }
 
-// What stands at a gate: nothing, or an entry whose payload is at the place.
-fn read_entry<D: Disk>(disk: &mut D, size: u64, gate_at: u64) -> Result<Option<Place>, JournalError>
+// What stands at a gate: nothing, or a payload at the place.
+fn read_payload<D: Disk>(
+    disk: &mut D,
+    size: u64,
+    gate_at: u64,
+) -> Result<Option<Place>, JournalError>
     ensures told { IfOk result (λ o. (bs : List ℕ) → D.bytes disk.old ≡ Some bs → size ≡ length bs →
-        MatchOption o (IsClosedAt bs gate_at) (λ p. IsEntryAt bs gate_at p)) }
-    ensures place { IfOk result (λ o. IfSome o (λ p. (p.at ≡ gate_at + 5) × (p.len ≤ 65536)
+        MatchOption o (IsClosedAt bs gate_at) (λ p. IsPayloadAt bs gate_at p)) }
+    ensures place { IfOk result (λ o. IfSome o (λ p. (p.at ≡ gate_at + 5) × (p.len ≤ LONGEST_PAYLOAD)
         × (p.at + p.len ≤ size))) }
-    ensures unwritten { Unwritten D.bytes D.images D.moment D.images_since disk.old disk.new }
+    ensures unwritten { Untouched D.Disk disk.old disk.new }
     ensures no_failure { OnOk result (D.failed disk.new ≡ D.failed disk.old) }
-    ensures first_refusal { IfErr result (IsEntryFault (D.bytes disk.old) size gate_at) }
+    ensures first_refusal { IfErr result (IsPayloadRefusal (D.bytes disk.old) size gate_at) }
     ensures cause { IsErrOf result JournalError.Device →
         HasFailed (D.failed disk.old) (D.failed disk.new) }
     ensures kept { IfErr result (λ e. e ≢ JournalError.Device → D.failed disk.new ≡ D.failed disk.old) }
@@ -58,7 +59,7 @@ fn read_entry<D: Disk>(disk: &mut D, size: u64, gate_at: u64) -> Result<Option<P
     let mut text = [0u8; 4];
     read(disk, gate_at + 1, &mut text)?;
     let len = u64::from(number(&text));
-    if len == 0 || len > LONGEST as u64 || len > size - gate_at - 5 {
+    if len == 0 || len > LONGEST_PAYLOAD as u64 || len > size - gate_at - 5 {
         return Err(JournalError::Damaged);
     }
     Ok(Some(Place {
@@ -68,7 +69,7 @@ fn read_entry<D: Disk>(disk: &mut D, size: u64, gate_at: u64) -> Result<Option<P
 }
 
 // The places of all payloads, and the offset of the gate that is not open.
-fn read_entries<D: Disk>(
+fn read_payloads<D: Disk>(
     alloc: Global,
     disk: &mut D,
     size: u64,
@@ -78,9 +79,9 @@ fn read_entries<D: Disk>(
     ensures told { IfOk result (λ r. (bs : List ℕ) → D.bytes disk.old ≡ Some bs →
         IsRead bs r.0.items r.1 × IsClosedAt bs r.1) }
     ensures placed { IfOk result (λ r. ArePlaces r.0.items r.1) }
-    ensures unwritten { Unwritten D.bytes D.images D.moment D.images_since disk.old disk.new }
+    ensures unwritten { Untouched D.Disk disk.old disk.new }
     ensures no_failure { OnOk result (D.failed disk.new ≡ D.failed disk.old) }
-    ensures first_refusal { IfErr result (IsEntriesFault (D.bytes disk.old)) }
+    ensures first_refusal { IfErr result (IsPayloadsRefusal (D.bytes disk.old)) }
     ensures cause { IsErrOf result JournalError.Device →
         HasFailed (D.failed disk.old) (D.failed disk.new) }
     ensures kept { IfErr result (λ e. e ≢ JournalError.Device → D.failed disk.new ≡ D.failed disk.old) }
@@ -88,7 +89,7 @@ fn read_entries<D: Disk>(
     let mut places = Vec::new(alloc);
     let mut gate_at = 8;
     for _ in 0..MOST_ENTRIES + 1 {
-        match read_entry(disk, size, gate_at)? {
+        match read_payload(disk, size, gate_at)? {
             None => return Ok((places, gate_at)),
             Some(place) => {
                 places.reserve(1)?;
@@ -114,9 +115,9 @@ pub(crate) fn read_journal<D: Disk>(
     ensures told { IfOk result (λ r. (bs : List ℕ) → D.bytes disk.old ≡ Some bs →
         IsRead bs r.0.items r.1 × IsClosedAt bs r.1 × Only bs (D.images disk.new)) }
     ensures placed { IfOk result (λ r. ArePlaces r.0.items r.1) }
-    ensures unwritten { Unwritten D.bytes D.images D.moment D.images_since disk.old disk.new }
+    ensures unwritten { Untouched D.Disk disk.old disk.new }
     ensures no_failure { OnOk result (D.failed disk.new ≡ D.failed disk.old) }
-    ensures first_refusal { IfErr result (IsRecoverRefusal (D.bytes disk.old)) }
+    ensures first_refusal { IfErr result (IsJournalRecoverRefusal (D.bytes disk.old)) }
     ensures cause { IsErrOf result JournalError.Device →
         HasFailed (D.failed disk.old) (D.failed disk.new) }
     ensures kept { IfErr result (λ e. e ≢ JournalError.Device → D.failed disk.new ≡ D.failed disk.old) }
@@ -130,5 +131,5 @@ pub(crate) fn read_journal<D: Disk>(
     if !is_magic(&head) {
         return Err(JournalError::NotAJournal);
     }
-    read_entries(alloc, disk, size)
+    read_payloads(alloc, disk, size)
 }

@@ -6,9 +6,10 @@ use Rattle.std.specs.List.{Contains}
 use Rattle.blocks.specs.Headers.{Header, header_id}
 use Rattle.blocks.specs.Chains.{NoCollision}
 use Rattle.blocks.specs.Genesis.{genesis_of}
-use Rattle.blocks.specs.Replica.{Event, Ballot, ballot_on, IsRun, votes_of, headers_of}
+use Rattle.blocks.specs.declared.ballot.Ballot.{Ballot}
+use Rattle.blocks.specs.Replica.{Event, ballot_on, IsRun, votes_of, headers_of}
 use Rattle.blocks.specs.Rules.{NoRunHasADoubleVote, NoRunHasALockViolation}
-use Rattle.verdict_format.specs.Verdicts.{VotedHeaders, IsKind, kind_in, earlier_in, later_in, headers_in, verdict_length}
+use Rattle.verdict_format.specs.Verdicts.{VotedHeaders, IsKind, verdict_kind_in, earlier_in, later_in, headers_in, verdict_length}
 use Rattle.verdict_format.specs.Proofs.{IsProof, BreaksRule, IsLockViolationBy, NoRunHasBothVotes, NoRunApartHasBothVotes, shown_by}
 use Rattle.verdict_checker.specs.Checks.{HeadersMatch, AreOfVotes, PassesAll}
 
@@ -41,7 +42,7 @@ of_votes : (e w : Ballot) (o : Option VotedHeaders) → IsSomeAnd o (IsLockViola
 of_votes e w (Some h) is = record { earlier = on_block h.earlier e is.e_id is.e_view; later = on_block h.later w is.w_id is.w_view; parent = is.parent }
 of_votes e w None is = absurd is
 
-headers_of_proof : (bytes : List ℕ) → IsKind (kind_in bytes) → BreaksRule bytes → HeadersMatch bytes
+headers_of_proof : (bytes : List ℕ) → IsKind (verdict_kind_in bytes) → BreaksRule bytes → HeadersMatch bytes
 headers_of_proof bytes (inl one) broken = asked_of_one _ _ _ one tt
 headers_of_proof bytes (inr two) broken = asked_of_two _ _ _ two (of_votes _ _ (headers_in bytes) (two_asks _ _ _ two broken))
 
@@ -62,13 +63,13 @@ pub passes_from : (committee bytes : List ℕ) → IsProof committee bytes → P
 passes_from committee bytes p =
     let v = p.verdict in
     let long = v.long in
-    let enough : 39 ≤ verdict_length (kind_in bytes) = omega arith in
+    let enough : 39 ≤ verdict_length (verdict_kind_in bytes) = omega arith in
     (omega (arith, long, enough), (v.magic, (v.kind, (long, (p.chain, (p.earlier.known, (headers_of_proof bytes v.kind p.broken, (p.broken, (p.earlier.signed, (p.later.signed, tt))))))))))
 
 -- ---- no run has both votes
 
 -- a double vote
-pub sound_from : (committee bytes : List ℕ) → NoRunHasADoubleVote → IsProof committee bytes → kind_in bytes ≡ 1 → NoRunHasBothVotes committee bytes
+pub sound_from : (committee bytes : List ℕ) → NoRunHasADoubleVote → IsProof committee bytes → verdict_kind_in bytes ≡ 1 → NoRunHasBothVotes committee bytes
 sound_from committee bytes law p one run is has_earlier has_later =
     law (genesis_of committee) run (earlier_in bytes) (later_in bytes) is has_earlier has_later (one_asks _ _ _ one p.broken)
 
@@ -83,6 +84,6 @@ apart_from committee bytes None law is run runs apart has_earlier has_later = ab
 pub sound_of_both : (committee bytes : List ℕ) → NoRunHasADoubleVote → NoRunHasALockViolation → IsProof committee bytes → NoRunApartHasBothVotes committee bytes
 sound_of_both committee bytes double lock p = by_kind p.verdict.kind
   where
-    by_kind : IsKind (kind_in bytes) → NoRunApartHasBothVotes committee bytes
+    by_kind : IsKind (verdict_kind_in bytes) → NoRunApartHasBothVotes committee bytes
     by_kind (inl one) run runs apart has_earlier has_later = sound_from committee bytes double p one run runs has_earlier has_later
     by_kind (inr two) run runs apart has_earlier has_later = apart_from committee bytes (headers_in bytes) lock (two_asks _ _ _ two p.broken) run runs apart has_earlier has_later

@@ -5,9 +5,9 @@ use Rattle.blocks.specs.Headers.{Header}
 use Rattle.blocks.specs.Chains.{AllIn, NoCollision}
 use Rattle.blocks.specs.Genesis.{genesis_of}
 use Rattle.blocks.specs.Replica.{Stored, headers_of}
-use Rattle.verdict_format.specs.Verdicts.{headers_in as verdict_headers}
+use Rattle.verdict_format.specs.Verdicts.{headers_in}
 use Rattle.verdict_format.specs.Proofs.{NoLifeApartReleasedBothVotes, NoLifeReleasedBothVotes, NoRunApartHasBothVotes, NoRunHasBothVotes, shown_by}
-use Rattle.blocks.specs.Lives.{Stay, EveryLifeIsARun, IsFound, blocks_in, headers_in}
+use Rattle.blocks.specs.Lives.{Stay, EveryLifeIsARun, IsFound, blocks_in, headers_of_life}
 use Rattle.blocks.proofs.Within.{AllIn-append}
 
 -- the list that the last stay left
@@ -19,12 +19,12 @@ is_found : (genesis : Header) (life : List Stay) → IsFound genesis life (left_
 is_found genesis [] = refl
 is_found genesis (s ∷ before) = inl refl
 
-blocks_are_held : (life : List Stay) → AllIn (headers_in life) (blocks_in (left_by life))
+blocks_are_held : (life : List Stay) → AllIn (headers_of_life life) (blocks_in (left_by life))
 blocks_are_held [] h m = m
-blocks_are_held (s ∷ before) h m = Contains-append_right s.headers (blocks_in s.left ++ headers_in before) h (Contains-append_left (blocks_in s.left) (headers_in before) h m)
+blocks_are_held (s ∷ before) h m = Contains-append_right s.headers (blocks_in s.left ++ headers_of_life before) h (Contains-append_left (blocks_in s.left) (headers_of_life before) h m)
 
-headers_are_held : (life : List Stay) → AllIn (headers_in life) (headers_in life ++ blocks_in (left_by life))
-headers_are_held life = AllIn-append (headers_in life) (headers_in life) (blocks_in (left_by life)) (λ h m. m) (blocks_are_held life)
+headers_are_held : (life : List Stay) → AllIn (headers_of_life life) (headers_of_life life ++ blocks_in (left_by life))
+headers_are_held life = AllIn-append (headers_of_life life) (headers_of_life life) (blocks_in (left_by life)) (λ h m. m) (blocks_are_held life)
 
 fewer : (hs ks : List Header) → AllIn hs ks → NoCollision hs → NoCollision ks
 fewer hs ks into apart h k a b e = apart h k (into h a) (into k b) e
@@ -40,6 +40,6 @@ no_life_released committee bytes law none life is earlier later =
 pub no_life_apart : (committee bytes : List ℕ) → EveryLifeIsARun → NoRunApartHasBothVotes committee bytes → NoLifeApartReleasedBothVotes committee bytes
 no_life_apart committee bytes law none life is apart earlier later =
     let run = law (genesis_of committee) life (left_by life) (record { view = refl; parent_view = refl }) is (is_found (genesis_of committee) life) in
-    let shown = shown_by (verdict_headers bytes) in
-    let into : AllIn (headers_in life) (headers_of run.0) = λ h m. headers_are_held life h (run.1.headers h m) in
-    none run.0 run.1.is_run (fewer (shown ++ headers_in life) (shown ++ headers_of run.0) (with_front shown (headers_in life) (headers_of run.0) into) apart) (run.2 _ earlier) (run.2 _ later)
+    let shown = shown_by (headers_in bytes) in
+    let into : AllIn (headers_of_life life) (headers_of run.0) = λ h m. headers_are_held life h (run.1.headers h m) in
+    none run.0 run.1.is_run (fewer (shown ++ headers_of_life life) (shown ++ headers_of run.0) (with_front shown (headers_of_life life) (headers_of run.0) into) apart) (run.2 _ earlier) (run.2 _ later)

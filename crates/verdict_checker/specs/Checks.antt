@@ -5,9 +5,10 @@ use Rattle.wire.specs.Refusals.{AllPassed, IsFirst}
 use Rattle.blocks.specs.Committees.{n_of}
 use Rattle.blocks.specs.Genesis.{chain_id_of}
 use Rattle.blocks.specs.Headers.{NamesParent}
-use Rattle.blocks.specs.Replica.{Ballot, ballot_on}
+use Rattle.blocks.specs.declared.ballot.Ballot.{Ballot}
+use Rattle.blocks.specs.Replica.{ballot_on}
 use Rattle.certificates.specs.Votes.{IsSignedBy}
-use Rattle.verdict_format.specs.Verdicts.{VotedHeaders, kind_in, chain_in, replica_in, earlier_in, later_in, earlier_signature_in, later_signature_in, headers_in}
+use Rattle.verdict_format.specs.Verdicts.{VotedHeaders, verdict_kind_in, chain_in, replica_in, earlier_in, later_in, earlier_signature_in, later_signature_in, headers_in}
 use Rattle.verdict_format.specs.VerdictReading.{HasForm}
 use Rattle.verdict_format.specs.Proofs.{BreaksRule}
 use Rattle.verdict_format.specs.declared.verdict.VerdictRefusal.{VerdictRefusal}
@@ -23,7 +24,7 @@ pub record AreOfVotes (e w : Ballot) (h : VotedHeaders) : Type 0 where
 
 -- a double vote needs no headers
 abbrev pub HeadersMatch : List ℕ → Type 0
-HeadersMatch bytes = MatchBool (kind_in bytes == 1) ⊤ (IsSomeAnd (headers_in bytes) (AreOfVotes (earlier_in bytes) (later_in bytes)))
+HeadersMatch bytes = MatchBool (verdict_kind_in bytes == 1) ⊤ (IsSomeAnd (headers_in bytes) (AreOfVotes (earlier_in bytes) (later_in bytes)))
 
 -- the accused replica signed this vote
 abbrev pub IsSignedByAccused : List ℕ → List ℕ → Ballot → List ℕ → Type 0

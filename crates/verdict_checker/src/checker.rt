@@ -5,8 +5,8 @@ ghost use Rattle.blocks.specs.Committees.{n_of};
 ghost use Rattle.blocks.specs.Replica.{ballot_on};
 ghost use Rattle.blocks.specs.Rules.{IsDoubleVote};
 ghost use Rattle.certificates.specs.Votes.{IsSignedBy};
-ghost use Rattle.verdict_format.specs.Verdicts.{kind_in, replica_in};
-ghost use Rattle.verdict_format.specs.VerdictReading.{IsReadable};
+ghost use Rattle.verdict_format.specs.Verdicts.{verdict_kind_in, replica_in};
+ghost use Rattle.verdict_format.specs.VerdictReading.{IsReadableVerdict};
 ghost use Rattle.verdict_format.specs.Proofs.{IsProof, IsLockViolationBy, BreaksRule, NoRunHasBothVotes, NoRunApartHasBothVotes, NoLifeReleasedBothVotes, NoLifeApartReleasedBothVotes};
 ghost use Rattle.verdict_checker.specs.Checks.{AreOfVotes, HeadersMatch, IsRefused, PassesAll};
 ghost use Rattle.verdict_checker.specs.Findings.{IsFindingOf};
@@ -91,15 +91,14 @@ fn is_signed(committee: &CommitteeView, replica: u16, vote: &VoteView) -> bool
         &LmsVerifier,
         committee,
         replica,
-        vote.view,
-        &vote.id,
+        &vote.ballot(),
         vote.signature,
     )
 }
 
 // Checks what a readable verdict says.
 fn judge(committee: &CommitteeView, verdict: &VerdictView) -> Result<(), Refusal>
-    requires { IsReadable verdict.now }
+    requires { IsReadableVerdict verdict.now }
     ensures ok { OnOk result (PassesAll committee.now verdict.now) }
     ensures first_refusal { IfErr result (IsRefused committee.now verdict.now) }
 {
@@ -136,10 +135,10 @@ pub fn check(committee: &CommitteeView, bytes: &[u8]) -> Result<Finding, Refusal
     // of the verdict have one id.
     ensures sound { OnOk result (NoRunApartHasBothVotes committee.now bytes.now) }
     // For a double vote there is no premise on ids.
-    ensures sound_of_double_votes { OnOk result (kind_in bytes.now ≡ 1 → NoRunHasBothVotes committee.now bytes.now) }
+    ensures sound_of_double_votes { OnOk result (verdict_kind_in bytes.now ≡ 1 → NoRunHasBothVotes committee.now bytes.now) }
     // The same of a replica over all its crashes and restarts.
     ensures sound_of_lives { OnOk result (NoLifeApartReleasedBothVotes committee.now bytes.now) }
-    ensures sound_of_lives_and_double_votes { OnOk result (kind_in bytes.now ≡ 1 → NoLifeReleasedBothVotes committee.now bytes.now) }
+    ensures sound_of_lives_and_double_votes { OnOk result (verdict_kind_in bytes.now ≡ 1 → NoLifeReleasedBothVotes committee.now bytes.now) }
 {
     no_run_has_a_double_vote();
     no_run_has_a_lock_violation();

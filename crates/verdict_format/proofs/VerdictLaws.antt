@@ -12,9 +12,9 @@ use Rattle.blocks.proofs.HeaderLaws.{header_found, header_again, length-header_t
 use Rattle.certificates.proofs.Pieces.{two_pieces}
 use Rattle.verdict_format.specs.declared.parts.BoundVote.{BoundVote}
 use Rattle.verdict_format.specs.declared.parts.VerdictParts.{VerdictParts}
-use Rattle.verdict_format.specs.Verdicts.{VotedHeaders, all_read, verdict_length, kind_in, earlier_signature_in, later_signature_in, headers_in}
-use Rattle.verdict_format.specs.VerdictReading.{IsReadable}
-use Rattle.verdict_format.specs.VerdictText.{IsBoundVote, AreHeaders, HeadersAreReadable, IsVerdictOf, bound_text, headers_text, kind_of, head_text, verdict_text, parts_in}
+use Rattle.verdict_format.specs.Verdicts.{VotedHeaders, all_read, verdict_length, verdict_kind_in, earlier_signature_in, later_signature_in, headers_in}
+use Rattle.verdict_format.specs.VerdictReading.{IsReadableVerdict}
+use Rattle.verdict_format.specs.VerdictText.{IsBoundVote, AreHeaders, HeadersAreReadable, IsVerdictOf, bound_text, headers_text, verdict_kind, head_text, verdict_text, parts_in}
 
 -- ---- no headers
 
@@ -59,10 +59,10 @@ were_read (Err r) b c h is = absurd cc
 -- the headers that a text shows behind its votes
 record Shows (bytes : List ℕ) (o : Option VotedHeaders) : Type 0 where
   headers : IfSome o AreHeaders
-  kind : kind_in bytes ≡ kind_of o
+  kind : verdict_kind_in bytes ≡ verdict_kind o
   text : drop 3023 bytes ≡ headers_text o
 
-three_shown : (bytes : List ℕ) (h : VotedHeaders) → AreBytes bytes → kind_in bytes ≡ 2 → length bytes ≡ 3275 → headers_in bytes ≡ Some h → Shows bytes (Some h)
+three_shown : (bytes : List ℕ) (h : VotedHeaders) → AreBytes bytes → verdict_kind_in bytes ≡ 2 → length bytes ≡ 3275 → headers_in bytes ≡ Some h → Shows bytes (Some h)
 unfolding headers_in
 three_shown bytes h fit two long is =
     let read = were_read _ _ _ h is in
@@ -75,17 +75,17 @@ three_shown bytes h fit two long is =
       text = taken bytes 3023 84 _ _ e.1 (taken bytes 3107 84 _ _ p.1 (cut_last bytes 3191 84 (omega arith) ∙ w.1));
     }
 
-none_shown : (bytes : List ℕ) → kind_in bytes ≡ 1 → length bytes ≡ 3023 → Shows bytes None
+none_shown : (bytes : List ℕ) → verdict_kind_in bytes ≡ 1 → length bytes ≡ 3023 → Shows bytes None
 none_shown bytes one long = record { headers = tt; kind = one; text = drop_all 3023 bytes (omega arith) }
 
 some_of : (o : Option VotedHeaders) → IsSome o → (h : VotedHeaders) × (o ≡ Some h)
 some_of (Some h) is = (h, refl)
 some_of None is = absurd cc
 
-long_as : (bytes : List ℕ) (kind : ℕ) → kind_in bytes ≡ kind → length bytes ≡ verdict_length (kind_in bytes) → length bytes ≡ verdict_length kind
+long_as : (bytes : List ℕ) (kind : ℕ) → verdict_kind_in bytes ≡ kind → length bytes ≡ verdict_length (verdict_kind_in bytes) → length bytes ≡ verdict_length kind
 long_as bytes kind is long = subst (λ (k : ℕ). length bytes ≡ verdict_length k) is long
 
-shown : (bytes : List ℕ) → AreBytes bytes → ((kind_in bytes ≡ 1) ⊎ (kind_in bytes ≡ 2)) → length bytes ≡ verdict_length (kind_in bytes)
+shown : (bytes : List ℕ) → AreBytes bytes → ((verdict_kind_in bytes ≡ 1) ⊎ (verdict_kind_in bytes ≡ 2)) → length bytes ≡ verdict_length (verdict_kind_in bytes)
     → HeadersAreReadable bytes → Shows bytes (headers_in bytes)
 shown bytes fit (inl one) long readable =
     let exact : length bytes ≡ 3023 = long_as bytes 1 one long in
@@ -107,7 +107,7 @@ bound_there bytes at fit long =
 one_byte : (bytes : List ℕ) (at : ℕ) → at < length bytes → piece 1 bytes at ≡ slice_index bytes at ∷ []
 one_byte bytes at below = ap (take 1) (drop_more bytes at 0 below)
 
-head_there : (bytes : List ℕ) (kind : ℕ) → AreBytes bytes → 39 ≤ length bytes → piece 4 bytes 0 ≡ codes "HSX1" → kind_in bytes ≡ kind
+head_there : (bytes : List ℕ) (kind : ℕ) → AreBytes bytes → 39 ≤ length bytes → piece 4 bytes 0 ≡ codes "HSX1" → verdict_kind_in bytes ≡ kind
     → piece 39 bytes 0 ≡ codes "HSX1" ++ (piece 32 bytes 4 ++ (big_bytes 2 (number_at 2 bytes 36) ++ kind ∷ []))
 head_there bytes kind_is fit long magic kind =
     let last : piece 1 bytes 38 ≡ kind_is ∷ [] = one_byte bytes 38 (omega arith) ∙ ap (λ (k : ℕ). k ∷ []) kind in
@@ -117,12 +117,12 @@ head_there bytes kind_is fit long magic kind =
     ∙ rw (magic, replica, last) refl
 
 -- the parts of a readable text spell it
-pub verdict_found : (bytes : List ℕ) → AreBytes bytes → IsReadable bytes → HeadersAreReadable bytes → IsVerdictOf bytes (parts_in bytes)
+pub verdict_found : (bytes : List ℕ) → AreBytes bytes → IsReadableVerdict bytes → HeadersAreReadable bytes → IsVerdictOf bytes (parts_in bytes)
 unfolding verdict_text head_text earlier_signature_in later_signature_in
 verdict_found bytes fit readable headers =
     let magic : piece 4 bytes 0 ≡ codes "HSX1" = readable.1.0 in
-    let long : length bytes ≡ verdict_length (kind_in bytes) = readable.1.1.1.0 in
-    let enough : 3023 ≤ verdict_length (kind_in bytes) = omega arith in
+    let long : length bytes ≡ verdict_length (verdict_kind_in bytes) = readable.1.1.1.0 in
+    let enough : 3023 ≤ verdict_length (verdict_kind_in bytes) = omega arith in
     let votes : 3023 ≤ length bytes = omega (arith, long, enough) in
     let behind_votes = shown bytes fit readable.1.1.0 long headers in
     record {
@@ -134,7 +134,7 @@ verdict_found bytes fit readable headers =
         headers = behind_votes.headers;
       };
       text =
-          taken bytes 0 39 _ _ (head_there bytes (kind_of (headers_in bytes)) fit (omega arith) magic behind_votes.kind) (
+          taken bytes 0 39 _ _ (head_there bytes (verdict_kind (headers_in bytes)) fit (omega arith) magic behind_votes.kind) (
           taken bytes 39 1492 _ _ (bound_there bytes 39 fit (omega arith)) (
           taken bytes 1531 1492 _ _ (bound_there bytes 1531 fit (omega arith)) behind_votes.text));
     }
@@ -169,20 +169,20 @@ reads_vote text at v rest is here =
 
 length-head_text : (v : VerdictParts) → length v.chain ≡ 32 → length (head_text v) ≡ 39
 unfolding head_text
-length-head_text v chain = let both = length-append v.chain (big_bytes 2 v.replica ++ kind_of v.headers ∷ []) in omega arith
+length-head_text v chain = let both = length-append v.chain (big_bytes 2 v.replica ++ verdict_kind v.headers ∷ []) in omega arith
 
 -- the fields of the head
 record ReadsHead (text : List ℕ) (v : VerdictParts) (rest : List ℕ) : Type 0 where
   magic : piece 4 text 0 ≡ codes "HSX1"
   chain : piece 32 text 4 ≡ v.chain
   replica : number_at 2 text 36 ≡ v.replica
-  kind : kind_in text ≡ kind_of v.headers
+  kind : verdict_kind_in text ≡ verdict_kind v.headers
   rest_is : drop 39 text ≡ rest
 
 reads_head : (text : List ℕ) (v : VerdictParts) (rest : List ℕ) → length v.chain ≡ 32 → v.replica < 2 ^ 16 → text ≡ head_text v ++ rest → ReadsHead text v rest
 unfolding head_text
 reads_head text v rest chain replica here =
-    let k : ℕ = kind_of v.headers in
+    let k : ℕ = verdict_kind v.headers in
     let after : List ℕ = big_bytes 2 v.replica ++ (k ∷ rest) in
     let grouped : drop 0 text ≡ codes "HSX1" ++ (v.chain ++ after) = here ∙ ap (λ (t : List ℕ). codes "HSX1" ++ t) (append_assoc v.chain (big_bytes 2 v.replica ++ k ∷ []) rest) in
     let second = behind text 0 4 (codes "HSX1") (v.chain ++ after) grouped refl in
@@ -229,8 +229,8 @@ reads_headers text h is here =
 
 -- what stands behind the votes of a written verdict
 record EndsWith (text : List ℕ) (o : Option VotedHeaders) : Type 0 where
-  kind : (kind_of o ≡ 1) ⊎ (kind_of o ≡ 2)
-  long : length text ≡ verdict_length (kind_of o)
+  kind : (verdict_kind o ≡ 1) ⊎ (verdict_kind o ≡ 2)
+  long : length text ≡ verdict_length (verdict_kind o)
   headers : headers_in text ≡ o
 
 ends_with : (text : List ℕ) (o : Option VotedHeaders) → IfSome o AreHeaders → length text ≡ 3023 + length (headers_text o) → drop 3023 text ≡ headers_text o → EndsWith text o
@@ -245,7 +245,7 @@ ends_with text (Some h) are long here =
     record { kind = inr refl; long = omega (arith, length-append e (p ++ w), length-append p w); headers = reads_headers text h are here }
 
 -- what is written is read, with its parts
-pub verdict_again : (bytes : List ℕ) (v : VerdictParts) → IsVerdictOf bytes v → IsReadable bytes × (parts_in bytes ≡ v)
+pub verdict_again : (bytes : List ℕ) (v : VerdictParts) → IsVerdictOf bytes v → IsReadableVerdict bytes × (parts_in bytes ≡ v)
 unfolding verdict_text earlier_signature_in later_signature_in
 verdict_again text v is =
     let parts = is.parts in
@@ -262,13 +262,13 @@ verdict_again text v is =
     in
     let end = ends_with text v.headers parts.headers long second.rest_is in
     let kind = subst (λ (k : ℕ). (k ≡ 1) ⊎ (k ≡ 2)) (sym head.kind) end.kind in
-    let right : length text ≡ verdict_length (kind_in text) = end.long ∙ sym (ap verdict_length head.kind) in (
+    let right : length text ≡ verdict_length (verdict_kind_in text) = end.long ∙ sym (ap verdict_length head.kind) in (
       (omega arith, (head.magic, (kind, (right, tt)))),
       same_of v _ _ _ _ _ head.chain head.replica (same_vote v.earlier _ _ _ first.view first.id first.signature) (same_vote v.later _ _ _ second.view second.id second.signature) end.headers,
     )
 
 -- the rule that a written verdict names
-pub kind_again : (bytes : List ℕ) (v : VerdictParts) → IsVerdictOf bytes v → kind_in bytes ≡ kind_of v.headers
+pub kind_again : (bytes : List ℕ) (v : VerdictParts) → IsVerdictOf bytes v → verdict_kind_in bytes ≡ verdict_kind v.headers
 unfolding verdict_text
 kind_again text v is =
     (reads_head text v (bound_text v.earlier ++ (bound_text v.later ++ headers_text v.headers)) is.parts.chain is.parts.replica is.text).kind

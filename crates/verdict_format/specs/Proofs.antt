@@ -7,11 +7,12 @@ use Rattle.std.specs.List.{Contains}
 use Rattle.blocks.specs.Headers.{Header}
 use Rattle.blocks.specs.Chains.{NoCollision}
 use Rattle.blocks.specs.Genesis.{genesis_of, chain_id_of}
-use Rattle.blocks.specs.Replica.{Event, Ballot, IsRun, votes_of, headers_of}
-use Rattle.blocks.specs.Lives.{Stay, IsLife, released_in, headers_in as headers_of_life}
+use Rattle.blocks.specs.declared.ballot.Ballot.{Ballot}
+use Rattle.blocks.specs.Replica.{Event, IsRun, votes_of, headers_of}
+use Rattle.blocks.specs.Lives.{Stay, IsLife, released_in, headers_of_life}
 use Rattle.blocks.specs.Rules.{IsDoubleVote, IsLockViolation}
 use Rattle.certificates.specs.Votes.{IsGoodVote}
-use Rattle.verdict_format.specs.Verdicts.{VotedHeaders, IsVerdict, kind_in, chain_in, earlier_in, later_in, earlier_vote_in, later_vote_in, headers_in}
+use Rattle.verdict_format.specs.Verdicts.{VotedHeaders, IsVerdict, verdict_kind_in, chain_in, earlier_in, later_in, earlier_vote_in, later_vote_in, headers_in}
 
 -- two votes and the headers behind them are a lock violation
 abbrev pub IsLockViolationBy : Ballot → Ballot → VotedHeaders → Type 0
@@ -20,7 +21,7 @@ IsLockViolationBy e w h = IsLockViolation e w h.earlier h.parent h.later
 -- the votes of a verdict break the rule that it names; the headers are needed for a lock violation alone
 abbrev pub BreaksRule : List ℕ → Type 0
 BreaksRule bytes =
-    MatchBool (kind_in bytes == 1)
+    MatchBool (verdict_kind_in bytes == 1)
     (IsDoubleVote (earlier_in bytes) (later_in bytes))
     (IsSomeAnd (headers_in bytes) (IsLockViolationBy (earlier_in bytes) (later_in bytes)))
 

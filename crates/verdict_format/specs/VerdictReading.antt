@@ -2,16 +2,17 @@
 use Rattle.std.specs.Prelude.{◌≡◌, ◌≤◌, ℕ, List, [], ◌∷◌, length, codes}
 use Rattle.wire.specs.Pieces.{piece}
 use Rattle.wire.specs.Refusals.{AllPassed, IsFirst}
+use Rattle.verdict_format.specs.declared.verdict.TheConstants.{EARLIER_AT}
 use Rattle.verdict_format.specs.declared.verdict.VerdictRefusal.{VerdictRefusal}
 use Rattle.verdict_format.specs.declared.verdict.VerdictRefusal.TheVariants.{Short, Magic, Kind, Length}
-use Rattle.verdict_format.specs.Verdicts.{kind_in, IsKind, verdict_length}
+use Rattle.verdict_format.specs.Verdicts.{verdict_kind_in, IsKind, verdict_length}
 
 -- what each refusal tests
 abbrev pub HasForm : List ℕ → VerdictRefusal → Type 0
-HasForm bytes Short = 39 ≤ length bytes
+HasForm bytes Short = EARLIER_AT ≤ length bytes
 HasForm bytes Magic = piece 4 bytes 0 ≡ codes "HSX1"
-HasForm bytes Kind = IsKind (kind_in bytes)
-HasForm bytes Length = length bytes ≡ verdict_length (kind_in bytes)
+HasForm bytes Kind = IsKind (verdict_kind_in bytes)
+HasForm bytes Length = length bytes ≡ verdict_length (verdict_kind_in bytes)
 
 -- the number that docs/REFUSALS.md gives a refusal
 abbrev pub verdict_refusal_number : VerdictRefusal → ℕ
@@ -24,8 +25,8 @@ abbrev pub form_order : List VerdictRefusal
 form_order = Short ∷ Magic ∷ Kind ∷ Length ∷ []
 
 -- the verdict can be read; whether its headers can is another matter
-abbrev pub IsReadable : List ℕ → Type 0
-IsReadable bytes = AllPassed (HasForm bytes) form_order
+abbrev pub IsReadableVerdict : List ℕ → Type 0
+IsReadableVerdict bytes = AllPassed (HasForm bytes) form_order
 
 -- it can not, by the first test that it does not pass
 abbrev pub IsFormRefusal : List ℕ → VerdictRefusal → Type 0

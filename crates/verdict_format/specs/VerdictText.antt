@@ -1,10 +1,11 @@
 -- The bytes of a verdict, as docs/FORMATS.md, "Verdict", lays them out, and the parts that bytes spell.
 use Rattle.std.specs.Prelude.{◌≡◌, ◌<◌, ◌^◌, ◌++◌, ℕ, List, [], ◌∷◌, length, codes, Option, Some, None, IfSome, IsSome}
+use Rattle.lms_tree.specs.declared.TheConstants.{SIGNATURE_LEN}
 use Rattle.byteorder.specs.Endian.{big_bytes}
 use Rattle.blocks.specs.Headers.{IsHeader, header_text}
 use Rattle.verdict_format.specs.declared.parts.BoundVote.{BoundVote}
 use Rattle.verdict_format.specs.declared.parts.VerdictParts.{VerdictParts}
-use Rattle.verdict_format.specs.Verdicts.{VotedHeaders, kind_in, chain_in, replica_in, earlier_in, later_in, earlier_signature_in, later_signature_in, headers_in}
+use Rattle.verdict_format.specs.Verdicts.{VotedHeaders, verdict_kind_in, chain_in, replica_in, earlier_in, later_in, earlier_signature_in, later_signature_in, headers_in}
 
 -- ---- which verdicts there are
 
@@ -12,7 +13,7 @@ use Rattle.verdict_format.specs.Verdicts.{VotedHeaders, kind_in, chain_in, repli
 pub record IsBoundVote (v : BoundVote) : Type 0 where
   pub view : v.view < 2 ^ 64
   pub id : length v.id ≡ 32
-  pub signature : length v.signature ≡ 1452
+  pub signature : length v.signature ≡ SIGNATURE_LEN
 
 -- headers that have bytes
 pub record AreHeaders (h : VotedHeaders) : Type 0 where
@@ -40,13 +41,13 @@ headers_text None = []
 headers_text (Some h) = header_text h.earlier ++ (header_text h.parent ++ header_text h.later)
 
 -- the rule that was broken: a lock violation is shown by headers, a double vote is not
-abbrev pub kind_of : Option VotedHeaders → ℕ
-kind_of None = 1
-kind_of (Some h) = 2
+abbrev pub verdict_kind : Option VotedHeaders → ℕ
+verdict_kind None = 1
+verdict_kind (Some h) = 2
 
 -- "HSX1", the chain, the replica, and the rule that it broke
 unfoldable pub head_text : VerdictParts → List ℕ
-head_text v = codes "HSX1" ++ (v.chain ++ (big_bytes 2 v.replica ++ kind_of v.headers ∷ []))
+head_text v = codes "HSX1" ++ (v.chain ++ (big_bytes 2 v.replica ++ verdict_kind v.headers ∷ []))
 
 -- the head, the two votes, and the headers
 unfoldable pub verdict_text : VerdictParts → List ℕ
@@ -59,7 +60,7 @@ pub record IsVerdictOf (bytes : List ℕ) (v : VerdictParts) : Type 0 where
 
 -- the headers of a lock violation are readable
 abbrev pub HeadersAreReadable : List ℕ → Type 0
-HeadersAreReadable bytes = kind_in bytes ≡ 2 → IsSome (headers_in bytes)
+HeadersAreReadable bytes = verdict_kind_in bytes ≡ 2 → IsSome (headers_in bytes)
 
 -- ---- the parts of a verdict at their places
 

@@ -4,35 +4,41 @@ use Rattle.wire.specs.Pieces.{piece, number_at}
 use Rattle.certificates.specs.declared.vote.SignedVote.{SignedVote}
 use Rattle.blocks.specs.Headers.{Header}
 use Rattle.blocks.specs.HeaderReading.{header_in}
-use Rattle.blocks.specs.Replica.{Ballot}
+use Rattle.lms_tree.specs.declared.TheConstants.{SIGNATURE_LEN}
+use Rattle.blocks.specs.declared.ballot.Ballot.{Ballot}
+use Rattle.verdict_format.specs.declared.verdict.TheConstants.{CHAIN_AT, EARLIER_AT, HEADERS_AT, ID_IN_VOTE, KIND_AT, LATER_AT, REPLICA_AT, SIGNATURE_IN_VOTE}
 
 -- ---- what each verdict says
 
 -- the chain that the votes are on
 abbrev pub chain_in : List ℕ → List ℕ
-chain_in bytes = piece 32 bytes 4
+chain_in bytes = piece 32 bytes CHAIN_AT
 
 -- the accused replica
 abbrev pub replica_in : List ℕ → ℕ
-replica_in bytes = number_at 2 bytes 36
+replica_in bytes = number_at 2 bytes REPLICA_AT
 
 -- the rule that it broke: 1 for a double vote, 2 for a lock violation
-abbrev pub kind_in : List ℕ → ℕ
-kind_in bytes = slice_index bytes 38
+abbrev pub verdict_kind_in : List ℕ → ℕ
+verdict_kind_in bytes = slice_index bytes KIND_AT
+
+-- the view and the id of the vote that stands here
+abbrev pub ballot_at : List ℕ → ℕ → Ballot
+ballot_at bytes at = record { view = number_at 8 bytes at; id = piece 32 bytes (at + ID_IN_VOTE) }
 
 -- its two votes; of a lock violation the first is the earlier, of a double vote either is
 abbrev pub earlier_in : List ℕ → Ballot
-earlier_in bytes = record { view = number_at 8 bytes 39; id = piece 32 bytes 47 }
+earlier_in bytes = ballot_at bytes EARLIER_AT
 
 abbrev pub later_in : List ℕ → Ballot
-later_in bytes = record { view = number_at 8 bytes 1531; id = piece 32 bytes 1539 }
+later_in bytes = ballot_at bytes LATER_AT
 
 -- and their signatures
 unfoldable pub earlier_signature_in : List ℕ → List ℕ
-earlier_signature_in bytes = piece 1452 bytes 79
+earlier_signature_in bytes = piece SIGNATURE_LEN bytes (EARLIER_AT + SIGNATURE_IN_VOTE)
 
 unfoldable pub later_signature_in : List ℕ → List ℕ
-later_signature_in bytes = piece 1452 bytes 1571
+later_signature_in bytes = piece SIGNATURE_LEN bytes (LATER_AT + SIGNATURE_IN_VOTE)
 
 -- a vote with the number of its replica and its signature
 abbrev pub signed_by : ℕ → Ballot → List ℕ → SignedVote
@@ -61,7 +67,7 @@ all_read (Err r) p w = None
 
 -- the headers that stand behind the votes, if they are readable
 unfoldable pub headers_in : List ℕ → Option VotedHeaders
-headers_in bytes = all_read (header_in (piece 84 bytes 3023)) (header_in (piece 84 bytes 3107)) (header_in (piece 84 bytes 3191))
+headers_in bytes = all_read (header_in (piece 84 bytes HEADERS_AT)) (header_in (piece 84 bytes (HEADERS_AT + 84))) (header_in (piece 84 bytes (HEADERS_AT + 168)))
 
 -- ---- verdicts
 
@@ -71,10 +77,10 @@ IsKind kind = (kind ≡ 1) ⊎ (kind ≡ 2)
 
 -- a verdict has headers where it is of a lock violation
 abbrev pub verdict_length : ℕ → ℕ
-verdict_length kind = 3023 + (if kind == 2 then 252 else 0)
+verdict_length kind = HEADERS_AT + (if kind == 2 then 252 else 0)
 
 -- these bytes have the form of a verdict
 pub record IsVerdict (bytes : List ℕ) : Type 0 where
   pub magic : piece 4 bytes 0 ≡ codes "HSX1"
-  pub kind : IsKind (kind_in bytes)
-  pub long : length bytes ≡ verdict_length (kind_in bytes)
+  pub kind : IsKind (verdict_kind_in bytes)
+  pub long : length bytes ≡ verdict_length (verdict_kind_in bytes)

@@ -2,7 +2,7 @@
 
 ghost use Rattle.std.specs.Prelude.{◌≡◌, ◌<◌, ◌^◌, ◌++◌, IfOk, IfSome, OnOk, length};
 ghost use Rattle.verdict_format.specs.RuleNumbers.{rule_number};
-ghost use Rattle.verdict_format.specs.VerdictText.{AreHeaders, IsBoundVote, IsVerdictOf, bound_text, head_text, headers_text, kind_of, verdict_text};
+ghost use Rattle.verdict_format.specs.VerdictText.{AreHeaders, IsBoundVote, IsVerdictOf, bound_text, head_text, headers_text, verdict_kind, verdict_text};
 
 use crate::verdict::Rule;
 use blocks::{Header, Id};
@@ -61,7 +61,7 @@ pub struct VerdictParts {
 impl VerdictParts {
     /// The rule that they show to be broken.
     fn rule(&self) -> Rule
-        ensures { rule_number result ≡ kind_of self.now.headers }
+        ensures { rule_number result ≡ verdict_kind self.now.headers }
     {
         match self.headers {
             None => Rule::DoubleVote,

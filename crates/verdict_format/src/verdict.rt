@@ -1,24 +1,42 @@
 //! Verdicts, read in place.
 
 ghost use Rattle.std.specs.Prelude.{◌≡◌, ◌+◌, ◌≤◌, Ok, IfOk, IfErr, OnOk, MatchOption, length};
-ghost use Rattle.verdict_format.specs.Verdicts.{chain_in, replica_in, kind_in, earlier_in, later_in, earlier_signature_in, later_signature_in, all_read, headers_in, verdict_length, IsKind};
+ghost use Rattle.verdict_format.specs.Verdicts.{chain_in, replica_in, verdict_kind_in, earlier_in, later_in, earlier_signature_in, later_signature_in, all_read, headers_in, verdict_length, IsKind};
 ghost use Rattle.verdict_format.specs.RuleNumbers.{rule_number};
 ghost use Rattle.blocks.specs.HeaderReading.{header_in};
 ghost use Rattle.wire.specs.Pieces.{piece};
 ghost use Rattle.verdict_format.specs.VerdictText.{HeadersAreReadable, IsVerdictOf, parts_in};
 ghost use Rattle.verdict_format.specs.declared.parts.VerdictParts.{VerdictParts};
-ghost use Rattle.verdict_format.specs.VerdictReading.{IsReadable, IsFormRefusal, verdict_refusal_number};
+ghost use Rattle.verdict_format.specs.VerdictReading.{IsReadableVerdict, IsFormRefusal, verdict_refusal_number};
 
 use crate::parts::VotedHeaders;
-use blocks::{HEADER_LEN, Header, HeaderRefusal, Id};
+use blocks::{Ballot, HEADER_LEN, Header, HeaderRefusal, Id};
 use std::marker::Model;
 use wire::{array_at, u16_at, u64_at};
 
-/// The length in bytes of what stands before the votes: magic, chain id, replica and kind.
-const HEAD_LEN: usize = 39;
+// Where each part of a verdict stands, in bytes.
+pub(crate) const CHAIN_AT: usize = 4;
+
+pub(crate) const REPLICA_AT: usize = 36;
+
+pub(crate) const KIND_AT: usize = 38;
+
+pub(crate) const EARLIER_AT: usize = 39;
+
+pub(crate) const LATER_AT: usize = EARLIER_AT + BOUND_VOTE_LEN;
+
+pub(crate) const HEADERS_AT: usize = LATER_AT + BOUND_VOTE_LEN;
+
+// The length in bytes of a vote that leaves its replica to the head: view, id and signature.
+pub(crate) const BOUND_VOTE_LEN: usize = 1492;
+
+// Where its id and its signature stand in it.
+pub(crate) const ID_IN_VOTE: usize = 8;
+
+pub(crate) const SIGNATURE_IN_VOTE: usize = 40;
 
 /// The length in bytes of a verdict of kind 1: the head and two votes.
-const DOUBLE_VOTE_LEN: usize = 3023;
+const DOUBLE_VOTE_LEN: usize = HEADERS_AT;
 
 /// The length in bytes of a verdict of kind 2: the same and three headers.
 const LOCK_VIOLATION_LEN: usize = DOUBLE_VOTE_LEN + 3 * HEADER_LEN;
@@ -92,6 +110,18 @@ pub struct VoteView<'a> {
     pub signature: &'a [u8],
 }
 
+impl<'a> VoteView<'a> {
+    /// What the vote is on.
+    pub fn ballot(&self) -> Ballot
+        ensures { result ≡ record { view = self.now.view; id = self.now.id } }
+    {
+        Ballot {
+            view: self.view,
+            id: self.id,
+        }
+    }
+}
+
 /// A verdict, made by `VerdictView::parse` alone. Contracts see its bytes.
 #[derive(Drop)]
 pub struct VerdictView<'a> {
@@ -101,13 +131,13 @@ pub struct VerdictView<'a> {
 impl<'a> Model for VerdictView<'a> {
     ghost use Rattle.std.specs.Prelude.{ℕ, List};
     ghost use Rattle.verdict_format.specs.RuleNumbers.{rule_number};
-    ghost use Rattle.verdict_format.specs.VerdictReading.{IsReadable};
+    ghost use Rattle.verdict_format.specs.VerdictReading.{IsReadableVerdict};
 
     ghost Value = { List ℕ };
 
     ghost view = { λ v. v.bytes.now };
 
-    ghost invariant = { λ v. IsReadable v.bytes.now };
+    ghost invariant = { λ v. IsReadableVerdict v.bytes.now };
 }
 
 impl<'a> VerdictView<'a> {
@@ -117,7 +147,7 @@ impl<'a> VerdictView<'a> {
     /// Nothing is copied, no signature is checked, and the headers may be unreadable. Refused in this
     /// order: Short, Magic, Kind, Length.
     pub fn parse(bytes: &'a [u8]) -> Result<VerdictView<'a>, VerdictRefusal>
-        ensures ok { IfOk result (λ v. (v ≡ bytes.now) × IsReadable bytes.now) }
+        ensures ok { IfOk result (λ v. (v ≡ bytes.now) × IsReadableVerdict bytes.now) }
 
         // What is read is spelled so, where the headers are readable.
         ensures found { OnOk result (HeadersAreReadable bytes.now → IsVerdictOf bytes.now (parts_in bytes.now)) }
@@ -128,13 +158,13 @@ impl<'a> VerdictView<'a> {
         // The first test that fails refuses.
         ensures first_refusal { IfErr result (IsFormRefusal bytes.now) }
     {
-        if bytes.len() < HEAD_LEN {
+        if bytes.len() < EARLIER_AT {
             return Err(VerdictRefusal::Short);
         }
         if !bytes.starts_with(b"HSX1") {
             return Err(VerdictRefusal::Magic);
         }
-        let Some(rule) = Rule::of_kind(bytes[38]) else {
+        let Some(rule) = Rule::of_kind(bytes[KIND_AT]) else {
             return Err(VerdictRefusal::Kind);
         };
         if bytes.len() != rule.verdict_len() {
@@ -145,9 +175,9 @@ impl<'a> VerdictView<'a> {
 
     /// The rule that the verdict says was broken.
     pub fn rule(&self) -> Rule
-        ensures { rule_number result ≡ kind_in self.now }
+        ensures { rule_number result ≡ verdict_kind_in self.now }
     {
-        match self.bytes[38] {
+        match self.bytes[KIND_AT] {
             1 => Rule::DoubleVote,
             _ => Rule::LockViolation,
         }
@@ -157,14 +187,14 @@ impl<'a> VerdictView<'a> {
     pub fn chain(&self) -> Id
         ensures { result ≡ chain_in self.now }
     {
-        array_at(self.bytes, 4)
+        array_at(self.bytes, CHAIN_AT)
     }
 
     /// The number of the accused replica.
     pub fn replica(&self) -> u16
         ensures { result ≡ replica_in self.now }
     {
-        u16_at(self.bytes, 36)
+        u16_at(self.bytes, REPLICA_AT)
     }
 
     /// The first of the two votes.
@@ -174,9 +204,9 @@ impl<'a> VerdictView<'a> {
         ensures signature { result.signature.now ≡ earlier_signature_in self.now }
     {
         VoteView {
-            view: u64_at(self.bytes, 39),
-            id: array_at(self.bytes, 47),
-            signature: &self.bytes[79..1531],
+            view: u64_at(self.bytes, EARLIER_AT),
+            id: array_at(self.bytes, EARLIER_AT + ID_IN_VOTE),
+            signature: &self.bytes[EARLIER_AT + SIGNATURE_IN_VOTE..LATER_AT],
         }
     }
 
@@ -187,9 +217,9 @@ impl<'a> VerdictView<'a> {
         ensures signature { result.signature.now ≡ later_signature_in self.now }
     {
         VoteView {
-            view: u64_at(self.bytes, 1531),
-            id: array_at(self.bytes, 1539),
-            signature: &self.bytes[1571..3023],
+            view: u64_at(self.bytes, LATER_AT),
+            id: array_at(self.bytes, LATER_AT + ID_IN_VOTE),
+            signature: &self.bytes[LATER_AT + SIGNATURE_IN_VOTE..HEADERS_AT],
         }
     }
 
@@ -203,9 +233,9 @@ impl<'a> VerdictView<'a> {
         match self.rule() {
             Rule::DoubleVote => None,
             Rule::LockViolation => all_read(
-                header_at(self.bytes, 3023),
-                header_at(self.bytes, 3107),
-                header_at(self.bytes, 3191),
+                header_at(self.bytes, HEADERS_AT),
+                header_at(self.bytes, HEADERS_AT + HEADER_LEN),
+                header_at(self.bytes, HEADERS_AT + 2 * HEADER_LEN),
             ),
         }
     }

@@ -7,13 +7,13 @@ use Rattle.blocks.specs.Replica.{Stored}
 use Rattle.blocks.specs.Replay.{IsLegal}
 use Rattle.stable_log.proofs.Told.{some_if, if_some}
 use Rattle.stable_log.specs.Crash.{LeavesOnly}
-use Rattle.stable_log.specs.Image.{StandsFor, LeavesList, IsBeforeOrAfter as IsListBeforeOrAfter}
+use Rattle.stable_log.specs.Image.{StandsFor, LeavesList, IsBeforeOrAfter}
 use Rattle.stable_log.specs.State.{JournalState}
 use Rattle.stable_log.specs.declared.error.JournalError.{JournalError}
 use Rattle.stable_log.specs.declared.error.JournalError.TheVariants.{Memory, Device, NotAJournal, Damaged, Full, TooLong, Stopped, NoSuchEntry}
 use Rattle.log_format.specs.EntryText.{Entry, IsEntryOf, stored_in}
 use Rattle.log_format.specs.EntryReading.{entry_in}
-use Rattle.vote_log.specs.Logs.{AreTexts, IsBeforeOrAfter, KeepsLog, LeavesEntries, texts_of}
+use Rattle.vote_log.specs.Logs.{AreTexts, IsLogBeforeOrAfter, KeepsLog, LeavesEntries, texts_of}
 use Rattle.vote_log.proofs.LogLaws.{entries_push, length-push, texts_and_one, texts_are, texts_push}
 
 -- a disk that tells now told before
@@ -86,13 +86,13 @@ module _ (payloads : List (List ℕ)) (steps : List Stored) (text : List ℕ) (e
       ap (λ (l : List (List ℕ)). l ++ text ∷ []) before_texts ∙ ap (λ (t : List ℕ). texts_of (map entry_in payloads) ++ t ∷ []) is.text
       ∙ sym (texts_push (map entry_in payloads) e)
 
-  before_or_after : (image : List ℕ) → IsListBeforeOrAfter payloads text image → IsBeforeOrAfter (map entry_in payloads) e image
+  before_or_after : (image : List ℕ) → IsBeforeOrAfter payloads text image → IsLogBeforeOrAfter (map entry_in payloads) e image
   before_or_after image (inl stands) = inl (subst (λ (l : List (List ℕ)). StandsFor image l) before_texts stands)
   before_or_after image (inr stands) = inr (subst (λ (l : List (List ℕ)). StandsFor image l) after_texts stands)
 
   module _ {D : Type 0} (moment : D → ℕ) (images_since : D → ℕ → List ℕ → Type 0) (old new : D) where
     -- a run of calls that leaves the one list or the other
-    pub run_entries : LeavesOnly moment images_since old new (IsListBeforeOrAfter payloads text) → LeavesOnly moment images_since old new (IsBeforeOrAfter (map entry_in payloads) e)
+    pub run_entries : LeavesOnly moment images_since old new (IsBeforeOrAfter payloads text) → LeavesOnly moment images_since old new (IsLogBeforeOrAfter (map entry_in payloads) e)
     run_entries run = record {
       later = run.later;
       each = λ image left. before_or_after image (run.each image left);
@@ -102,18 +102,18 @@ module _ (payloads : List (List ℕ)) (steps : List Stored) (text : List ℕ) (e
 -- the same where it is told
 pub run_told : {D : Type 0} (moment : D → ℕ) (images_since : D → ℕ → List ℕ → Type 0) (old new : D) (told : Option (List ℕ)) (images : List ℕ → Type 0) (payloads : List (List ℕ)) (stopped : Bool) (genesis : Header) (steps : List Stored) (text : List ℕ) (e : Entry)
     → KeepsLog told images payloads stopped genesis steps → IsEntryOf text e
-    → IfSome told (λ _. LeavesOnly moment images_since old new (IsListBeforeOrAfter payloads text))
-    → IfSome told (λ _. LeavesOnly moment images_since old new (IsBeforeOrAfter (map entry_in payloads) e))
+    → IfSome told (λ _. LeavesOnly moment images_since old new (IsBeforeOrAfter payloads text))
+    → IfSome told (λ _. LeavesOnly moment images_since old new (IsLogBeforeOrAfter (map entry_in payloads) e))
 run_told moment images_since old new told images payloads stopped genesis steps text e keeps is run =
-    some_if told (λ _. LeavesOnly moment images_since old new (IsBeforeOrAfter (map entry_in payloads) e)) (λ bs at.
-    run_entries payloads steps text e is (keeps.listed bs at) moment images_since old new (if_some told (λ _. LeavesOnly moment images_since old new (IsListBeforeOrAfter payloads text)) bs run at))
+    some_if told (λ _. LeavesOnly moment images_since old new (IsLogBeforeOrAfter (map entry_in payloads) e)) (λ bs at.
+    run_entries payloads steps text e is (keeps.listed bs at) moment images_since old new (if_some told (λ _. LeavesOnly moment images_since old new (IsBeforeOrAfter payloads text)) bs run at))
 
 -- while nothing is called a crash leaves the list
 pub unmoved : {D : Type 0} (moment : D → ℕ) (images_since : D → ℕ → List ℕ → Type 0) (disk : D) (told : Option (List ℕ)) (images : List ℕ → Type 0) (payloads : List (List ℕ)) (stopped : Bool) (genesis : Header) (steps : List Stored) (e : Entry)
     → KeepsLog told images payloads stopped genesis steps → ((image : List ℕ) → images_since disk (moment disk) image → images image) → stopped ≡ false
-    → IfSome told (λ _. LeavesOnly moment images_since disk disk (IsBeforeOrAfter (map entry_in payloads) e))
+    → IfSome told (λ _. LeavesOnly moment images_since disk disk (IsLogBeforeOrAfter (map entry_in payloads) e))
 unmoved moment images_since disk told images payloads stopped genesis steps e keeps only_now running =
-    some_if told (λ _. LeavesOnly moment images_since disk disk (IsBeforeOrAfter (map entry_in payloads) e)) (λ bs at.
+    some_if told (λ _. LeavesOnly moment images_since disk disk (IsLogBeforeOrAfter (map entry_in payloads) e)) (λ bs at.
     record {
       later = omega arith;
       each = λ image left. inl (subst (λ (l : List (List ℕ)). StandsFor image l) (texts_are payloads (keeps.listed bs at).each) (keeps.durable running bs at image (only_now image left)));

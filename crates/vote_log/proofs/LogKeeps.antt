@@ -12,7 +12,7 @@ use Rattle.stable_log.specs.State.{JournalState}
 use Rattle.log_format.specs.EntryText.{Entry, IsEntry, entry_text}
 use Rattle.log_format.specs.EntryReading.{entry_in}
 use Rattle.vote_log.specs.Logs.{AreListed, AreTexts, IsEntryAt, IsEntryText, KeepsLog, LogState, StandsForEntries, texts_of}
-use Rattle.vote_log.specs.LogRefusals.{IsEntryRefusal, IsReadFault}
+use Rattle.vote_log.specs.LogRefusals.{IsLogEntryRefusal, IsEntryReadRefusal}
 use Rattle.vote_log.specs.declared.log_error.LogError.{LogError}
 use Rattle.vote_log.specs.declared.log_error.LogError.TheVariants.{Memory, Device, NotAJournal, Damaged, Full, Stopped, NoSuchEntry, BadEntry, IllegalLog}
 use Rattle.log_format.proofs.EntryLaws.{entry_again}
@@ -38,7 +38,7 @@ get-text (y ∷ ys) (suc k) below each =
 
 -- a telling disk gives an entry that can be read
 pub entry_fault : {D : Type 0} (told : Option (List ℕ)) (journal : JournalState D) (log : LogState D) (k : ℕ) (e : LogError) → log.stopped ≡ journal.stopped → length journal.payloads ≡ length log.steps
-    → ((bs : List ℕ) → told ≡ Some bs → AreTexts journal.payloads log.steps) → IsReadFault told journal k e → IsEntryRefusal told log k e
+    → ((bs : List ℕ) → told ≡ Some bs → AreTexts journal.payloads log.steps) → IsEntryReadRefusal told journal k e → IsLogEntryRefusal told log k e
 entry_fault told journal log k Memory same counted listed fault = (same ∙ fault.0, subst (λ (n : ℕ). k < n) counted fault.1)
 entry_fault told journal log k Device same counted listed fault = (same ∙ fault.0, subst (λ (n : ℕ). k < n) counted fault.1)
 entry_fault told journal log k Stopped same counted listed fault = same ∙ fault

@@ -8,14 +8,14 @@ use Rattle.stable_log.proofs.Told.{some_if, if_some}
 use Rattle.stable_log.specs.State.{JournalState}
 use Rattle.log_format.specs.EntryText.{Entry}
 use Rattle.vote_log.specs.Logs.{AreTexts, IsEntryAt, IsFirstUnreadable}
-use Rattle.vote_log.specs.LogRefusals.{IsReadFault, IsStepsFault}
+use Rattle.vote_log.specs.LogRefusals.{IsEntryReadRefusal, IsStepsRefusal}
 use Rattle.vote_log.specs.declared.log_error.LogError.{LogError}
 use Rattle.vote_log.specs.declared.log_error.LogError.TheVariants.{Memory, Device, NotAJournal, Damaged, Full, Stopped, NoSuchEntry, BadEntry, IllegalLog}
 use Rattle.vote_log.proofs.LogLaws.{first_unreadable}
 
 module _ {D : Type 0} (genesis : Header) (told now : Option (List ℕ)) (journal : JournalState D) (payloads : List (List ℕ)) (k : ℕ) (steps : List Stored) (same : now ≡ told) (list : journal.payloads ≡ payloads) (running : journal.stopped ≡ false) (below : k < length payloads) (legal : IsLegal genesis steps) (read : (bs : List ℕ) → told ≡ Some bs → AreTexts (take k payloads) steps) where
   -- an entry that can not be read after legal ones is the first that is bad
-  pub steps_fault : (e : LogError) → IsReadFault now journal k e → IsStepsFault genesis told payloads e
+  pub steps_fault : (e : LogError) → IsEntryReadRefusal now journal k e → IsStepsRefusal genesis told payloads e
   steps_fault Memory fault = tt
   steps_fault Device fault = tt
   steps_fault Stopped fault = absurd (false≢true (sym running ∙ fault))

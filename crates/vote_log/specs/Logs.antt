@@ -47,8 +47,8 @@ abbrev pub LeavesEntries : (List ℕ → Type 0) → List Entry → Type 0
 LeavesEntries images entries = LeavesList images (texts_of entries)
 
 -- an image of the list from before an append, or of that list with the new entry
-abbrev pub IsBeforeOrAfter : List Entry → Entry → List ℕ → Type 0
-IsBeforeOrAfter entries entry image = StandsForEntries image entries ⊎ StandsForEntries image (entries ++ entry ∷ [])
+abbrev pub IsLogBeforeOrAfter : List Entry → Entry → List ℕ → Type 0
+IsLogBeforeOrAfter entries entry image = StandsForEntries image entries ⊎ StandsForEntries image (entries ++ entry ∷ [])
 
 -- payload k is the text of this entry
 pub record IsEntryAt (payloads : List (List ℕ)) (k : ℕ) (e : Entry) : Type 0 where

@@ -3,7 +3,8 @@
 ghost use Rattle.std.specs.Prelude.{◌≡◌, ◌≤◌, ◌<◌, ◌+◌, ◌-◌, ◌⊎◌, ℕ, List, [], false, drop, length, take, Some, IfErr, IfOk, IfSome, OnErr, OnOk, slice_get, slice_index_or, codes};
 ghost use Rattle.std.specs.List.{flat_map};
 ghost use Rattle.log_format.specs.Exports.{asked_for, end_mark, export_text, frame_text};
-ghost use Rattle.stable_log.specs.Crash.{Unwritten};
+ghost use Rattle.stable_log.specs.Devices.{Untouched};
+ghost use Rattle.wire.specs.declared.limits.TheConstants.{LONGEST_PAYLOAD};
 ghost use Rattle.streams.specs.Streams.{Wrote, WrotePart};
 ghost use Rattle.vote_log.specs.LogExport.{Blames, frame_at, frame_count, frames_from};
 
@@ -11,13 +12,13 @@ use crate::ExportError;
 use stable_log::{Disk, Journal};
 use std::alloc::{AllocError, Global};
 use streams::{Sink, write_all};
-use wire::put;
+use wire::{LONGEST_PAYLOAD, put};
 
 // What stands in front of a payload: its length.
 const FRAME_HEAD: usize = 4;
 
 /// The length in bytes of the longest frame.
-pub(crate) const LONGEST_FRAME: usize = FRAME_HEAD + 65536;
+pub(crate) const LONGEST_FRAME: usize = FRAME_HEAD + LONGEST_PAYLOAD;
 
 /// A buffer of as many bytes.
 pub(crate) fn buffer_of(alloc: Global, len: usize) -> Result<Vec<u8>, AllocError>
@@ -47,11 +48,11 @@ fn read_payload<D: Disk>(
     requires inside { (journal.old.stopped ≡ false) × (k < length journal.old.payloads) }
     ensures ok { IfOk result (λ n. IfSome (D.bytes journal.old.disk) (λ _.
         slice_get journal.old.payloads k ≡ Some (take n (drop 4 frame.new)))) }
-    ensures size { IfOk result (λ n. n ≤ 65536) }
+    ensures size { IfOk result (λ n. n ≤ LONGEST_PAYLOAD) }
     ensures room { length frame.new ≡ 65540 }
     ensures same { (journal.new.payloads ≡ journal.old.payloads)
         × (journal.new.stopped ≡ journal.old.stopped)
-        × Unwritten D.bytes D.images D.moment D.images_since journal.old.disk journal.new.disk }
+        × Untouched D.Disk journal.old.disk journal.new.disk }
     ensures refused { IfErr result (λ e. e ≡ ExportError.Device) }
     ensures cause { Blames (D.failed journal.old.disk) (D.failed journal.new.disk) 0 0 result }
 {
@@ -77,7 +78,7 @@ fn read_frame<D: Disk>(
     ensures room { length frame.new ≡ 65540 }
     ensures same { (journal.new.payloads ≡ journal.old.payloads)
         × (journal.new.stopped ≡ journal.old.stopped)
-        × Unwritten D.bytes D.images D.moment D.images_since journal.old.disk journal.new.disk }
+        × Untouched D.Disk journal.old.disk journal.new.disk }
     ensures refused { IfErr result (λ e. e ≡ ExportError.Device) }
     ensures cause { Blames (D.failed journal.old.disk) (D.failed journal.new.disk) 0 0 result }
 {
@@ -102,7 +103,7 @@ fn send_frame<D: Disk, W: Sink>(
     ensures room { length frame.new ≡ 65540 }
     ensures same { (journal.new.payloads ≡ journal.old.payloads)
         × (journal.new.stopped ≡ journal.old.stopped)
-        × Unwritten D.bytes D.images D.moment D.images_since journal.old.disk journal.new.disk }
+        × Untouched D.Disk journal.old.disk journal.new.disk }
     ensures refused { IfErr result (λ e. (e ≡ ExportError.Device) ⊎ (e ≡ ExportError.Sink)) }
     ensures cause { Blames (D.failed journal.old.disk) (D.failed journal.new.disk)
         (W.failed sink.old) (W.failed sink.new) result }
@@ -128,7 +129,7 @@ fn send_frames<D: Disk, W: Sink>(
         WrotePart (W.text sink.old) (W.text sink.new) (frames_from journal.old.payloads from until)) }
     ensures same { (journal.new.payloads ≡ journal.old.payloads)
         × (journal.new.stopped ≡ journal.old.stopped)
-        × Unwritten D.bytes D.images D.moment D.images_since journal.old.disk journal.new.disk }
+        × Untouched D.Disk journal.old.disk journal.new.disk }
     ensures refused { IfErr result (λ e. (e ≡ ExportError.Sink)
         ⊎ ((e ≡ ExportError.Device) × (from < until))) }
     ensures cause { Blames (D.failed journal.old.disk) (D.failed journal.new.disk)
@@ -180,7 +181,7 @@ pub(crate) fn send_export<D: Disk, W: Sink>(
     ensures count { IfOk result (λ n. n ≡ frame_count (length journal.old.payloads) first most) }
     ensures same { (journal.new.payloads ≡ journal.old.payloads)
         × (journal.new.stopped ≡ journal.old.stopped)
-        × Unwritten D.bytes D.images D.moment D.images_since journal.old.disk journal.new.disk }
+        × Untouched D.Disk journal.old.disk journal.new.disk }
     ensures refused { IfErr result (λ e. (e ≡ ExportError.Sink) ⊎ ((e ≡ ExportError.Device)
         × (0 < frame_count (length journal.old.payloads) first most))) }
     ensures cause { Blames (D.failed journal.old.disk) (D.failed journal.new.disk)

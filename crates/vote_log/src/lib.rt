@@ -9,7 +9,8 @@ mod log_error;
 mod reading;
 
 pub use export_error::ExportError;
-pub use log::{MOST_ENTRIES, VoteLog};
+pub use log::VoteLog;
 pub use log_error::LogError;
 pub use log_format::{Entry, EntryRefusal, Frames, Status, entries_have_one_spelling};
 pub use streams::{Fault, Feed, MemoryFeed, MemorySink, Sink, StdFeed, StdSink};
+pub use wire::MOST_ENTRIES;

@@ -4,14 +4,16 @@ ghost use Rattle.std.specs.Prelude.{◌≡◌, ◌≢◌, ◌<◌, ◌≤◌, �
 ghost use Rattle.std.specs.List.{All};
 ghost use Rattle.blocks.specs.Headers.{IsGenesis};
 ghost use Rattle.blocks.specs.Replay.{IsLegal, replay};
-ghost use Rattle.stable_log.specs.Crash.{Follows, LeavesOnly, Only, Torn, Unwritten};
+ghost use Rattle.stable_log.specs.Crash.{Follows, Only, Torn};
+ghost use Rattle.stable_log.specs.Devices.{AtAnyMoment, Untouched};
 ghost use Rattle.faults.specs.Counting.{HasFailed};
+ghost use Rattle.wire.specs.declared.limits.TheConstants.{MOST_ENTRIES};
 ghost use Rattle.stable_log.specs.Image.{empty_journal};
 ghost use Rattle.streams.specs.Streams.{Wrote, WrotePart};
 ghost use Rattle.log_format.specs.EntryText.{Entry as EntryValue, IsEntry, stored_in};
 ghost use Rattle.vote_log.specs.LogExport.{Blames, IsExportRefusal, export_of, frame_count};
-ghost use Rattle.vote_log.specs.LogRefusals.{IsAppendRefusal, IsCreateRefusal, IsEntryRefusal, IsRecoverRefusal, MayAppend, MayRead};
-ghost use Rattle.vote_log.specs.Logs.{AreListed, IsBeforeOrAfter, IsLog, LeavesEntries, StandsForEntries, steps_of};
+ghost use Rattle.vote_log.specs.LogRefusals.{IsLogAppendRefusal, IsLogCreateRefusal, IsLogEntryRefusal, IsLogRecoverRefusal, LogMayAppend, LogMayRead};
+ghost use Rattle.vote_log.specs.Logs.{AreListed, IsLogBeforeOrAfter, IsLog, LeavesEntries, StandsForEntries, steps_of};
 
 use crate::export::{LONGEST_FRAME, buffer_of, send_export};
 use crate::reading::{read_entry, read_steps};
@@ -22,9 +24,7 @@ use stable_log::{Disk, Journal};
 use std::alloc::Global;
 use std::marker::Model;
 use streams::Sink;
-
-/// The greatest number of entries in a log.
-pub const MOST_ENTRIES: usize = 4096;
+use wire::MOST_ENTRIES;
 
 /// The entries of a replica, in the order in which it stored them, on a disk. Each is legal after the ones before
 /// it: a vote is above the last one, and on the lock or on a parent younger than it; a lock that is raised without a
@@ -68,9 +68,9 @@ impl<D: Disk> VoteLog<D> {
         ensures durable { IfOk result (λ l. IfSome (D.bytes disk) (λ _. LeavesEntries (D.images l.disk) [])) }
         ensures no_failure { IfOk result (λ l. D.failed l.disk ≡ D.failed disk) }
 
-        ensures first_refusal { IfErr result (λ e. IsCreateRefusal (D.bytes disk) e.0) }
+        ensures first_refusal { IfErr result (λ e. IsLogCreateRefusal (D.bytes disk) e.0) }
         ensures err { IfErr result (λ e. IfSome (D.bytes disk) (λ bytes. bytes ≢ [] →
-            Unwritten D.bytes D.images D.moment D.images_since disk e.1)) }
+            Untouched D.Disk disk e.1)) }
         ensures tells { IfErr result (λ e. IsSome (D.bytes e.1) ↔ IsSome (D.bytes disk)) }
         ensures torn { IfErr result (λ e. Follows (Torn 0 9) (D.images disk) (D.images e.1)) }
         ensures cause { IfErr result (λ e. e.0 ≡ LogError.Device →
@@ -102,11 +102,11 @@ impl<D: Disk> VoteLog<D> {
             All IsEntry entries → StandsForEntries bytes entries → entries ≡ l.entries)) }
         ensures running { IfOk result (λ l. (l.stopped ≡ false) × (l.genesis ≡ genesis)) }
         ensures durable { IfOk result (λ l. IfSome (D.bytes disk) (λ bytes. Only bytes (D.images l.disk))) }
-        ensures same { IfOk result (λ l. Unwritten D.bytes D.images D.moment D.images_since disk l.disk) }
+        ensures same { IfOk result (λ l. Untouched D.Disk disk l.disk) }
         ensures no_failure { IfOk result (λ l. D.failed l.disk ≡ D.failed disk) }
 
-        ensures first_refusal { IfErr result (λ e. IsRecoverRefusal genesis (D.bytes disk) e.0) }
-        ensures err { IfErr result (λ e. Unwritten D.bytes D.images D.moment D.images_since disk e.1) }
+        ensures first_refusal { IfErr result (λ e. IsLogRecoverRefusal genesis (D.bytes disk) e.0) }
+        ensures err { IfErr result (λ e. Untouched D.Disk disk e.1) }
         ensures cause { IfErr result (λ e. e.0 ≡ LogError.Device →
             HasFailed (D.failed disk) (D.failed e.1)) }
         ensures kept { IfErr result (λ e. e.0 ≢ LogError.Device → D.failed e.1 ≡ D.failed disk) }
@@ -137,7 +137,7 @@ impl<D: Disk> VoteLog<D> {
             self.new.entries ≡ self.old.entries ++ entry.now ∷ [])) }
         ensures running { OnOk result (self.new.stopped ≡ false) }
         ensures genesis { self.new.genesis ≡ self.old.genesis }
-        ensures exact { OnOk result (MayAppend self.old) }
+        ensures exact { OnOk result (LogMayAppend self.old) }
         ensures durable { OnOk result (IfSome (D.bytes self.old.disk) (λ _.
             LeavesEntries (D.images self.new.disk) (self.old.entries ++ entry.now ∷ []))) }
         ensures no_failure { OnOk result (D.failed self.new.disk ≡ D.failed self.old.disk) }
@@ -145,10 +145,10 @@ impl<D: Disk> VoteLog<D> {
 
         // A crash at any moment of the call leaves the list from before it, with the entry or without.
         ensures any_moment { self.old.stopped ≡ false → IfSome (D.bytes self.old.disk) (λ _.
-            LeavesOnly D.moment D.images_since self.old.disk self.new.disk
-            (IsBeforeOrAfter self.old.entries entry.now)) }
+            AtAnyMoment D.Disk self.old.disk self.new.disk
+            (IsLogBeforeOrAfter self.old.entries entry.now)) }
 
-        ensures first_refusal { IfErr result (IsAppendRefusal self.old) }
+        ensures first_refusal { IfErr result (IsLogAppendRefusal self.old) }
         ensures device { IsErrOf result LogError.Device → (self.new.entries ≡ self.old.entries)
             × (self.new.steps ≡ self.old.steps) × (self.new.stopped ≡ true) }
         ensures err { IfErr result (λ e. e ≢ LogError.Device → self.new ≡ self.old) }
@@ -174,12 +174,12 @@ impl<D: Disk> VoteLog<D> {
     pub fn entry(&mut self, k: usize) -> Result<Entry, LogError>
         ensures ok { IfOk result (λ e. IfSome (D.bytes self.old.disk) (λ _.
             slice_get self.old.entries k ≡ Some e)) }
-        ensures exact { OnOk result (MayRead self.old k) }
+        ensures exact { OnOk result (LogMayRead self.old k) }
         ensures same { (self.new.entries ≡ self.old.entries) × (self.new.steps ≡ self.old.steps)
             × (self.new.stopped ≡ self.old.stopped) × (self.new.genesis ≡ self.old.genesis)
-            × Unwritten D.bytes D.images D.moment D.images_since self.old.disk self.new.disk }
+            × Untouched D.Disk self.old.disk self.new.disk }
         ensures no_failure { OnOk result (D.failed self.new.disk ≡ D.failed self.old.disk) }
-        ensures first_refusal { IfErr result (IsEntryRefusal (D.bytes self.old.disk) self.old k) }
+        ensures first_refusal { IfErr result (IsLogEntryRefusal (D.bytes self.old.disk) self.old k) }
         ensures cause { IsErrOf result LogError.Device →
             HasFailed (D.failed self.old.disk) (D.failed self.new.disk) }
         ensures kept { IfErr result (λ e. e ≢ LogError.Device →
@@ -205,7 +205,7 @@ impl<D: Disk> VoteLog<D> {
         ensures exact { OnOk result (self.old.stopped ≡ false) }
         ensures same { (self.new.entries ≡ self.old.entries) × (self.new.steps ≡ self.old.steps)
             × (self.new.stopped ≡ self.old.stopped) × (self.new.genesis ≡ self.old.genesis)
-            × Unwritten D.bytes D.images D.moment D.images_since self.old.disk self.new.disk }
+            × Untouched D.Disk self.old.disk self.new.disk }
         ensures first_refusal { IfErr result (IsExportRefusal self.old first most) }
         ensures part { OnErr result (IfSome (D.bytes self.old.disk) (λ _.
             WrotePart (W.text sink.old) (W.text sink.new) (export_of self.old.entries first most))) }
@@ -225,7 +225,7 @@ impl<D: Disk> VoteLog<D> {
     /// How many entries there are, at most 4,096.
     pub fn count(&self) -> usize
         ensures value { result ≡ length self.now.steps }
-        ensures few { result ≤ 4096 }
+        ensures few { result ≤ MOST_ENTRIES }
     {
         self.journal.count()
     }

@@ -2,10 +2,10 @@
 
 ghost use Rattle.std.specs.Prelude.{◌≡◌, ◌≢◌, ℕ, List, false, length, Some, IfErr, IfOk, IfSome, IsErrOf, OnOk};
 ghost use Rattle.blocks.specs.Replay.{IsLegal, replay};
-ghost use Rattle.stable_log.specs.Crash.{Unwritten};
+ghost use Rattle.stable_log.specs.Devices.{Untouched};
 ghost use Rattle.faults.specs.Counting.{HasFailed};
 ghost use Rattle.stable_log.specs.Refusals.{MayRead};
-ghost use Rattle.vote_log.specs.LogRefusals.{IsReadFault, IsStepsFault};
+ghost use Rattle.vote_log.specs.LogRefusals.{IsEntryReadRefusal, IsStepsRefusal};
 ghost use Rattle.vote_log.specs.Logs.{AreTexts, IsEntryAt};
 
 use crate::{Entry, EntryRefusal, LogError};
@@ -25,9 +25,9 @@ pub(crate) fn read_entry<D: Disk>(
     ensures exact { OnOk result (MayRead journal.old k) }
     ensures same { (journal.new.payloads ≡ journal.old.payloads)
         × (journal.new.stopped ≡ journal.old.stopped)
-        × Unwritten D.bytes D.images D.moment D.images_since journal.old.disk journal.new.disk }
+        × Untouched D.Disk journal.old.disk journal.new.disk }
     ensures no_failure { OnOk result (D.failed journal.new.disk ≡ D.failed journal.old.disk) }
-    ensures first_refusal { IfErr result (IsReadFault (D.bytes journal.old.disk) journal.old k) }
+    ensures first_refusal { IfErr result (IsEntryReadRefusal (D.bytes journal.old.disk) journal.old k) }
     ensures cause { IsErrOf result LogError.Device →
         HasFailed (D.failed journal.old.disk) (D.failed journal.new.disk) }
     ensures kept { IfErr result (λ e. e ≢ LogError.Device →
@@ -54,9 +54,9 @@ pub(crate) fn read_steps<D: Disk>(
     ensures told { IfOk result (λ steps. (bs : List ℕ) → D.bytes journal.old.disk ≡ Some bs →
         AreTexts journal.old.payloads steps.items) }
     ensures same { (journal.new.payloads ≡ journal.old.payloads) × (journal.new.stopped ≡ false)
-        × Unwritten D.bytes D.images D.moment D.images_since journal.old.disk journal.new.disk }
+        × Untouched D.Disk journal.old.disk journal.new.disk }
     ensures no_failure { OnOk result (D.failed journal.new.disk ≡ D.failed journal.old.disk) }
-    ensures first_refusal { IfErr result (IsStepsFault genesis.now (D.bytes journal.old.disk)
+    ensures first_refusal { IfErr result (IsStepsRefusal genesis.now (D.bytes journal.old.disk)
         journal.old.payloads) }
     ensures cause { IsErrOf result LogError.Device →
         HasFailed (D.failed journal.old.disk) (D.failed journal.new.disk) }

@@ -1,11 +1,9 @@
-use Rattle.std.proofs.Common.{◌≡◌, ◌≤◌, true, false, length, get_or, rules, arith, sym, subst}
+use Rattle.std.proofs.Common.{◌≡◌, ◌≤◌, length, get_or, rules, arith, sym, subst}
 use Rattle.std.specs.List.{All}
 use Rattle.blocks.specs.Committees.{n_of}
-use Rattle.blocks.specs.Weights.{quorum_of}
 use Rattle.certificates.specs.declared.vote.SignedVote.{SignedVote}
-use Rattle.certificates.specs.Assembling.{IsVoteFor}
-use Rattle.certificates.specs.CertificateReading.{is_rising}
-use Rattle.certificates.proofs.Assembled.{agree_from, mixed_from, double_from, different_from, passed}
+use Rattle.certificates.specs.Assembling.{AreByDifferent, IsVoteFor}
+use Rattle.certificates.proofs.Assembled.{agree_from, mixed_from, rising_from, passed}
 use Rattle.certificates.proofs.assembling.assemble.Goals as goal
 
 pub returns-then-not-are_for-clause-first_refusal : goal.returns-then-not-are_for-clause-first_refusal
@@ -16,19 +14,6 @@ returns-then-not-are_for-clause-first_refusal c =
     let fails : All (IsVoteFor first.view first.id) votes → ⊥ = search rules in
     mixed_from votes first first is fails
 
-pub returns-then-not-is_rising-clause-first_refusal : goal.returns-then-not-is_rising-clause-first_refusal
-returns-then-not-is_rising-clause-first_refusal c =
-    let votes = c.args.votes.now in
-    let first = c.in-Some.first.now in
-    let entries = c.sort_by_replica.new.entries.items in
-    let for_first : All (IsVoteFor first.view first.id) votes = search rules in
-    let not_rising : is_rising entries ≡ false = cc in
-    let enough : quorum_of c.args.committee.now ≤ length votes = omega arith in (
-      agree_from votes first.view first.id for_first,
-      enough,
-      double_from votes _ entries c.in_ok-entries.ensures.ok c.sort_by_replica.ensures.same c.sort_by_replica.ensures.sorted not_rising,
-    )
-
 pub of-requires : goal.of-requires
 of-requires c =
     let votes = c.args.votes.now in
@@ -37,7 +22,8 @@ of-requires c =
     let is : first ≡ get_or votes 0 first = search rules in
     let some : 1 ≤ length votes = omega arith in
     let above : 1 ≤ first.view = subst (λ (v : SignedVote). 1 ≤ v.view) (sym is) (c.requires.after_genesis 0 first some) in
-    let rising : is_rising entries ≡ true = cc in
+    let different : AreByDifferent votes = search rules in
+    let rising = rising_from votes _ entries c.in_ok-entries.ensures.ok c.sort_by_replica.ensures.same c.sort_by_replica.ensures.sorted different in
     let p = passed (n_of c.args.committee.now) first.view votes _ entries c.quorum.ensures.few c.requires.known above some c.in_ok-entries.ensures.ok c.sort_by_replica.ensures.same c.in_ok-entries.ensures.fits rising in
     record { each = p.each; rising = p.rising; most = p.most; none = p.none }
 
@@ -45,11 +31,5 @@ pub returns-clause-passes : goal.returns-clause-passes
 returns-clause-passes c =
     let votes = c.args.votes.now in
     let first = c.in-Some.first.now in
-    let entries = c.sort_by_replica.new.entries.items in
     let for_first : All (IsVoteFor first.view first.id) votes = search rules in
-    let rising : is_rising entries ≡ true = cc in
-    record {
-      agree = agree_from votes first.view first.id for_first;
-      enough = omega arith;
-      different = different_from votes _ entries c.in_ok-entries.ensures.ok c.sort_by_replica.ensures.same rising;
-    }
+    record { agree = agree_from votes first.view first.id for_first; enough = omega arith; different = search rules }

@@ -2,7 +2,7 @@ use Rattle.std.proofs.Common.{◌++◌, ◌≤◌, List, [], length, ap, ◌∙�
 use Rattle.std.specs.List.{flat_map}
 use Rattle.std.proofs.lemmas.List.{take_all}
 use Rattle.certificates.specs.declared.certificate.Endorsement.{Endorsement}
-use Rattle.certificates.specs.Certificates.{entry_text}
+use Rattle.certificates.specs.Certificates.{endorsement_text}
 use Rattle.certificates.proofs.Entries.{put_more}
 use Rattle.certificates.proofs.certificate.put_entries.Goals as goal
 
@@ -14,4 +14,4 @@ loop-e-preserved c =
 pub returns : goal.returns
 returns c =
     let end : length c.args.entries.now ≤ c.loop-e.e-index = omega arith in
-    c.loop-e.invariant ∙ ap (λ (es : List Endorsement). c.args.text.now.items ++ flat_map entry_text es) (take_all c.loop-e.e-index c.args.entries.now end)
+    c.loop-e.invariant ∙ ap (λ (es : List Endorsement). c.args.text.now.items ++ flat_map endorsement_text es) (take_all c.loop-e.e-index c.args.entries.now end)

@@ -6,8 +6,8 @@ use Rattle.key_index_store.proofs.Bounds.{some_if, if_some}
 use Rattle.key_index_store.proofs.Reservations.{too_many, other_entry, take-reservations}
 use Rattle.key_index_store.proofs.store.read_reservations.Goals as goal
 
-pub returns-then-count-clause-first_refusal : goal.returns-then-count-clause-first_refusal
-returns-then-count-clause-first_refusal g c = some_if (g.D.Disk.bytes c.args.journal.now.disk) _ (λ bs is n few. too_many c.args.journal.now.payloads n (omega arith) few)
+pub returns-then-count-limit-clause-first_refusal : goal.returns-then-count-limit-clause-first_refusal
+returns-then-count-limit-clause-first_refusal g c = some_if (g.D.Disk.bytes c.args.journal.now.disk) _ (λ bs is n few. too_many c.args.limit c.args.journal.now.payloads n (omega arith) few)
 
 pub returns-then-not-is_reservation-clause-first_refusal : goal.returns-then-not-is_reservation-clause-first_refusal
 returns-then-not-is_reservation-clause-first_refusal g c = some_if (g.D.Disk.bytes c.args.journal.now.disk) _ (λ bs is n few.

@@ -5,8 +5,8 @@ use Rattle.stable_log.proofs.Told.{some_if, ok_maps, err_maps}
 use Rattle.stable_log.proofs.ReadingLemmas.{recover_refusal}
 use Rattle.stable_log.proofs.reading.read_journal.Goals as goal
 
-pub read_entries-requires : goal.read_entries-requires
-read_entries-requires g c = λ bs is.
+pub read_payloads-requires : goal.read_payloads-requires
+read_payloads-requires g c = λ bs is.
     let is1 = sym c.in_ok-read.ensures.unwritten.same ∙ is in
     let is0 = sym c.in_ok-size.ensures.unwritten.same ∙ is1 in
     let head = c.in_ok-read.ensures.told bs is1 in
@@ -15,10 +15,10 @@ read_entries-requires g c = λ bs is.
 
 pub returns-clause-told : goal.returns-clause-told
 returns-clause-told g c =
-    ok_maps c.read_entries.result _ _ c.read_entries.ensures.told (λ r told bs is.
+    ok_maps c.read_payloads.result _ _ c.read_payloads.ensures.told (λ r told bs is.
     let is1 = c.in_ok-size.ensures.unwritten.same ∙ is in
     let t = told bs (c.in_ok-read.ensures.unwritten.same ∙ is1) in
-    (t.0, t.1, λ image left. (c.in_ok-size.ensures.told bs is).1 image (c.in_ok-read.ensures.unwritten.no_new image (c.read_entries.ensures.unwritten.no_new image left))))
+    (t.0, t.1, λ image left. (c.in_ok-size.ensures.told bs is).1 image (c.in_ok-read.ensures.unwritten.no_new image (c.read_payloads.ensures.unwritten.no_new image left))))
 
 pub returns-then-not-is_magic-clause-first_refusal :
     goal.returns-then-not-is_magic-clause-first_refusal
@@ -30,7 +30,7 @@ returns-then-not-is_magic-clause-first_refusal g c = some_if (g.D.Disk.bytes c.a
 
 pub returns-clause-first_refusal : goal.returns-clause-first_refusal
 returns-clause-first_refusal g c =
-    err_maps c.read_entries.result _ _ c.read_entries.ensures.first_refusal (λ e fault.
+    err_maps c.read_payloads.result _ _ c.read_payloads.ensures.first_refusal (λ e fault.
     recover_refusal _ _ e fault (c.in_ok-read.ensures.unwritten.same ∙ c.in_ok-size.ensures.unwritten.same) (λ bs is.
     let head = c.in_ok-read.ensures.told bs (c.in_ok-size.ensures.unwritten.same ∙ is) in
     let good : c.read.new.out ≡ magic = search rules in

@@ -1,6 +1,6 @@
 use Rattle.std.proofs.Common.{◌≡◌, subst}
 use Rattle.blocks.specs.Headers.{Header}
-use Rattle.evidence.specs.Gathering.{Grows, IsGatherFault}
+use Rattle.evidence.specs.Gathering.{Grows, IsGatheringRefusal}
 use Rattle.evidence.specs.Gathering.{IsNone}
 use Rattle.std.specs.List.{Contains}
 use Rattle.evidence.proofs.Absorbing.{headers_more, headers_fault}
@@ -11,8 +11,8 @@ pub returns-in_err-add_header-clause-err : goal.returns-in_err-add_header-clause
 returns-in_err-add_header-clause-err c =
     let x = c.header-item.result in
     let e = c.in_err-add_header.field-0.0 in
-    let fault = subst (λ (y : Header). IsGatherFault c.loop-header.self (λ h. h ≡ y) e) c.header.ensures c.in_err-add_header.ensures.err in
-    handed_on c.from_residual.result (IsGatherFault c.args.self.now (Contains c.args.headers.now)) e c.from_residual.ensures.1
+    let fault = subst (λ (y : Header). IsGatheringRefusal c.loop-header.self (λ h. h ≡ y) e) c.header.ensures c.in_err-add_header.ensures.err in
+    handed_on c.from_residual.result (IsGatheringRefusal c.args.self.now (Contains c.args.headers.now)) e c.from_residual.ensures.1
     (headers_fault c.args.self.now c.loop-header.self c.args.headers.now c.loop-header.header-index x e c.loop-header-test.true c.header-item.is c.loop-header.invariant fault)
 
 pub loop-header-preserved : goal.loop-header-preserved

@@ -1,6 +1,6 @@
 use Rattle.std.proofs.Common.{◌≡◌, ◌≤◌, List, [], ℕ, length, take, subst, arith}
 use Rattle.std.proofs.lemmas.List.{take_all}
-use Rattle.certificates.specs.Certificates.{entry_of}
+use Rattle.certificates.specs.Certificates.{nth_endorsement}
 use Rattle.certificates.specs.declared.certificate.Endorsement.{Endorsement}
 use Rattle.certificates.specs.declared.vote.SignedVote.{SignedVote}
 use Rattle.evidence.specs.Gathering.{Grows}
@@ -22,7 +22,7 @@ loop-k-preserved c =
     let below = c.loop-k-test.true in
     let count = c.count-k-end.ensures.value in
     let Shows = IsGoodVoteOf a.committee cert in
-    grown_as a d _ _ _ _ none_of (λ v. next_votes Shows cert.entries k (record { replica = 0; signature = [] }) (λ (x : SignedVote). IsGoodVote a.committee x × (x ≡ w)) v (omega arith) (good_vote a.committee cert (entry_of cert k) w v c.vote.ensures))
+    grown_as a d _ _ _ _ none_of (λ v. next_votes Shows cert.entries k (record { replica = 0; signature = [] }) (λ (x : SignedVote). IsGoodVote a.committee x × (x ≡ w)) v (omega arith) (good_vote a.committee cert (nth_endorsement cert k) w v c.vote.ensures))
     (grown_then a b d IsNone IsNone (InSome Shows (take k cert.entries)) (λ (q : List ℕ) (x : SignedVote). IsGoodVote q x × (x ≡ w)) c.loop-k.invariant c.in_ok-add_vote.ensures)
 
 pub returns : goal.returns

@@ -1,6 +1,6 @@
 use Rattle.std.proofs.Common.{◌<◌, ◌+◌, List, [], ℕ, length, take, sym, subst, ◌∙◌, arith}
 use Rattle.std.proofs.lemmas.Bool.{false≢true}
-use Rattle.evidence.specs.Gathering.{IsGatherFault}
+use Rattle.evidence.specs.Gathering.{IsGatheringRefusal}
 use Rattle.evidence.specs.Sets.{InSome}
 use Rattle.evidence.specs.Logs.{SpellsEntry, FrameHasHeader, FrameHasVote, HaveEntries}
 use Rattle.evidence.proofs.Gatherings.{fault_at, grown_step, handed_on, next_is_entry, next_is_none}
@@ -11,7 +11,7 @@ pub returns-in_err-add_frame-clause-err : goal.returns-in_err-add_frame-clause-e
 returns-in_err-add_frame-clause-err c =
     let fs = c.args.frames.now.frames in
     let below = c.loop-k-test.true in
-    handed_on c.from_residual.result (IsGatherFault c.args.self.now (InSome FrameHasHeader fs)) c.in_err-add_frame.field-0.0 c.from_residual.ensures.1
+    handed_on c.from_residual.result (IsGatheringRefusal c.args.self.now (InSome FrameHasHeader fs)) c.in_err-add_frame.field-0.0 c.from_residual.ensures.1
     (fault_at c.args.self.now c.loop-k.self FrameHasHeader _ fs c.loop-k.k c.payload.result.now [] c.in_err-add_frame.field-0.0 (omega (arith, below, c.len-k-end.ensures)) (sym c.payload.ensures) c.loop-k.invariant.grown c.in_err-add_frame.ensures.err)
 
 pub loop-k-preserved : goal.loop-k-preserved

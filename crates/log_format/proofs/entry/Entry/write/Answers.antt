@@ -12,7 +12,7 @@ returns-clause-text c =
     let fourth = c.put_own_vote.new.text.items in
     let made : c.append-4.new.text.items ≡ entry_text e =
     written e c.new-text.result.items first second third fourth c.append-4.new.text.items c.new-text.ensures.items
-    (c.in_ok-append.ensures.ok ∙ ap (λ (k : ℕ). c.new-text.result.items ++ k ∷ []) c.kind_of.ensures)
+    (c.in_ok-append.ensures.ok ∙ ap (λ (k : ℕ). c.new-text.result.items ++ k ∷ []) c.entry_kind.ensures)
     (c.in_ok-append-2.ensures.ok ∙ ap (λ (t : List ℕ). first ++ t) c.to_bytes.ensures.text)
     (c.in_ok-append-3.ensures.ok ∙ ap (λ (t : List ℕ). second ++ t) c.to_bytes-2.ensures.text)
     c.in_ok-put_own_vote.ensures

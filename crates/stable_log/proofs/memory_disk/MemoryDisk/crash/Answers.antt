@@ -5,7 +5,7 @@ use Rattle.stable_log.specs.declared.memory_disk.Call.{Call}
 use Rattle.stable_log.specs.declared.memory_disk.Call.TheVariants.{Write, Sync}
 use Rattle.stable_log.specs.Crash.{Torn}
 use Rattle.stable_log.specs.Disk.{written}
-use Rattle.stable_log.specs.Memory.{state_of}
+use Rattle.stable_log.specs.Memory.{disk_state}
 use Rattle.stable_log.proofs.Memory.{seen_step, left_step, synced_step}
 use Rattle.stable_log.proofs.Told.{ok_both}
 use Rattle.stable_log.proofs.memory_disk.MemoryDisk.crash.Goals as goal
@@ -23,7 +23,7 @@ loop-call-preserved c =
       | in-Sync+in_ok-left-in-Sync w ↦
           let at : get_or calls i Sync ≡ Sync = first_of (cc, search rules, grind (arith, common_steps)) in
           let next : take (i + 1) calls ≡ take i calls ++ Sync ∷ [] = take_more calls i Sync lt ∙ ap (λ (k : Call). take i calls ++ k ∷ []) at in
-          let same : c.match-call.seen.items ≡ (state_of first (take i calls)).bytes = ap (λ v. v.items) w.seen-is ∙ inv.seen in
+          let same : c.match-call.seen.items ≡ (disk_state first (take i calls)).bytes = ap (λ v. v.items) w.seen-is ∙ inv.seen in
           let fresh : c.match-call.left.items ≡ c.loop-call.seen.items = search rules in
           record {
             seen = seen_step first calls i Sync c.match-call.seen.items next same;
@@ -35,8 +35,8 @@ loop-call-preserved c =
           let call = Write w.in-Write.at w.in-Write.piece in
           let at : get_or calls i call ≡ call = first_of (cc, search rules, grind (arith, common_steps)) in
           let next : take (i + 1) calls ≡ take i calls ++ call ∷ [] = take_more calls i call lt ∙ ap (λ (k : Call). take i calls ++ k ∷ []) at in
-          let old : w.deref-in-Write-3.result.now ≡ (state_of first (take i calls)).bytes = w.deref-in-Write-3.ensures.value ∙ inv.seen in
-          let stored : c.match-call.seen.items ≡ written (state_of first (take i calls)).bytes w.in-Write.at w.in-Write.piece.items =
+          let old : w.deref-in-Write-3.result.now ≡ (disk_state first (take i calls)).bytes = w.deref-in-Write-3.ensures.value ∙ inv.seen in
+          let stored : c.match-call.seen.items ≡ written (disk_state first (take i calls)).bytes w.in-Write.at w.in-Write.piece.items =
           ap (λ v. v.items) w.seen-is ∙ w.in_ok-seen-in-Write.ensures ∙ (λ k. written (old k) w.in-Write.at (w.deref-in-Write-4.ensures.value k)) in
           let left = w.in_ok-left-in-Write.left.items in
           let torn1 : Torn w.in-Write.at (length w.in-Write.piece.items) w.deref-in-Write.result.now left =

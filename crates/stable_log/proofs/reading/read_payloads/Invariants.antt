@@ -2,7 +2,7 @@ use Rattle.std.proofs.Common.{◌≡◌, ◌+◌, ◌*◌, ◌≤◌, ℕ, List,
 use Rattle.stable_log.specs.declared.reading.Place.{Place}
 use Rattle.stable_log.specs.Crash.{Unwritten}
 use Rattle.stable_log.specs.Places.{IsRead}
-use Rattle.stable_log.proofs.reading.read_entries.Given as goal
+use Rattle.stable_log.proofs.reading.read_payloads.Given as goal
 
 abbrev pub invariant-loop : goal.invariant-loop
 invariant-loop g l = record {

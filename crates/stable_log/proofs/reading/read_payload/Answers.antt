@@ -2,8 +2,8 @@ use Rattle.std.proofs.Common.{◌≡◌, ◌+◌, ℕ, get_or, take, drop, sym, 
 use Rattle.byteorder.specs.Endian.{big_bytes}
 use Rattle.stable_log.proofs.ReadingLemmas.{entry_at, first_of_piece}
 use Rattle.stable_log.proofs.OneList.{broken_entry, broken_size}
-use Rattle.stable_log.proofs.reading.read_entry.Goals as goal
-use Rattle.stable_log.proofs.reading.read_entry.Goals.{then-len-eq0-via-then-len-eq0, then-len-eq0-via-else-len-eq0+then-len, then-len-eq0-via-else-len-eq0+else-len+then-len-size}
+use Rattle.stable_log.proofs.reading.read_payload.Goals as goal
+use Rattle.stable_log.proofs.reading.read_payload.Goals.{then-len-eq0-via-then-len-eq0, then-len-eq0-via-else-len-eq0+then-len, then-len-eq0-via-else-len-eq0+else-len+then-len-size}
 
 pub returns-then-size-gate_at-lt5-clause-first_refusal :
     goal.returns-then-size-gate_at-lt5-clause-first_refusal
