@@ -1,0 +1,16 @@
+//! Tests of the desk: worked runs over blocks, certificates and logs of an independent program, calls that overlap in
+//! threads, refusals, limits, and crashes.
+#![tactic(auto)]
+
+#[cfg(test)]
+mod crash_runs;
+#[cfg(test)]
+mod limits;
+#[cfg(test)]
+mod overlaps;
+#[cfg(test)]
+mod refusals;
+#[cfg(test)]
+mod replicas;
+#[cfg(test)]
+mod worked_runs;

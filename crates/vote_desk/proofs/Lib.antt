@@ -1,0 +1,9 @@
+pub mod Lists
+pub mod Keeping
+pub mod Plans
+pub mod Steps
+pub mod Delivered
+pub mod Gathered
+pub mod ClosedLogs
+pub mod Stays
+pub mod Numbers

@@ -1,0 +1,16 @@
+use Rattle.vote_desk.specs.Desks.{DeskView}
+use Rattle.vote_desk.proofs.Steps.{keeps_passed}
+use Rattle.vote_desk.proofs.state.DeskState.pass.Goals as goal
+
+pub invariant_of-self : goal.invariant_of-self
+invariant_of-self g c =
+    let i = c.self.inside in
+    let d : DeskView _ = record { core = i.core; seed = i.tree; indices = i.indices; log = i.log; released = i.book.total } in
+    let plan = rw (← c.self.view_is) at c.requires.plan in
+    let done = c.apply.ensures in
+    record {
+      desk = keeps_passed g.D.Disk.bytes g.D.Disk.images g.N.Naming.committee g.N.Naming.replica g.N.Naming.opening d c.self.invariant.desk c.apply.new.self c.args.plan plan c.requires.act done.headers done.genesis done.state;
+      replica_is = c.self.invariant.replica_is;
+      chain_is = c.self.invariant.chain_is;
+      opened_is = c.self.invariant.opened_is;
+    }

@@ -1,0 +1,114 @@
+-- The desk of a replica: what contracts see of it, and what it keeps from one call to the next.
+use Rattle.std.specs.Prelude.{◌≡◌, ◌<◌, ◌≤◌, ◌⊎◌, ◌++◌, ℕ, List, [], ◌∷◌, Option, Some, None, IfSome, false, length, drop}
+use Rattle.std.specs.List.{All, AllPairs, count_by}
+use Rattle.lmots.specs.declared.keys.PrivateSeed.{PrivateSeed}
+use Rattle.lms_tree.specs.Tree.{tree_root}
+use Rattle.wire.specs.Pieces.{number_at}
+use Rattle.blocks.specs.Headers.{Header}
+use Rattle.blocks.specs.Committees.{n_of, key_id_at, root_at}
+use Rattle.blocks.specs.Genesis.{chain_id_of, genesis_of}
+use Rattle.blocks.specs.Replica.{Stored}
+use Rattle.blocks.specs.Replay.{FitsOpening, durable_of, replay}
+use Rattle.replica_core.specs.Cores.{Core, restarted_with}
+use Rattle.replica_core.specs.Restarts.{HoldsLinked}
+use Rattle.key_index_store.specs.State.{IndexState}
+use Rattle.log_format.specs.EntryText.{Entry, IsEntry, stored_in}
+use Rattle.vote_log.specs.Logs.{AreListed, LogState, StandsForEntries, LeavesEntries}
+
+-- what contracts see of a desk: the replica's core, the seed of its key, its indices, its log, and how many votes
+-- were released since it was opened
+pub record DeskView (D : Type 0) : Type 0 where
+  pub core : Core
+  pub seed : PrivateSeed
+  pub indices : IndexState D
+  pub log : LogState D
+  pub released : ℕ
+
+abbrev pub desk_of : {D : Type 0} → Core → PrivateSeed → IndexState D → LogState D → ℕ → DeskView D
+desk_of core seed indices log released = record { core = core; seed = seed; indices = indices; log = log; released = released }
+
+-- ---- votes and their indices
+
+-- how many of the entries are votes
+abbrev pub vote_count : List Stored → ℕ
+vote_count list = count_by (λ (x : Stored). x.voted) list
+
+-- the key index that a signature shows
+abbrev pub index_of : List ℕ → ℕ
+index_of signature = number_at 4 signature 0
+
+-- before these the index of a vote, if there is one
+abbrev pub with_index : Option (List ℕ) → List ℕ → List ℕ
+with_index (Some signature) rest = index_of signature ∷ rest
+with_index None rest = rest
+
+-- the indices of the votes among these entries, in order
+abbrev pub indices_in : List Entry → List ℕ
+indices_in [] = []
+indices_in (e ∷ es) = with_index e.signature (indices_in es)
+
+-- they rise, and lie below the mark
+pub record AreRising (mark : ℕ) (indices : List ℕ) : Type 0 where
+  pub rise : AllPairs (λ i j. i < j) indices
+  pub below : All (λ i. i < mark) indices
+
+-- ---- the key
+
+-- the seed's key is that of this replica
+pub record IsKeyOf (committee : List ℕ) (replica : ℕ) (seed : PrivateSeed) : Type 0 where
+  pub known : replica < n_of committee
+  pub key_id : seed.key_id ≡ key_id_at committee replica
+  pub root : tree_root seed.key_id seed.seed ≡ root_at committee replica
+
+-- ---- what a crash leaves
+
+-- an image of the log's list, or of that list with one entry more, which fits as the list does
+abbrev pub IsFittingImage : {D : Type 0} → List Header → List Stored → LogState D → List ℕ → Type 0
+IsFittingImage hs opening log image =
+    StandsForEntries image log.entries
+    ⊎ ((e : Entry) × IsEntry e × StandsForEntries image (log.entries ++ e ∷ []) × FitsOpening hs log.genesis opening (log.steps ++ stored_in e ∷ []))
+
+-- ---- what a desk keeps
+
+-- the list fits the opening list and the core's headers; it is the history of the lock and the stored vote view;
+-- each vote behind the opening list was released
+pub record KeepsList (opening : List Stored) (core : Core) (genesis : Header) (steps : List Stored) (released : ℕ) : Type 0 where
+  pub one_genesis : genesis ≡ core.genesis
+  pub fits : FitsOpening core.headers core.genesis opening steps
+  pub replayed : replay core.genesis steps ≡ durable_of core.state
+  pub covers : core.state.stored_vote_view ≤ core.state.vote_view
+  pub counted : vote_count (drop (length opening) steps) ≡ released
+
+-- where the disk tells its bytes: the entries are those of the list, the indices of the votes behind the opening
+-- list rise and lie below all that the store still gives, and a crash leaves the list, if the log is stopped perhaps
+-- with one entry more
+pub record KeepsEntries {D : Type 0} (images : List ℕ → Type 0) (opening : List Stored) (hs : List Header) (mark : ℕ) (log : LogState D) : Type 0 where
+  pub listed : AreListed log.entries log.steps
+  pub indices_rise : AreRising mark (indices_in (drop (length opening) log.entries))
+  pub images_fit : (image : List ℕ) → images image → IsFittingImage hs opening log image
+  pub durable : log.stopped ≡ false → LeavesEntries images log.entries
+
+pub record KeepsDesk {D : Type 0} (bytes : D → Option (List ℕ)) (images : D → List ℕ → Type 0) (committee : List ℕ) (replica : ℕ) (opening : List Stored) (d : DeskView D) : Type 0 where
+  pub key : IsKeyOf committee replica d.seed
+  pub genesis : d.core.genesis ≡ genesis_of committee
+  pub list : KeepsList opening d.core d.log.genesis d.log.steps d.released
+  pub entries : IfSome (bytes d.log.disk) (λ _. KeepsEntries (images d.log.disk) opening d.core.headers d.indices.mark d.log)
+
+-- .. with what it keeps beside what contracts see: its replica, the id of its chain, and the length of the opening list
+pub record KeepsState {D : Type 0} (bytes : D → Option (List ℕ)) (images : D → List ℕ → Type 0) (committee : List ℕ) (replica : ℕ) (opening : List Stored) (d : DeskView D) (replica_here : ℕ) (chain : List ℕ) (opened : ℕ) : Type 0 where
+  pub desk : KeepsDesk bytes images committee replica opening d
+  pub replica_is : replica_here ≡ replica
+  pub chain_is : chain ≡ chain_id_of committee
+  pub opened_is : opened ≡ length opening
+
+-- ---- a desk that was just opened
+
+-- the core knows what a restart knows of the log's list; log, indices and key are those that were given
+pub record IsOpened {D : Type 0} (committee : List ℕ) (seed : PrivateSeed) (indices : IndexState D) (log : LogState D) (d : DeskView D) : Type 0 where
+  pub genesis : d.core.genesis ≡ genesis_of committee
+  pub state : d.core.state ≡ restarted_with (replay (genesis_of committee) log.steps)
+  pub headers : HoldsLinked (genesis_of committee) log.steps d.core.headers
+  pub seed_is : d.seed ≡ seed
+  pub indices_are : d.indices ≡ indices
+  pub log_is : d.log ≡ log
+  pub none : d.released ≡ 0

@@ -1,0 +1,5 @@
+pub mod Desks
+pub mod Deliveries
+pub mod DeskRefusals
+pub mod Receipts
+pub mod Stays

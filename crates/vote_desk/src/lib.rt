@@ -1,0 +1,30 @@
+//! The desk of a replica: many sessions hand in blocks and timeouts, one after the other, and each vote and each raised
+//! lock is stored before it is answered. README.md says what a desk keeps and what is proved of it. Calls that take the
+//! lock may wait; needs no threads, files or network of its own.
+#![tactic(auto)]
+
+mod closing;
+mod delivery;
+mod desk;
+mod desk_error;
+mod naming;
+mod opening;
+mod parts;
+mod receipts;
+mod reply;
+mod session;
+mod signing;
+mod start_error;
+mod state;
+mod storing;
+
+pub use closing::close_on;
+pub use delivery::{deliver_on, timeout_on};
+pub use desk::Desk;
+pub use desk_error::DeskError;
+pub use naming::Naming;
+pub use parts::{Closed, Parts};
+pub use reply::{Answer, Receipt, Reply};
+pub use session::Session;
+pub use start_error::StartError;
+pub use state::DeskState;

@@ -1,0 +1,292 @@
+//! What stands under a desk's lock.
+
+ghost use Rattle.stable_log.specs.Devices.{AtAnyMoment};
+ghost use Rattle.std.specs.Prelude.{◌≡◌, ◌≢◌, ◌<◌, ◌≤◌, ◌+◌, ◌⊎◌, ◌++◌, ◌∷◌, [], ℕ, List, true, false, length, None, Some, IfErr, IfOk, IfSome, IsErrOf, IsTrue, ◌↔◌, OnErr, OnOk};
+ghost use Rattle.blocks.specs.Genesis.{chain_id_of, genesis_of};
+ghost use Rattle.blocks.specs.Replay.{IsLegal, replay};
+ghost use Rattle.blocks.specs.Replica.{timed_out};
+ghost use Rattle.certificates.specs.Votes.{IsGoodVote};
+ghost use Rattle.replica_core.specs.Admission.{IsAdmissible};
+ghost use Rattle.replica_core.specs.Cores.{IsSameCore, restarted_with};
+ghost use Rattle.replica_core.specs.Plans.{HoldsAlso, IsPlan, TakesEvent};
+ghost use Rattle.stable_log.specs.Crash.{LeavesOnly};
+ghost use Rattle.log_format.specs.EntryText.{IsEntry};
+ghost use Rattle.vote_log.specs.Logs.{AreListed, IsLogBeforeOrAfter, LeavesEntries, StandsForEntries};
+ghost use Rattle.vote_desk.specs.Deliveries.{DrawsAtMostOne, FailsLog, FailsNone, FailsOne, IsKept, IsLeftBy, IsLeftWith, IsLegalPlan, IsStored, entry_for, vote_under};
+ghost use Rattle.vote_desk.specs.DeskRefusals.{HasRoom, HasRoomTo, IsPlanRefusal, IsRunning, IsStopped, IsStorageRefusal};
+ghost use Rattle.vote_desk.specs.Desks.{IsKeyOf, KeepsDesk, desk_of, index_of};
+ghost use Rattle.vote_desk.specs.Stays.{IsImageAfter, IsStay, stay_in};
+
+use crate::desk_error::DeskError;
+use crate::naming::Naming;
+use crate::parts::Parts;
+use crate::reply::Receipt;
+use crate::session::Session;
+use crate::signing::draw;
+use crate::storing::{check_room, store};
+use blocks::{CommitteeView, Id};
+use certificates::CheckedBlock;
+use key_index_store::IndexStore;
+use lms_tree::SigningTree;
+use replica_core::{Act, Core, CoreRefusal, Plan};
+use stable_log::Disk;
+use std::marker::Model;
+use std::sync::ledger::Book;
+use vote_log::VoteLog;
+
+/// What stands under a desk's lock: the core of a replica, its key, the key's indices, its log, and the book of the votes
+/// that were released. Vote, raised lock and timeout are each one call on it: `deliver_on` and `timeout_on`.
+///
+/// Contracts see the core, the seed of the key, the indices, the log, and how many votes were released since it was
+/// opened. What is kept between the calls is `KeepsDesk`, which README.md says in words.
+#[derive(Drop)]
+pub struct DeskState<N: Naming, D: Disk> {
+    core: Core,
+    tree: SigningTree,
+    indices: IndexStore<D>,
+    log: VoteLog<D>,
+    replica: u16,
+    // the id of the chain, which each vote is signed with
+    chain: Id,
+    // how many entries the log had when the desk was opened
+    opened: usize,
+    // its total is how many votes were released; it only grows
+    book: Book<N>,
+}
+
+impl<N: Naming, D: Disk> Model for DeskState<N, D> {
+    ghost use Rattle.vote_desk.specs.Desks.{DeskView, KeepsState, desk_of};
+
+    ghost Value = { DeskView D };
+
+    ghost view = { λ s. desk_of s.core s.tree s.indices s.log s.book.total };
+
+    ghost invariant = { λ s. KeepsState D.bytes D.images N.committee N.replica N.opening (desk_of s.core s.tree s.indices s.log s.book.total) s.replica s.chain s.opened };
+}
+
+impl<N: Naming, D: Disk> DeskState<N, D> {
+    // The desk over a core that was restarted from a log.
+    pub(crate) fn of(
+        committee: &CommitteeView,
+        replica: u16,
+        parts: Parts<D>,
+        core: Core,
+        book: Book<N>,
+    ) -> DeskState<N, D>
+        requires committee { committee.now ≡ N.committee }
+        requires replica { replica ≡ N.replica }
+        requires opening { parts.log.steps ≡ N.opening }
+        requires key { IsKeyOf committee.now replica parts.tree }
+        requires chain { parts.log.genesis ≡ genesis_of committee.now }
+        requires legal { IsLegal parts.log.genesis parts.log.steps }
+        requires listed { IfSome (D.bytes parts.log.disk) (λ _. AreListed parts.log.entries parts.log.steps) }
+        requires durable { IfSome (D.bytes parts.log.disk) (λ _.
+            LeavesEntries (D.images parts.log.disk) parts.log.entries) }
+        requires genesis { core.genesis ≡ genesis_of committee.now }
+        requires state { core.state ≡ restarted_with (replay (genesis_of committee.now) parts.log.steps) }
+        requires none { book.total ≡ 0 }
+        ensures value { result ≡ desk_of core parts.tree parts.index parts.log 0 }
+        ensures stay { IsStay D.bytes D.images (genesis_of N.committee) N.opening result }
+    {
+        let opened = parts.log.count();
+        let Parts { tree, index, log } = parts;
+        DeskState {
+            core,
+            tree,
+            indices: index,
+            log,
+            replica,
+            chain: committee.chain(),
+            opened,
+            book,
+        }
+    }
+
+    /// The replica's core.
+    pub fn core(&self) -> &Core
+        ensures value { result.now ≡ self.now.core }
+
+        // What the desk keeps holds whenever it is looked at, and it is a stay of the replica's life.
+        ensures keeps { KeepsDesk D.bytes D.images N.committee N.replica N.opening self.now }
+        ensures stay { IsStay D.bytes D.images (genesis_of N.committee) N.opening self.now }
+    {
+        &self.core
+    }
+
+    /// The replica's log.
+    pub fn log(&self) -> &VoteLog<D>
+        ensures value { result.now ≡ self.now.log }
+    {
+        &self.log
+    }
+
+    // In each image that a crash during a delivery leaves one reads what is found after the stay. Nothing is computed.
+    pub(crate) fn crash_is_found(&self, block: &CheckedBlock)
+        ensures { IfSome (D.bytes self.now.log.disk) (λ _.
+            (image : List ℕ) → IsLeftBy N.committee N.replica self.now block.now image →
+            IsImageAfter (genesis_of N.committee) (stay_in N.opening self.now) image) }
+    {
+        let _core = self.core();
+    }
+
+    // Whether a disk failed in an earlier call.
+    pub(crate) fn stopped(&self) -> bool
+        ensures { IsTrue result ↔ IsStopped self.now }
+    {
+        self.log.stopped() || self.indices.stopped()
+    }
+
+    // What to do with a block, where the desk runs and there is room for it. Core and log stay as they are.
+    pub(crate) fn plan(&mut self, block: &CheckedBlock) -> Result<Plan, DeskError>
+        ensures plan { IfOk result (IsPlan self.new.core) }
+        ensures durable { OnOk result (IfSome (D.bytes self.old.log.disk) (λ _.
+            LeavesEntries (D.images self.old.log.disk) self.old.log.entries)) }
+        ensures chain { OnOk result (self.old.core.genesis ≡ genesis_of N.committee) }
+        ensures block { IfOk result (λ plan. plan.block ≡ block.now.header) }
+        ensures legal { IfOk result (IsLegalPlan self.old.core.genesis self.old.log.steps) }
+        ensures passes { OnOk result (IsAdmissible self.old.core block.now.header) }
+        ensures running { OnOk result (IsRunning self.old) }
+        ensures room { IfOk result (λ plan. HasRoomTo self.old.log self.old.indices plan.act) }
+        ensures core { IsSameCore self.old.core self.new.core }
+        ensures same { (self.new.seed ≡ self.old.seed) × (self.new.indices ≡ self.old.indices)
+            × (self.new.log ≡ self.old.log) × (self.new.released ≡ self.old.released) }
+        ensures first_refusal { IfErr result (IsPlanRefusal self.old block.now.header) }
+
+        // While nothing is called a crash leaves the list.
+        ensures unmoved { IsRunning self.old → IfSome (D.bytes self.old.log.disk) (λ _.
+            AtAnyMoment D.Disk self.old.log.disk self.new.log.disk
+            (λ image. StandsForEntries image self.old.log.entries)) }
+    {
+        if self.stopped() {
+            return Err(DeskError::Stopped);
+        }
+        let plan = match self.core.admit(block) {
+            Ok(plan) => plan,
+            Err(CoreRefusal::Memory) => return Err(DeskError::Memory),
+            Err(refusal) => return Err(DeskError::Core(refusal)),
+        };
+        check_room(&self.log, &self.indices, plan.act)?;
+        Ok(plan)
+    }
+
+    // Holds the block of a plan to do nothing.
+    pub(crate) fn pass(&mut self, plan: Plan)
+        requires plan { IsPlan self.old.core plan }
+        requires act { plan.act ≡ Act.Pass }
+        ensures headers { HoldsAlso self.old.core.headers self.new.core.headers plan.block }
+        ensures genesis { self.new.core.genesis ≡ self.old.core.genesis }
+        ensures state { TakesEvent self.old.core plan self.new.core.state }
+        ensures same { (self.new.seed ≡ self.old.seed) × (self.new.indices ≡ self.old.indices)
+            × (self.new.log ≡ self.old.log) × (self.new.released ≡ self.old.released) }
+    {
+        self.core.apply(plan);
+    }
+
+    // Stores the entry of a plan to raise the lock, and raises it. After `Device` the log is stopped.
+    pub(crate) fn raise(&mut self, block: CheckedBlock, plan: Plan) -> Result<(), DeskError>
+        requires plan { IsPlan self.old.core plan }
+        requires block { plan.block ≡ block.header }
+        requires act { plan.act ≡ Act.Raise }
+        requires running { self.old.log.stopped ≡ false }
+        requires room { HasRoom self.old.log }
+        ensures stored { OnOk result (IsStored D.bytes D.images self.old self.new plan
+            (entry_for block.entry plan.parent None)) }
+        ensures same { (self.new.indices ≡ self.old.indices) × (self.new.released ≡ self.old.released) }
+        ensures kept { OnErr result (IsKept self.old self.new) }
+        ensures err { IfErr result (λ e. e ≢ DeskError.Device → self.new ≡ self.old) }
+        ensures device { IsErrOf result DeskError.Device → self.new.log.stopped ≡ true }
+        ensures no_failure { OnOk result (FailsNone D.failed self.old self.new) }
+        ensures cause { IsErrOf result DeskError.Device → FailsLog D.failed self.old self.new }
+        ensures first_refusal { IfErr result IsStorageRefusal }
+        ensures any_moment { IfSome (D.bytes self.old.log.disk) (λ _.
+            AtAnyMoment D.Disk self.old.log.disk self.new.log.disk
+            (IsLogBeforeOrAfter self.old.log.entries (entry_for block.entry plan.parent None))) }
+        ensures is_entry { IsEntry (entry_for block.entry plan.parent None) }
+    {
+        store(&mut self.core, &mut self.log, block, plan, None)?;
+        Ok(())
+    }
+
+    // Does a plan to vote: draws an index, signs, stores the entry, and only then releases the vote to the session. After
+    // `Device` the log or the index store is stopped; after `Memory` an index may be lost.
+    pub(crate) fn vote(
+        &mut self,
+        session: &mut Session<N>,
+        block: CheckedBlock,
+        plan: Plan,
+    ) -> Result<Receipt, DeskError>
+        requires plan { IsPlan self.old.core plan }
+        requires block { plan.block ≡ block.header }
+        requires act { plan.act ≡ Act.Vote }
+        requires running { IsRunning self.old }
+        requires room { HasRoomTo self.old.log self.old.indices Act.Vote }
+        ensures number { IfOk result (λ r. r.number ≡ length self.old.log.steps) }
+        ensures vote { IfOk result (λ r. r.vote ≡ vote_under (chain_id_of N.committee) N.replica self.old.seed self.old.indices.mark plan.block) }
+        ensures index { IfOk result (λ r. index_of r.vote.signature ≡ self.old.indices.mark) }
+        ensures good { IfOk result (λ r. IsGoodVote N.committee r.vote) }
+        ensures stored { IfOk result (λ r. IsStored D.bytes D.images self.old self.new plan
+            (entry_for block.entry plan.parent (Some r.vote.signature))) }
+        ensures drawn { OnOk result (self.new.indices.mark ≡ self.old.indices.mark + 1) }
+        ensures released { OnOk result (self.new.released ≡ self.old.released + 1) }
+        ensures running { OnOk result (self.new.indices.stopped ≡ false) }
+        ensures receipts { IfOk result (λ r. session.new.receipts.items ≡ session.old.receipts.items ++ r ∷ []) }
+        ensures share { OnOk result (session.new.share.amount ≡ session.old.share.amount + 1) }
+        ensures kept { OnErr result (IsKept self.old self.new) }
+        ensures at_most_one { OnErr result (DrawsAtMostOne self.old self.new) }
+        ensures session { OnErr result ((session.new.receipts.items ≡ session.old.receipts.items)
+            × (session.new.share.amount ≡ session.old.share.amount)) }
+        ensures log { IfErr result (λ e. e ≢ DeskError.Device → self.new.log ≡ self.old.log) }
+        ensures device { IsErrOf result DeskError.Device → IsStopped self.new }
+        ensures no_failure { OnOk result (FailsNone D.failed self.old self.new) }
+        ensures quiet { IfErr result (λ e. e ≢ DeskError.Device → FailsNone D.failed self.old self.new) }
+        ensures cause { IsErrOf result DeskError.Device → FailsOne D.failed self.old self.new }
+        ensures first_refusal { IfErr result IsStorageRefusal }
+        ensures any_moment { IfSome (D.bytes self.old.log.disk) (λ _.
+            AtAnyMoment D.Disk self.old.log.disk self.new.log.disk
+            (IsLeftWith self.old.log.entries (entry_for block.entry plan.parent
+            (Some (vote_under (chain_id_of N.committee) N.replica self.old.seed self.old.indices.mark plan.block).signature)))) }
+    {
+        let number = self.log.count() as u32;
+        session.reserve()?;
+        let vote = draw(
+            &self.tree,
+            &mut self.indices,
+            self.replica,
+            &self.chain,
+            &plan.block,
+        )?;
+        store(&mut self.core, &mut self.log, block, plan, Some(vote))?;
+        let receipt = Receipt { number, vote };
+        session.release(&mut self.book, &receipt);
+        Ok(receipt)
+    }
+
+    // Raises the vote view where it is lower.
+    pub(crate) fn time_out(&mut self, view: u64)
+        ensures core { self.new.core ≡ record self.old.core { state = timed_out self.old.core.state view } }
+        ensures same { (self.new.seed ≡ self.old.seed) × (self.new.indices ≡ self.old.indices)
+            × (self.new.log ≡ self.old.log) × (self.new.released ≡ self.old.released) }
+    {
+        self.core.timeout(view);
+    }
+
+    // The core, the parts, the book, and how many entries the log had when the desk was opened.
+    pub(crate) fn into_parts(self) -> (Core, Parts<D>, Book<N>, usize)
+        ensures keeps { KeepsDesk D.bytes D.images N.committee N.replica N.opening (desk_of result.0 result.1.tree result.1.index result.1.log result.2.total) }
+        ensures opened { result.3 ≡ length N.opening }
+        ensures same { (result.0 ≡ self.core) × (result.1.tree ≡ self.seed) × (result.1.index ≡ self.indices)
+            × (result.1.log ≡ self.log) × (result.2.total ≡ self.released) }
+    {
+        let DeskState {
+            core,
+            tree,
+            indices: index,
+            log,
+            replica: _,
+            chain: _,
+            opened,
+            book,
+        } = self;
+        (core, Parts { tree, index, log }, book, opened)
+    }
+}
