@@ -6,6 +6,7 @@ ghost use Rattle.std.specs.List.{Contains};
 ghost use Rattle.check_command.specs.Lines.{AreTwoLines};
 
 use crate::fault::Fault;
+use file_input::{InputFault, read_at_most, read_file};
 use std::alloc::Global;
 use std::fs::{File, Files};
 use std::io::{Error, ErrorKind, Read};
@@ -32,17 +33,18 @@ impl Texts {
         verdict: &'a str,
     ) -> Result<Texts, Fault<'a>> {
         Ok(Texts {
-            committee: read_file(rt, alloc, committee)?,
-            verdict: read_file(rt, alloc, verdict)?,
+            committee: read(rt, alloc, committee)?,
+            verdict: read(rt, alloc, verdict)?,
         })
     }
 
     /// The texts that two lines of hex digits spell, the committee's first.
     pub fn from_lines<'a, R: Read + Drop>(alloc: Global, stdin: R) -> Result<Texts, Fault<'a>> {
-        let mut text = Vec::new(alloc);
-        if let Err(error) = stdin.take(MOST_OF_STDIN + 1).read_to_end(&mut text) {
-            return Err(unless_memory(&error, Fault::Hex));
-        }
+        let text = match read_at_most(alloc, stdin, MOST_OF_STDIN + 1) {
+            Ok(text) => text,
+            Err(InputFault::Memory) => return Err(Fault::Memory),
+            Err(InputFault::Unreadable) => return Err(Fault::Hex),
+        };
         if text.len() as u64 > MOST_OF_STDIN {
             return Err(Fault::Hex);
         }
@@ -56,19 +58,15 @@ impl Texts {
     }
 }
 
-fn read_file<'a, F: Files<File = File>>(
+fn read<'a, F: Files<File = File>>(
     rt: &F,
     alloc: Global,
     path: &'a str,
 ) -> Result<Vec<u8>, Fault<'a>> {
-    let mut bytes = Vec::new(alloc);
-    let file = match File::open(rt, path) {
-        Ok(file) => file,
-        Err(error) => return Err(unless_memory(&error, Fault::File(path))),
-    };
-    match file.take(MOST_OF_A_FILE).read_to_end(&mut bytes) {
-        Ok(_) => Ok(bytes),
-        Err(error) => Err(unless_memory(&error, Fault::File(path))),
+    match read_file(rt, alloc, path, MOST_OF_A_FILE) {
+        Ok(bytes) => Ok(bytes),
+        Err(InputFault::Memory) => Err(Fault::Memory),
+        Err(InputFault::Unreadable) => Err(Fault::File(path)),
     }
 }
 

@@ -9,8 +9,8 @@ ghost use Rattle.verdict_checker.specs.declared.refusal.Refusal.{Refusal as Refu
 ghost use Rattle.check_command.specs.Answers.{Answers};
 ghost use Rattle.check_command.specs.Texts.{accepted_text, accepted_line, refused_line};
 
-use crate::line::Line;
 use itoa::Buffer;
+use printed_lines::Line;
 use streams::{Sink, write_all};
 use verdict_checker::{CommitteeView, Finding, Refusal, check};
 

@@ -5,7 +5,6 @@
 mod fault;
 mod input;
 mod judge;
-mod line;
 mod program;
 
 pub use fault::Fault;

@@ -2,12 +2,12 @@
 #![tactic(auto)]
 
 use check_command::run_program;
-use script_runs::{Programs, run_script};
+use script_runs::{FailingFiles, Failure, Programs, run_script};
 use std::fs::{File, Files};
 use std::io;
 use streams::MemorySink;
 
-// The checker alone.
+// The checker, also where memory is refused.
 #[derive(Drop)]
 struct Checker<'a, R: Files<File = File> + AllocGlobal> {
     rt: &'a R,
@@ -25,6 +25,13 @@ impl<R: Files<File = File> + AllocGlobal> Programs for Checker<'_, R> {
         let alloc = self.rt.alloc();
         match name {
             "hs_check" => Some(run_program(self.rt, alloc, words, input, out, faults)),
+            "hs_check_without_memory" => {
+                let files = FailingFiles {
+                    rt: self.rt,
+                    failure: Failure::Memory,
+                };
+                Some(run_program(&files, alloc, words, input, out, faults))
+            }
             _ => None,
         }
     }

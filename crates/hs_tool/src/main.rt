@@ -17,12 +17,9 @@ fn main(rt: HostRuntime) -> ExitCode {
             return ExitCode::from(FAULT);
         }
     };
-    let words = match words {
-        Ok(words) => words,
-        Err(error) => {
-            Fault::Memory(error).tell(&mut faults);
-            return ExitCode::from(FAULT);
-        }
+    let Ok(words) = words else {
+        Fault::Memory.tell(&mut faults);
+        return ExitCode::from(FAULT);
     };
     ExitCode::from(run_tool(&rt, rt.alloc(), &words, &mut lines, &mut out, &mut faults))
 }

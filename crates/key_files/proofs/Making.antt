@@ -1,8 +1,11 @@
 -- Files that are made one after the other.
-use Rattle.std.proofs.Common.{◌≡◌, ℕ, List, [], ◌++◌, Option, Some, None, Result, Ok, Err, sym, ap, subst, ◌∙◌, append_assoc, take}
-use Rattle.std.specs.Prelude.{OnErr}
+use Rattle.std.proofs.Common.{◌≡◌, ℕ, List, [], ◌++◌, Option, Some, None, sym, ap, subst, ◌∙◌, append_assoc, take}
+use Rattle.faults.specs.Counting.{one_more}
+use Rattle.key_files.specs.declared.files.KeyFile.{KeyFile}
+use Rattle.key_files.specs.declared.fault.KeyFault.{KeyFault}
+use Rattle.key_files.specs.declared.fault.KeyFault.TheVariants.{Memory, File, Output}
 use Rattle.std.proofs.lemmas.List.{append-nil}
-use Rattle.key_files.specs.KeyFiles.{FolderFile, Made, MadePart}
+use Rattle.key_files.specs.KeyFiles.{FolderFile, Made, MadePart, IsFaultOf, LeavesSome, place_of}
 
 -- nothing was made yet
 pub made_none : (before : Option (List FolderFile)) → Made before before []
@@ -23,7 +26,15 @@ pub made_part : (before mid after : Option (List FolderFile)) (n : ℕ) (files :
 made_part None mid after n files a same = tt
 made_part (Some held) mid after n files a same = (n, same ∙ a)
 
--- what holds anyway holds where it is asked of a refusal
-pub on_err : {A E : Type 0} (r : Result A E) (P : Type 0) → P → OnErr r P
-on_err (Ok x) P p = tt
-on_err (Err e) P p = p
+-- a fault of the next file leaves those before it
+pub leaves_some : (before mid after : Option (List FolderFile)) (failures failures' failures'' : ℕ) (file : KeyFile) (fault : KeyFault) (files : List FolderFile)
+    → Made before mid (take (place_of file) files) → failures' ≡ failures → IsFaultOf file fault mid after failures' failures''
+    → LeavesSome fault before after failures failures'' files
+leaves_some before mid after failures failures' failures'' file Memory files made kept fault =
+    (made_part before mid after (place_of file) files made fault.0, fault.1 ∙ ap (λ (n : ℕ). one_more n) kept)
+leaves_some before mid after failures failures' failures'' file (File named) files made kept fault = (
+  subst (λ (f : KeyFile). Made before after (take (place_of f) files)) (sym fault.0)
+      (subst (λ (held : Option (List FolderFile)). Made before held (take (place_of file) files)) (sym fault.1) made),
+  fault.2 ∙ ap (λ (n : ℕ). one_more n) kept,
+)
+leaves_some before mid after failures failures' failures'' file Output files made kept fault = fault

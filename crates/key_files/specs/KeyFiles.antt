@@ -1,8 +1,13 @@
 -- The files of a replica's key, and what is printed of them.
-use Rattle.std.specs.Prelude.{◌≡◌, ℕ, List, [], ◌∷◌, ◌++◌, Option, Some, IfSome, codes, take}
+use Rattle.std.specs.Prelude.{◌≡◌, ◌⊎◌, ℕ, List, [], ◌∷◌, ◌++◌, Option, Some, IfSome, codes, take}
 use Rattle.stable_log.specs.Image.{empty_journal}
 use Rattle.hex.specs.Hex.{encode_lower}
 use Rattle.lms_tree.specs.Tree.{key_text, tree_root}
+use Rattle.key_files.specs.declared.files.KeyFile.{KeyFile as KeyFileValue}
+use Rattle.key_files.specs.declared.files.KeyFile.TheVariants.{Seed, PublicKey, Indices, Log}
+use Rattle.faults.specs.Counting.{one_more}
+use Rattle.key_files.specs.declared.fault.KeyFault.{KeyFault as KeyFaultValue}
+use Rattle.key_files.specs.declared.fault.KeyFault.TheVariants.{Memory, File, Output}
 use Rattle.key_files.specs.declared.folder.Readers.{Readers}
 use Rattle.key_files.specs.declared.folder.Readers.TheVariants.{Owner, All}
 
@@ -12,14 +17,27 @@ pub record FolderFile : Type 0 where
   pub bytes : List ℕ
   pub readers : Readers
 
+abbrev pub file_name : KeyFileValue → List ℕ
+file_name Seed = codes "key.seed"
+file_name PublicKey = codes "key.pub"
+file_name Indices = codes "index.hsj"
+file_name Log = codes "log.hsj"
+
+-- how many files are made before this one
+abbrev pub place_of : KeyFileValue → ℕ
+place_of Seed = 0
+place_of PublicKey = 1
+place_of Indices = 2
+place_of Log = 3
+
 -- what a replica starts from, in the order in which it is made: the secret key, the public key, and two
 -- journals with no entries, of the indices that were taken and of what the replica stored
 abbrev pub replica_files : List ℕ → List ℕ → List ℕ → List FolderFile
 replica_files id seed public_key =
-    record { name = codes "key.seed"; bytes = id ++ seed; readers = Owner }
-    ∷ record { name = codes "key.pub"; bytes = public_key; readers = All }
-    ∷ record { name = codes "index.hsj"; bytes = empty_journal; readers = All }
-    ∷ record { name = codes "log.hsj"; bytes = empty_journal; readers = All }
+    record { name = file_name Seed; bytes = id ++ seed; readers = Owner }
+    ∷ record { name = file_name PublicKey; bytes = public_key; readers = All }
+    ∷ record { name = file_name Indices; bytes = empty_journal; readers = All }
+    ∷ record { name = file_name Log; bytes = empty_journal; readers = All }
     ∷ []
 
 -- the files of a seed's key
@@ -37,3 +55,28 @@ Made before after files = IfSome before (λ held. after ≡ Some (held ++ files)
 -- the first of them were made, up to some place
 abbrev pub MadePart : Option (List FolderFile) → Option (List FolderFile) → List FolderFile → Type 0
 MadePart before after files = IfSome before (λ held. (n : ℕ) × (after ≡ Some (held ++ take n files)))
+
+-- the file was not made, since a call of the folder failed
+abbrev pub IsFaultOf : KeyFileValue → KeyFaultValue → Option (List FolderFile) → Option (List FolderFile) → ℕ → ℕ → Type 0
+IsFaultOf file Memory before after failures failures' = (after ≡ before) × (failures' ≡ one_more failures)
+IsFaultOf file (File named) before after failures failures' = (named ≡ file) × (after ≡ before) × (failures' ≡ one_more failures)
+IsFaultOf file Output before after failures failures' = ⊥
+
+-- what the folder has where a call of it failed: where a file could not be made, just those before it
+abbrev pub LeavesSome : KeyFaultValue → Option (List FolderFile) → Option (List FolderFile) → ℕ → ℕ → List FolderFile → Type 0
+LeavesSome Memory before after failures failures' files = MadePart before after files × (failures' ≡ one_more failures)
+LeavesSome (File file) before after failures failures' files = Made before after (take (place_of file) files) × (failures' ≡ one_more failures)
+LeavesSome Output before after failures failures' files = ⊥
+
+-- what it has after any fault: memory may be refused before the first file, and after `Output` all files are there
+abbrev pub LeavesFiles : KeyFaultValue → Option (List FolderFile) → Option (List FolderFile) → ℕ → ℕ → List FolderFile → Type 0
+LeavesFiles Memory before after failures failures' files =
+    ((after ≡ before) × (failures' ≡ failures)) ⊎ LeavesSome Memory before after failures failures' files
+LeavesFiles (File file) before after failures failures' files = LeavesSome (File file) before after failures failures' files
+LeavesFiles Output before after failures failures' files = Made before after files × (failures' ≡ failures)
+
+-- whether a write failed, which is so of `Output` alone; with another fault nothing was written
+abbrev pub LeavesLine : KeyFaultValue → Option (List ℕ) → Option (List ℕ) → ℕ → ℕ → Type 0
+LeavesLine Memory before after failures failures' = (after ≡ before) × (failures' ≡ failures)
+LeavesLine (File file) before after failures failures' = (after ≡ before) × (failures' ≡ failures)
+LeavesLine Output before after failures failures' = failures' ≡ one_more failures

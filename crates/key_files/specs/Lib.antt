@@ -1,2 +1,3 @@
 pub use Rattle.streams.specs.Streams
 pub mod KeyFiles
+pub mod MemoryFiles

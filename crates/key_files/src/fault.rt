@@ -1,31 +1,26 @@
 //! Why key files are not made.
 
+ghost use Rattle.std.specs.Prelude.{◌≡◌};
+
+use crate::files::KeyFile;
 use std::alloc::AllocError;
-use std::io;
-use std::io::ErrorKind;
 
 /// Why a key's files were not all made, or its line was not printed.
-#[derive(Clone, Copy, Debug)]
-pub enum KeyFault<'a> {
+#[derive(Clone, Copy, Debug, PartialEq, Eq)]
+pub enum KeyFault {
     /// Memory was refused.
     Memory,
-    /// The file of this name could not be made in the folder.
-    File(&'a str),
+    /// This file could not be made in the folder.
+    File(KeyFile),
     /// The line could not be written, or not all of it.
     Output,
 }
 
-impl<'a> KeyFault<'a> {
-    // What a failed call is: want of memory, or else that the file of this name could not be made.
-    pub(crate) fn of_file(error: &io::Error, name: &'a str) -> KeyFault<'a> {
-        match error.kind() {
-            ErrorKind::OutOfMemory => KeyFault::Memory,
-            _ => KeyFault::File(name),
-        }
-    }
-}
+impl From<AllocError> for KeyFault {
+    ghost use Rattle.key_files.specs.declared.fault.KeyFault.TheVariants.{Memory};
 
-impl From<AllocError> for KeyFault<'_> {
+    ghost from_gives = { λ _ fault. fault ≡ Memory };
+
     fn from(_error: AllocError) -> Self {
         KeyFault::Memory
     }

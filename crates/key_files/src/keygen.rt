@@ -1,40 +1,37 @@
 //! A replica's key files, made from the seed of its key.
 
-ghost use Rattle.std.specs.Prelude.{◌≡◌, ◌++◌, ◌∷◌, [], OnOk, OnErr};
+ghost use Rattle.std.specs.Prelude.{◌≡◌, ◌++◌, ◌∷◌, [], IfErr, OnOk, OnErr};
 ghost use Rattle.streams.specs.Streams.{Wrote, WrotePart};
 ghost use Rattle.stable_log.specs.Image.{empty_journal};
-ghost use Rattle.key_files.specs.KeyFiles.{key_files, key_line, replica_files, Made, MadePart};
+ghost use Rattle.key_files.specs.KeyFiles.{file_name, key_files, key_line, replica_files, IsFaultOf, LeavesFiles, LeavesLine, LeavesSome, Made};
 
 use crate::fault::KeyFault;
-use crate::folder::{Folder, Readers, Store};
+use crate::files::KeyFile;
+use crate::folder::{Folder, FolderFault, Readers, Store};
 use lmots::PrivateSeed;
 use lms_tree::SigningTree;
 use std::alloc::Global;
 use streams::{Sink, write_all};
 use wire::put;
 
-const SEED_FILE: &str = "key.seed";
-
-const PUBLIC_KEY_FILE: &str = "key.pub";
-
-const INDEX_FILE: &str = "index.hsj";
-
-const LOG_FILE: &str = "log.hsj";
-
 /// Makes `key.seed`, `key.pub`, `index.hsj` and `log.hsj`, as new files in this order, and prints `key ` and
 /// the public key's 112 hex digits. A file that is there already is a fault; it stays as it is, and files
 /// made before it stay too. Tree and line are computed first, so that want of memory for
 /// them leaves no file.
-pub fn make_key<'a, D: Folder, W: Sink>(
+pub fn make_key<D: Folder, W: Sink>(
     alloc: Global,
     folder: &mut D,
     secret: PrivateSeed,
     out: &mut W,
-) -> Result<(), KeyFault<'a>>
+) -> Result<(), KeyFault>
     ensures files { OnOk result (Made (D.files folder.old) (D.files folder.new) (key_files secret.key_id secret.seed)) }
     ensures line { OnOk result (Wrote (W.text out.old) (W.text out.new) (key_line secret.key_id secret.seed)) }
-    ensures fewer { OnErr result (MadePart (D.files folder.old) (D.files folder.new) (key_files secret.key_id secret.seed)) }
+    ensures no_failure { OnOk result ((D.failed folder.new ≡ D.failed folder.old) × (W.failed out.new ≡ W.failed out.old)) }
+
     ensures part { OnErr result (WrotePart (W.text out.old) (W.text out.new) (key_line secret.key_id secret.seed)) }
+    ensures fewer { IfErr result (λ fault. LeavesFiles fault (D.files folder.old) (D.files folder.new)
+        (D.failed folder.old) (D.failed folder.new) (key_files secret.key_id secret.seed)) }
+    ensures cause { IfErr result (λ fault. LeavesLine fault (W.text out.old) (W.text out.new) (W.failed out.old) (W.failed out.new)) }
 {
     let public_key = SigningTree::generate(alloc, secret)?
         .public_key()
@@ -49,49 +46,51 @@ pub fn make_key<'a, D: Folder, W: Sink>(
 }
 
 // `key.seed` is for its owner alone; it holds the key id at 0 and the seed at 16.
-fn make_files<'a, D: Folder>(
+fn make_files<D: Folder>(
     folder: &mut D,
     secret: &PrivateSeed,
     public_key: &[u8; 56],
-) -> Result<(), KeyFault<'a>>
+) -> Result<(), KeyFault>
     ensures ok { OnOk result (Made (D.files folder.old) (D.files folder.new) (replica_files secret.now.key_id secret.now.seed public_key.now)) }
-    ensures err { OnErr result (MadePart (D.files folder.old) (D.files folder.new) (replica_files secret.now.key_id secret.now.seed public_key.now)) }
+    ensures no_failure { OnOk result (D.failed folder.new ≡ D.failed folder.old) }
+    ensures err { IfErr result (λ fault. LeavesSome fault (D.files folder.old) (D.files folder.new)
+        (D.failed folder.old) (D.failed folder.new) (replica_files secret.now.key_id secret.now.seed public_key.now)) }
 {
-    make(folder, SEED_FILE, &seed_bytes(secret), Readers::Owner)?;
-    make(folder, PUBLIC_KEY_FILE, public_key, Readers::All)?;
-    make_store(folder, INDEX_FILE, Store::Indices)?;
-    make_store(folder, LOG_FILE, Store::Log)?;
+    make(folder, KeyFile::Seed, &seed_bytes(secret), Readers::Owner)?;
+    make(folder, KeyFile::PublicKey, public_key, Readers::All)?;
+    make_store(folder, KeyFile::Indices, Store::Indices)?;
+    make_store(folder, KeyFile::Log, Store::Log)?;
     Ok(())
 }
 
 // Makes a file of the folder.
-fn make<'a, D: Folder>(
+fn make<D: Folder>(
     folder: &mut D,
-    name: &'a str,
+    file: KeyFile,
     bytes: &[u8],
     readers: Readers,
-) -> Result<(), KeyFault<'a>>
-    ensures ok { OnOk result (Made (D.files folder.old) (D.files folder.new) (record { name = name.now; bytes = bytes.now; readers = readers } ∷ [])) }
-    ensures err { OnErr result (D.files folder.new ≡ D.files folder.old) }
+) -> Result<(), KeyFault>
+    ensures ok { OnOk result (Made (D.files folder.old) (D.files folder.new) (record { name = file_name file; bytes = bytes.now; readers = readers } ∷ [])) }
+    ensures kept { OnOk result (D.failed folder.new ≡ D.failed folder.old) }
+    ensures err { IfErr result (λ fault. IsFaultOf file fault (D.files folder.old) (D.files folder.new) (D.failed folder.old) (D.failed folder.new)) }
 {
-    match folder.create(name, bytes, readers) {
+    match folder.create(file.name(), bytes, readers) {
         Ok(()) => Ok(()),
-        Err(error) => Err(KeyFault::of_file(&error, name)),
+        Err(FolderFault::Memory) => Err(KeyFault::Memory),
+        Err(FolderFault::Failed) => Err(KeyFault::File(file)),
     }
 }
 
 // Makes an empty journal of the folder.
-fn make_store<'a, D: Folder>(
-    folder: &mut D,
-    name: &'a str,
-    store: Store,
-) -> Result<(), KeyFault<'a>>
-    ensures ok { OnOk result (Made (D.files folder.old) (D.files folder.new) (record { name = name.now; bytes = empty_journal; readers = Readers.All } ∷ [])) }
-    ensures err { OnErr result (D.files folder.new ≡ D.files folder.old) }
+fn make_store<D: Folder>(folder: &mut D, file: KeyFile, store: Store) -> Result<(), KeyFault>
+    ensures ok { OnOk result (Made (D.files folder.old) (D.files folder.new) (record { name = file_name file; bytes = empty_journal; readers = Readers.All } ∷ [])) }
+    ensures kept { OnOk result (D.failed folder.new ≡ D.failed folder.old) }
+    ensures err { IfErr result (λ fault. IsFaultOf file fault (D.files folder.old) (D.files folder.new) (D.failed folder.old) (D.failed folder.new)) }
 {
-    match folder.create_store(name, store) {
+    match folder.create_store(file.name(), store) {
         Ok(()) => Ok(()),
-        Err(error) => Err(KeyFault::of_file(&error, name)),
+        Err(FolderFault::Memory) => Err(KeyFault::Memory),
+        Err(FolderFault::Failed) => Err(KeyFault::File(file)),
     }
 }
 

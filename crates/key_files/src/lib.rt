@@ -3,9 +3,15 @@
 #![tactic(auto)]
 
 mod fault;
+mod files;
 mod folder;
 mod keygen;
+mod memory_folder;
+mod system_folder;
 
 pub use fault::KeyFault;
-pub use folder::{Folder, Readers, Store, SystemFolder};
+pub use files::KeyFile;
+pub use folder::{Folder, FolderFault, Readers, Store};
 pub use keygen::make_key;
+pub use memory_folder::MemoryFolder;
+pub use system_folder::SystemFolder;

@@ -1,7 +1,7 @@
 //! The commands of a script that look at files or make them.
 
 use std::fs::{File, Files};
-use std::os::unix::fs::PermissionsExt;
+use std::os::unix::fs::{PermissionsExt, symlink};
 use std::{fs, io};
 
 /// What a command about files answers, or none where these words are no such command.
@@ -18,6 +18,7 @@ pub(crate) fn answer<R: Files<File = File> + AllocGlobal>(
         ["folder", path] => folder(rt, path)?,
         ["join", path, parts @ ..] => join(rt, path, parts)?,
         ["zeros", count, path] => zeros(rt, count, path)?,
+        ["link", file, path] => link(rt, file, path)?,
         _ => return Ok(None),
     };
     Ok(Some(text.to_string(rt.alloc())?))
@@ -46,6 +47,11 @@ fn length<R: Files<File = File> + AllocGlobal>(rt: &R, path: &str) -> io::Result
 
 fn folder<R: Files<File = File>>(rt: &R, path: &str) -> io::Result<&'static str> {
     fs::create_dir(rt, path)?;
+    Ok("made")
+}
+
+fn link<R: Files<File = File>>(rt: &R, file: &str, path: &str) -> io::Result<&'static str> {
+    symlink(rt, file, path)?;
     Ok("made")
 }
 

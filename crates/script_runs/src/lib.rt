@@ -2,10 +2,12 @@
 //! input and output are handed in.
 #![tactic(auto)]
 
+mod failing_files;
 mod file_commands;
 mod line;
 mod programs;
 mod script;
 
+pub use failing_files::{FailingFiles, Failure};
 pub use programs::Programs;
 pub use script::run_script;

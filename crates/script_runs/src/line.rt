@@ -13,7 +13,7 @@ pub(crate) struct Line<'a> {
     pub is_full: bool,
 }
 
-/// Reads `NAME WORD.. [< FILE] [> full]`. The word `''` is the empty one.
+/// Reads `NAME WORD.. [< FILE] [> full]`. The word `''` is the empty one, and `^J` in a word a line feed.
 pub(crate) fn line_of<'a>(alloc: Global, parts: &[&'a str]) -> Result<Line<'a>, AllocError> {
     let (parts, is_full) = match parts {
         [front @ .., ">", "full"] => (front, true),
@@ -39,7 +39,7 @@ fn strings(alloc: Global, words: &[&str]) -> Result<Vec<String>, AllocError> {
     let mut all = Vec::new(alloc);
     for word in words {
         let word = if *word == "''" { "" } else { *word };
-        all.push(word.to_string(alloc)?)?;
+        all.push(word.replace(alloc, "^J", "\n")?)?;
     }
     Ok(all)
 }

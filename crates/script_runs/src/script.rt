@@ -12,9 +12,10 @@ use streams::MemorySink;
 /// (`#`) and empty lines are printed as they are. What fails says so, and the script goes on.
 ///
 /// `NAME WORD.. [< FILE] [> full]` runs a program, and prints its output, behind `! ` its faults, and its status; `''` is
-/// the empty word, `< FILE` its standard input, and with `> full` its standard output takes nothing. The other lines are
+/// the empty word, `^J` in a word a line feed, `< FILE` its standard input, and with `> full` its standard output takes nothing. The other lines are
 /// commands about files: `same FILE FILE`, `absent FILE`, `length FILE`, `mode FILE`, `folder FOLDER` for a new one,
-/// `join FILE PART..` to make a file of others, one behind the other, and `zeros COUNT FILE` to make one of digits 0.
+/// `join FILE PART..` to make a file of others, one behind the other, `zeros COUNT FILE` to make one of digits 0, and
+/// `link FILE NAME` to make a link to a file.
 pub fn run_script<R: Files<File = File> + Input + Print + AllocGlobal, P: Programs>(
     rt: &R,
     programs: &P,

@@ -1,18 +1,22 @@
 //! `hs_tool committee F OUT KEY..`: a committee's file from its replicas' key files.
 
+ghost use Rattle.std.specs.Prelude.{◌≢◌, IfErr};
+ghost use Rattle.tool_commands.specs.Writes.{CountsWrites};
+
 use crate::fault::{Fault, Place};
-use crate::files::read_at_most;
+use crate::new_file::replace_file;
 use blocks::{CommitteeView, write_committee};
+use file_input::read_file;
 use lms_tree::PUBLIC_KEY_LEN;
 use std::alloc::Global;
-use std::fs;
 use std::fs::{File, Files};
 use streams::{Sink, write_all};
 use wire::array_at;
 
 /// Reads the key files, 56 bytes each, the key of replica 0 first. Where they make a committee of f
-/// faulty replicas, writes its bytes to `path`, new or over what was there, and prints `chain ` and the
-/// chain id's 64 hex digits. A key file of another length is its fault; a refused committee writes nothing.
+/// faulty replicas, writes its bytes to `path`, new or in place of what was there, and prints `chain ` and the
+/// chain id's 64 hex digits. A key file of another length is its fault; a refused committee writes nothing, nor does
+/// one whose file is also one of its keys.
 pub fn committee<'a, F: Files<File = File>, W: Sink>(
     rt: &F,
     alloc: Global,
@@ -20,7 +24,12 @@ pub fn committee<'a, F: Files<File = File>, W: Sink>(
     path: &'a str,
     keys: &[&'a str],
     out: &mut W,
-) -> Result<(), Fault<'a>> {
+) -> Result<(), Fault<'a>>
+    ensures { CountsWrites result (W.failed out.old) (W.failed out.new) }
+{
+    if keys.contains(&path) {
+        return Err(Fault::File(Place::Path(path)));
+    }
     let mut texts = Vec::new(alloc);
     for key in keys {
         texts.push(read_key(rt, alloc, key)?)?;
@@ -36,7 +45,7 @@ pub fn committee<'a, F: Files<File = File>, W: Sink>(
     };
     let digits = hex::encode(alloc, &chain[..])?;
     let line = format!(in alloc; "chain {digits}\n")?;
-    if let Err(error) = fs::write(rt, path, &bytes) {
+    if let Err(error) = replace_file(rt, alloc, path, &bytes) {
         return Err(Fault::unless_memory(&error, Fault::File(Place::Path(path))));
     }
     write_all(out, line.as_bytes()).map_err(|_| Fault::Output)
@@ -47,8 +56,13 @@ fn read_key<'a, F: Files<File = File>>(
     rt: &F,
     alloc: Global,
     path: &'a str,
-) -> Result<[u8; PUBLIC_KEY_LEN], Fault<'a>> {
-    let bytes = read_at_most(rt, alloc, path, PUBLIC_KEY_LEN as u64 + 1)?;
+) -> Result<[u8; PUBLIC_KEY_LEN], Fault<'a>>
+    ensures { IfErr result (λ fault. fault ≢ Fault.Output) }
+{
+    let bytes = match read_file(rt, alloc, path, PUBLIC_KEY_LEN as u64 + 1) {
+        Ok(bytes) => bytes,
+        Err(fault) => return Err(Fault::of_input(fault, path)),
+    };
     if bytes.len() != PUBLIC_KEY_LEN {
         return Err(Fault::File(Place::Path(path)));
     }

@@ -1,63 +1,172 @@
 //! Why the tool gives up, and the line that it prints then.
 
+ghost use Rattle.std.specs.IoError.{error_kind};
+ghost use Rattle.std.specs.Prelude.{◌≡◌, ◌≢◌, ◌++◌, codes, OnOk, OnErr};
+ghost use Rattle.faults.specs.Counting.{Counts};
+ghost use Rattle.streams.specs.Streams.{Wrote, WrotePart};
+ghost use Rattle.printed_lines.specs.Printed.{Told};
+ghost use Rattle.key_files.specs.KeyFiles.{file_name};
+ghost use Rattle.tool_commands.specs.FaultLines.{tool_fault_line, place_line, source_fault_line, verdict_behind};
+
 use blocks::CommitteeRefusal;
-use std::alloc::AllocError;
-use std::fmt;
-use std::fmt::{Display, Formatter, Write};
-use std::io::{Error as IoError, ErrorKind};
-use streams::{Sink, SinkText};
-use thiserror::Error;
+use file_input::InputFault;
+use itoa::Buffer;
+use key_files::KeyFile;
+use printed_lines::{Line, committee_fault, write_file_fault};
+use std::alloc::{AllocError, AllocFailed};
+use std::io::{Error, ErrorKind};
+use streams::{Sink, write_all};
 
 /// Why the tool gives up. Each has exit status 2.
-#[derive(Debug, Drop, Error)]
+#[derive(Clone, Copy, Debug)]
 pub enum Fault<'a> {
-    #[error("fault usage")]
+    /// The words are not as docs/hs_tool.md writes them.
     Usage,
-    #[error("fault memory")]
-    Memory(#[from(alloc)] AllocError),
-    #[error("fault hex")]
+    /// Memory was refused.
+    Memory,
+    /// SEED is not 96 hex digits.
     Hex,
-    #[error("fault file {0}")]
+    /// A file can't be read, made, written or synced, or is not as it must be.
     File(Place<'a>),
-    #[error("fault committee {0}")]
+    /// The committee is refused.
     Committee(CommitteeRefusal),
-    #[error("fault source {0}")]
+    /// The word of this source, counted from 0, is not as written.
     Source(usize),
-    #[error("fault collision")]
+    /// Two different headers in evidence have one id.
     Collision,
-    #[error("fault output")]
+    /// The lines could not be written, or not all.
     Output,
 }
 
-/// The path of a file: as a word gave it, a file of a folder that a word gave, or the verdict on a replica there.
+/// The path of a file.
 #[derive(Clone, Copy, Debug)]
 pub enum Place<'a> {
+    /// As a word gave it.
     Path(&'a str),
-    In { folder: &'a str, name: &'a str },
+    /// A file of a replica's key, in a folder that a word gave.
+    Key { folder: &'a str, file: KeyFile },
+    /// The verdict on a replica, in a folder that a word gave.
     Verdict { folder: &'a str, replica: u16 },
-}
-
-impl Display for Place<'_> {
-    fn fmt<W: Write>(&self, f: &mut Formatter<W>) -> fmt::Result {
-        match self {
-            Place::Path(path) => write!(f, "{path}"),
-            Place::In { folder, name } => write!(f, "{folder}/{name}"),
-            Place::Verdict { folder, replica } => write!(f, "{folder}/verdict-{replica}.hsx"),
-        }
-    }
 }
 
 impl<'a> Fault<'a> {
     /// What a failed call is: want of memory, or else this fault.
-    pub fn unless_memory(error: &IoError, fault: Fault<'a>) -> Fault<'a> {
+    pub fn unless_memory(error: &Error, fault: Fault<'a>) -> Fault<'a>
+        ensures memory { error_kind error.now ≡ ErrorKind.OutOfMemory → result ≡ Fault.Memory }
+        ensures other { error_kind error.now ≢ ErrorKind.OutOfMemory → result ≡ fault.entry }
+    {
         match error.kind() {
-            ErrorKind::OutOfMemory => Fault::Memory(AllocError),
+            ErrorKind::OutOfMemory => Fault::Memory,
             _ => fault,
         }
     }
 
+    /// Why the file at this path gave no bytes.
+    pub fn of_input(fault: InputFault, path: &'a str) -> Fault<'a>
+        ensures memory { fault ≡ InputFault.Memory → result ≡ Fault.Memory }
+        ensures file { fault ≡ InputFault.Unreadable → result ≡ Fault.File (Place.Path path.entry) }
+    {
+        match fault {
+            InputFault::Memory => Fault::Memory,
+            InputFault::Unreadable => Fault::File(Place::Path(path)),
+        }
+    }
+
     /// Writes the fault's line. What a failing sink does not take is lost: there is nowhere else to say it.
-    pub fn tell<E: Sink>(&self, faults: &mut E) {
-        let _ = writeln!(SinkText(faults), "{self}");
+    pub fn tell<E: Sink>(&self, faults: &mut E)
+        ensures { Told (E.text faults.old) (E.text faults.new) (E.failed faults.old) (E.failed faults.new) (tool_fault_line self.now) }
+    {
+        if self.write_line(faults).is_err() {
+            // Nothing is left to tell it by.
+        }
+    }
+
+    fn write_line<E: Sink>(&self, out: &mut E) -> Result<(), streams::Fault>
+        ensures ok { OnOk result (Wrote (E.text out.old) (E.text out.new) (tool_fault_line self.now)) }
+        ensures err { OnErr result (WrotePart (E.text out.old) (E.text out.new) (tool_fault_line self.now)) }
+        ensures counted { Counts (E.failed out.old) (E.failed out.new) result }
+    {
+        match self {
+            Fault::Usage => write_all(out, b"fault usage\n"),
+            Fault::Memory => write_all(out, b"fault memory\n"),
+            Fault::Hex => write_all(out, b"fault hex\n"),
+            Fault::File(place) => place.write_line(out),
+            Fault::Committee(refusal) => write_all(out, committee_fault(*refusal).as_bytes()),
+            Fault::Source(i) => write_all(out, source_fault(*i).as_bytes()),
+            Fault::Collision => write_all(out, b"fault collision\n"),
+            Fault::Output => write_all(out, b"fault output\n"),
+        }
+    }
+}
+
+impl Place<'_> {
+    // The line of a fault of this file.
+    fn write_line<E: Sink>(&self, out: &mut E) -> Result<(), streams::Fault>
+        ensures ok { OnOk result (Wrote (E.text out.old) (E.text out.new) (place_line self.now)) }
+        ensures err { OnErr result (WrotePart (E.text out.old) (E.text out.new) (place_line self.now)) }
+        ensures counted { Counts (E.failed out.old) (E.failed out.new) result }
+    {
+        match self {
+            Place::Path(path) => write_file_fault(out, path, b""),
+            Place::Key { folder, file } => write_file_fault(
+                out,
+                folder,
+                in_folder(*file).as_bytes(),
+            ),
+            Place::Verdict { folder, replica } => {
+                write_file_fault(out, folder, verdict_name(*replica).as_bytes())
+            }
+        }
+    }
+}
+
+// A key's file behind its folder.
+fn in_folder(file: KeyFile) -> Line
+    ensures { result ≡ codes "/" ++ file_name file }
+{
+    let mut name = Line::new();
+    name.push(b"/");
+    name.push(file.name().as_bytes());
+    name
+}
+
+// The verdict on a replica behind its folder.
+fn verdict_name(replica: u16) -> Line
+    ensures { result ≡ verdict_behind replica }
+{
+    let mut name = Line::new();
+    name.push(b"/verdict-");
+    name.push(Buffer::new().format(replica).as_bytes());
+    name.push(b".hsx");
+    name
+}
+
+fn source_fault(i: usize) -> Line
+    ensures { result ≡ source_fault_line i }
+{
+    let mut line = Line::new();
+    line.push(b"fault source ");
+    line.push(Buffer::new().format(i).as_bytes());
+    line.push(b"\n");
+    line
+}
+
+impl From<AllocError> for Fault<'_> {
+    ghost use Rattle.tool_commands.specs.declared.fault.Fault.TheVariants.{Memory};
+
+    ghost from_gives = { λ _ fault. fault ≡ Memory };
+
+    fn from(_error: AllocError) -> Self {
+        Fault::Memory
+    }
+}
+
+impl<T: Drop> From<AllocFailed<T>> for Fault<'_> {
+    ghost use Rattle.tool_commands.specs.declared.fault.Fault.TheVariants.{Memory};
+
+    ghost from_gives = { λ _ fault. fault ≡ Memory };
+
+    fn from(_error: AllocFailed<T>) -> Self {
+        Fault::Memory
     }
 }

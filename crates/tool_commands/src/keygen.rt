@@ -1,9 +1,13 @@
 //! `hs_tool keygen SEED DIR`: a replica's key files.
 
+ghost use Rattle.std.specs.Prelude.{◌≡◌};
+ghost use Rattle.key_files.specs.declared.files.KeyFile.{KeyFile as KeyFileValue};
+ghost use Rattle.tool_commands.specs.Writes.{CountsWrites};
+
 use crate::fault::{Fault, Place};
 use key_files::{KeyFault, SystemFolder, make_key};
 use lmots::PrivateSeed;
-use std::alloc::{AllocError, Global};
+use std::alloc::Global;
 use std::fs::{File, Files};
 use streams::Sink;
 use wire::array_at;
@@ -16,7 +20,9 @@ pub fn keygen<'a, F: Files<File = File>, W: Sink>(
     seed: &'a str,
     path: &'a str,
     out: &mut W,
-) -> Result<(), Fault<'a>> {
+) -> Result<(), Fault<'a>>
+    ensures { CountsWrites result (W.failed out.old) (W.failed out.new) }
+{
     let mut bytes = [0; 48];
     if hex::decode_to_slice(seed, &mut bytes).is_err() {
         return Err(Fault::Hex);
@@ -25,18 +31,22 @@ pub fn keygen<'a, F: Files<File = File>, W: Sink>(
         key_id: array_at(&bytes, 0),
         seed: array_at(&bytes, 16),
     };
-    let mut folder = SystemFolder { rt, alloc, path };
+    let mut folder = SystemFolder::new(rt, alloc, path);
     match make_key(alloc, &mut folder, secret, out) {
         Ok(()) => Ok(()),
         Err(fault) => Err(in_folder(path, fault)),
     }
 }
 
-// The fault of a key's file in the folder at `path`.
-fn in_folder<'a>(path: &'a str, fault: KeyFault<'a>) -> Fault<'a> {
+// The fault of a key in the folder at `path`.
+fn in_folder<'a>(folder: &'a str, fault: KeyFault) -> Fault<'a>
+    ensures memory { fault ≡ KeyFault.Memory → result ≡ Fault.Memory }
+    ensures file { (file : KeyFileValue) → fault ≡ KeyFault.File file → result ≡ Fault.File (Place.Key folder.entry file) }
+    ensures output { fault ≡ KeyFault.Output → result ≡ Fault.Output }
+{
     match fault {
-        KeyFault::Memory => Fault::Memory(AllocError),
-        KeyFault::File(name) => Fault::File(Place::In { folder: path, name }),
+        KeyFault::Memory => Fault::Memory,
+        KeyFault::File(file) => Fault::File(Place::Key { folder, file }),
         KeyFault::Output => Fault::Output,
     }
 }

@@ -4,8 +4,8 @@
 mod audit;
 mod committee;
 mod fault;
-mod files;
 mod keygen;
+mod new_file;
 mod tool;
 
 pub use fault::{Fault, Place};

@@ -27,6 +27,10 @@ pub fn read_words<'a>(alloc: Global, words: &'a [String]) -> Result<Command<'a>,
     if words.is_empty() {
         return Ok(Command::Usage);
     }
+    // `clap` would pass over it.
+    if words.iter().any(|word| word.as_str() == "--") {
+        return Err(WordsFault::Usage);
+    }
     match parsed(alloc, words) {
         Ok(matches) => command(alloc, &matches),
         Err(error) if error.kind() == ErrorKind::OutOfMemory => Err(WordsFault::Memory),
@@ -45,7 +49,7 @@ fn command<'a>(alloc: Global, matches: &ArgMatches<'a>) -> Result<Command<'a>, W
 
 fn keygen<'a>(given: &ArgMatches<'a>) -> Result<Command<'a>, WordsFault> {
     match (given.get_str("SEED"), given.get_str("DIR")) {
-        (Some(seed), Some(folder)) => Ok(Command::Keygen { seed, folder }),
+        (Some(seed), Some(folder)) if !folder.is_empty() => Ok(Command::Keygen { seed, folder }),
         _ => Err(WordsFault::Usage),
     }
 }
@@ -62,7 +66,7 @@ fn committee<'a>(alloc: Global, given: &ArgMatches<'a>) -> Result<Command<'a>, W
     let Some(f) = faulty(f) else {
         return Err(WordsFault::Usage);
     };
-    if keys.len() != 3 * f as usize + 1 {
+    if keys.len() != 3 * f as usize + 1 || out.is_empty() || has_empty(keys) {
         return Err(WordsFault::Usage);
     }
     Ok(Command::Committee {
@@ -78,6 +82,9 @@ fn audit<'a>(alloc: Global, given: &ArgMatches<'a>) -> Result<Command<'a>, Words
     else {
         return Err(WordsFault::Usage);
     };
+    if committee.is_empty() || folder.is_empty() {
+        return Err(WordsFault::Usage);
+    }
     let sources = match given.get_strs("SOURCE") {
         Some(sources) => sources.to_vec(alloc)?,
         None => Vec::new(alloc),
@@ -87,6 +94,10 @@ fn audit<'a>(alloc: Global, given: &ArgMatches<'a>) -> Result<Command<'a>, Words
         folder,
         sources,
     })
+}
+
+fn has_empty(words: &[&str]) -> bool {
+    words.iter().any(|word| word.is_empty())
 }
 
 // A number of 1 to 10, in its one spelling.

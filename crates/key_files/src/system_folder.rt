@@ -1,0 +1,105 @@
+//! A folder of the system.
+
+ghost use Rattle.std.specs.Prelude.{None};
+ghost use Rattle.faults.specs.Counting.{Counts};
+
+use crate::folder::{Folder, FolderFault, Readers, Store};
+use key_index_store::IndexStore;
+use stable_log::{FileDisk, Journal};
+use std::alloc::Global;
+use std::fs::{File, Files, OpenOptions};
+use std::io;
+use std::io::{ErrorKind, Write};
+use std::os::unix::fs::OpenOptionsExt;
+
+/// A folder of the system. It tells nothing of its files.
+#[derive(Drop)]
+pub struct SystemFolder<'a, F: Files<File = File>> {
+    rt: &'a F,
+    alloc: Global,
+    path: &'a str,
+    failed: u64,
+}
+
+impl<'a, F: Files<File = File>> SystemFolder<'a, F> {
+    /// The folder at this path, with no failures. It need not be there yet.
+    pub fn new(rt: &'a F, alloc: Global, path: &'a str) -> SystemFolder<'a, F> {
+        SystemFolder {
+            rt,
+            alloc,
+            path,
+            failed: 0,
+        }
+    }
+
+    // A new file for reading and writing, with these permission bits.
+    fn create_new(&self, name: &str, mode: u32) -> io::Result<File> {
+        let folder = self.path;
+        let path = format!(in self.alloc; "{folder}/{name}")?;
+        OpenOptions::new()
+            .read(true)
+            .write(true)
+            .create_new(true)
+            .mode(mode)
+            .open(self.rt, &path)
+    }
+
+    // A new file of these bytes, synced.
+    fn create_file(&self, name: &str, bytes: &[u8], mode: u32) -> io::Result<()> {
+        let mut file = self.create_new(name, mode)?;
+        file.write_all(bytes)?;
+        file.sync_all()
+    }
+
+    // A new file that is an empty journal, synced.
+    fn create_journal(&self, name: &str, store: Store) -> io::Result<()> {
+        let disk = FileDisk::new(self.create_new(name, 0o644)?);
+        let made = match store {
+            Store::Indices => IndexStore::create(self.alloc, disk).is_ok(),
+            Store::Log => Journal::create(self.alloc, disk).is_ok(),
+        };
+        if made {
+            Ok(())
+        } else {
+            Err(io::Error::from(ErrorKind::Other))
+        }
+    }
+
+    // Counts a call that failed.
+    fn counted(&mut self, made: io::Result<()>) -> Result<(), FolderFault>
+        ensures { Counts self.old.failed self.new.failed result }
+    {
+        let Err(error) = made else {
+            return Ok(());
+        };
+        self.failed = self.failed.saturating_add(1);
+        match error.kind() {
+            ErrorKind::OutOfMemory => Err(FolderFault::Memory),
+            _ => Err(FolderFault::Failed),
+        }
+    }
+}
+
+impl<F: Files<File = File>> Folder for SystemFolder<'_, F> {
+    ghost files = { λ _. None };
+
+    ghost failed = { λ f. f.failed };
+
+    fn create(&mut self, name: &str, bytes: &[u8], readers: Readers) -> Result<(), FolderFault> {
+        let mode = match readers {
+            Readers::Owner => 0o600,
+            Readers::All => 0o644,
+        };
+        let made = self.create_file(name, bytes, mode);
+        self.counted(made)
+    }
+
+    fn create_store(&mut self, name: &str, store: Store) -> Result<(), FolderFault> {
+        let made = self.create_journal(name, store);
+        self.counted(made)
+    }
+
+    fn failures(&self) -> u64 {
+        self.failed
+    }
+}

@@ -1,0 +1,6 @@
+//! Tests of `key_files`: the files that keygen makes in a folder in memory, and each of its faults. The seed is that of
+//! replica 2 of the fixtures, and its public key is the stored bytes of an independent program.
+#![tactic(auto)]
+
+#[cfg(test)]
+mod keygen_tests;

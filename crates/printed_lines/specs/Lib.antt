@@ -1,0 +1,2 @@
+pub use Rattle.streams.specs.Streams
+pub mod Printed
