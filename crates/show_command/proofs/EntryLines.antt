@@ -1,0 +1,34 @@
+-- The line of an entry from its pieces.
+use Rattle.std.proofs.Common.{◌≡◌, ◌≢◌, ℕ, List, ◌++◌, Option, codes, refl, ap, ◌∙◌, append_assoc}
+use Rattle.log_format.specs.EntryReading.{IsEntryRefusal, IsFirstFailed}
+use Rattle.log_format.specs.EntryText.{Entry}
+use Rattle.log_format.specs.declared.entry.EntryRefusal.{EntryRefusal}
+use Rattle.log_format.specs.declared.entry.EntryRefusal.TheVariants.{Memory, Length, Kind, Header, Parent, OwnVote, Certificate}
+use Rattle.show_command.specs.Entries.{AreVoterParts, IsEntryLine, IsOwnPart, act_name}
+use Rattle.show_command.specs.Lines.{entry_front, parent_part}
+use Rattle.show_command.specs.Series.{AddsText}
+use Rattle.show_command.specs.declared.mark.Mark.{Mark}
+use Rattle.show_command.proofs.Longer.{five_pieces}
+
+pub entry_added : (committee : Option (List ℕ)) (k : ℕ) (e : Entry) (t0 t1 t2 t3 t4 t5 : List ℕ) (m0 m1 m2 : List Mark)
+    → t1 ≡ t0 ++ entry_front k (act_name e.signature) e.block → AddsText t1 t2 m0 m1 (IsOwnPart committee e e.signature)
+    → t3 ≡ t2 ++ parent_part e.block → AddsText t3 t4 m1 m2 (AreVoterParts committee e.certificate) → t5 ≡ t4 ++ codes "\n"
+    → AddsText t0 t5 m0 m2 (IsEntryLine committee k e)
+entry_added committee k e t0 t1 t2 t3 t4 t5 m0 m1 m2 front (own_text, own_marks, own, own_added, own_seen) parent (voters_text, voters_marks, voters, voters_added, voters_seen) end =
+    let front_text = entry_front k (act_name e.signature) e.block in (
+      front_text ++ own_text ++ parent_part e.block ++ voters_text ++ codes "\n",
+      own_marks ++ voters_marks,
+      record { own_text = own_text; own_marks = own_marks; own = own; voters_text = voters_text; voters_marks = voters_marks; voters = voters; text_is = refl; marks_are = refl },
+      five_pieces t0 front_text own_text (parent_part e.block) voters_text (codes "\n") t1 t2 t3 t4 t5 front own_added parent voters_added end,
+      voters_seen ∙ ap (λ (m : List Mark). m ++ voters_marks) own_seen ∙ append_assoc m0 own_marks voters_marks,
+    )
+
+-- where memory was not refused, a test failed
+pub failed_first : (bytes : List ℕ) (r : EntryRefusal) → r ≢ Memory → IsEntryRefusal bytes r → IsFirstFailed bytes r
+failed_first bytes Memory other refused = absurd (other refl)
+failed_first bytes Length other refused = refused
+failed_first bytes Kind other refused = refused
+failed_first bytes Header other refused = refused
+failed_first bytes Parent other refused = refused
+failed_first bytes OwnVote other refused = refused
+failed_first bytes Certificate other refused = refused

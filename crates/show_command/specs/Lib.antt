@@ -1,0 +1,9 @@
+pub use Rattle.printed_lines.specs.Printed
+pub mod Marks
+pub mod Names
+pub mod Kinds
+pub mod Lines
+pub mod Series
+pub mod Entries
+pub mod Files
+pub mod FaultLines

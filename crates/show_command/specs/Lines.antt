@@ -1,0 +1,144 @@
+-- The lines that are printed, as docs/hs_show.md lays them out. Each ends with a line feed.
+use Rattle.std.specs.Prelude.{ℕ, zero, suc, ◌==◌, ◌++◌, List, [], length, count_by, codes, decimal, Option, None, Some, Result, Ok, Err, if◌then◌else◌}
+use Rattle.hex.specs.Hex.{encode_lower}
+use Rattle.wire.specs.Pieces.{piece, number_at}
+use Rattle.blocks.specs.Headers.{Header, header_id}
+use Rattle.blocks.specs.Committees.{f_of, n_of, key_id_at}
+use Rattle.blocks.specs.Genesis.{chain_id_of}
+use Rattle.blocks.specs.declared.committee.CommitteeRefusal.{CommitteeRefusal}
+use Rattle.verdict_format.specs.Verdicts.{VotedHeaders, chain_in, earlier_in, headers_in, verdict_kind_in, later_in, replica_in}
+use Rattle.printed_lines.specs.Printed.{printed, refusal_text}
+use Rattle.log_format.specs.Readings.{status_name}
+use Rattle.log_format.specs.declared.status.Status.{Status}
+use Rattle.show_command.specs.Marks.{is_good, mark_text}
+use Rattle.show_command.specs.declared.mark.Mark.{Mark}
+
+-- "file PATH", a line whatever the path is
+abbrev pub path_line : List ℕ → List ℕ
+path_line path = codes "file " ++ (printed path ++ codes "\n")
+
+-- "refused KIND N NAME": a file that begins as one of a kind, and is none
+unfoldable pub shown_refusal_line : List ℕ → ℕ → List ℕ → List ℕ
+shown_refusal_line kind number name = codes "refused " ++ kind ++ codes " " ++ decimal number ++ codes " " ++ name ++ codes "\n"
+
+-- ---- a key
+
+-- "seed key ID": nothing behind the first 16 bytes is looked at
+unfoldable pub seed_line : List ℕ → List ℕ
+seed_line bytes = codes "seed key " ++ encode_lower (piece 16 bytes 0) ++ codes "\n"
+
+-- "key ID root ROOT"
+unfoldable pub shown_key_line : List ℕ → List ℕ → List ℕ
+shown_key_line id root = codes "key " ++ encode_lower id ++ codes " root " ++ encode_lower root ++ codes "\n"
+
+-- ---- a committee
+
+-- "chain ID"
+unfoldable pub chain_line : List ℕ → List ℕ
+chain_line chain = codes "chain " ++ encode_lower chain ++ codes "\n"
+
+-- "committee f F n N"
+unfoldable pub size_line : ℕ → ℕ → List ℕ
+size_line f n = codes "committee f " ++ decimal f ++ codes " n " ++ decimal n ++ codes "\n"
+
+-- "replica R key ID"
+unfoldable pub replica_line : ℕ → List ℕ → List ℕ
+replica_line r id = codes "replica " ++ decimal r ++ codes " key " ++ encode_lower id ++ codes "\n"
+
+-- of the first replicas, so many
+abbrev pub replica_lines : List ℕ → ℕ → List ℕ
+replica_lines committee zero = []
+replica_lines committee (suc r) = replica_lines committee r ++ replica_line r (key_id_at committee r)
+
+abbrev pub committee_lines : List ℕ → List ℕ
+committee_lines committee =
+    size_line (f_of committee) (n_of committee) ++ chain_line (chain_id_of committee) ++ replica_lines committee (n_of committee)
+
+-- "refused committee WHY"
+unfoldable pub refused_committee_line : List ℕ → List ℕ
+refused_committee_line why = codes "refused committee " ++ why ++ codes "\n"
+
+abbrev pub committee_file : Result (List ℕ) CommitteeRefusal → List ℕ
+committee_file (Ok committee) = committee_lines committee
+committee_file (Err refusal) = refused_committee_line (refusal_text refusal)
+
+-- ---- signatures
+
+-- "signatures N good G"
+unfoldable pub signatures_line : ℕ → ℕ → List ℕ
+signatures_line count good = codes "signatures " ++ decimal count ++ codes " good " ++ decimal good ++ codes "\n"
+
+-- .. where a committee was given
+abbrev pub good_count_line : Option (List ℕ) → List Mark → List ℕ
+good_count_line None marks = []
+good_count_line (Some committee) marks = signatures_line (length marks) (count_by is_good marks)
+
+-- ---- a verdict
+
+-- "verdict rule K replica R"
+unfoldable pub rule_line : ℕ → ℕ → List ℕ
+rule_line rule replica = codes "verdict rule " ++ decimal rule ++ codes " replica " ++ decimal replica ++ codes "\n"
+
+-- "vote PLACE view V id ID index I", and whether it is good
+unfoldable pub vote_line : List ℕ → ℕ → List ℕ → ℕ → Mark → List ℕ
+vote_line place view id index mark =
+    codes "vote " ++ place ++ codes " view " ++ decimal view ++ codes " id " ++ encode_lower id
+    ++ codes " index " ++ decimal index ++ mark_text mark ++ codes "\n"
+
+-- "header PLACE view V id ID parent V ID"
+unfoldable pub header_line : List ℕ → Header → List ℕ
+header_line place h =
+    codes "header " ++ place ++ codes " view " ++ decimal h.view ++ codes " id " ++ encode_lower (header_id h)
+    ++ codes " parent " ++ decimal h.parent_view ++ codes " " ++ encode_lower h.parent ++ codes "\n"
+
+-- the three headers of a lock violation, or that one of them is unreadable
+abbrev pub headers_lines : ℕ → Option VotedHeaders → List ℕ
+headers_lines rule None = if rule == 2 then codes "headers unreadable\n" else []
+headers_lines rule (Some h) =
+    header_line (codes "first") h.earlier ++ header_line (codes "parent") h.parent ++ header_line (codes "second") h.later
+
+-- the signatures of the votes begin with their indices, at 79 and at 1571
+abbrev pub verdict_lines : List ℕ → Mark → Mark → List ℕ
+verdict_lines bytes first second =
+    rule_line (verdict_kind_in bytes) (replica_in bytes) ++ chain_line (chain_in bytes)
+    ++ vote_line (codes "first") (earlier_in bytes).view (earlier_in bytes).id (number_at 4 bytes 79) first
+    ++ vote_line (codes "second") (later_in bytes).view (later_in bytes).id (number_at 4 bytes 1571) second
+    ++ headers_lines (verdict_kind_in bytes) (headers_in bytes)
+
+-- ---- a log
+
+-- "export STATUS frames N"
+unfoldable pub export_line : Status → ℕ → List ℕ
+export_line status count = codes "export " ++ status_name status ++ codes " frames " ++ decimal count ++ codes "\n"
+
+-- "journal Closed entries N"
+unfoldable pub journal_line : ℕ → List ℕ
+journal_line count = codes "journal Closed entries " ++ decimal count ++ codes "\n"
+
+-- "indices taken N"
+unfoldable pub indices_line : ℕ → List ℕ
+indices_line boundary = codes "indices taken " ++ decimal boundary ++ codes "\n"
+
+-- "entry K refused N NAME"
+unfoldable pub refused_entry_line : ℕ → ℕ → List ℕ → List ℕ
+refused_entry_line k number name =
+    codes "entry " ++ decimal k ++ codes " refused " ++ decimal number ++ codes " " ++ name ++ codes "\n"
+
+-- "entry K vote view V id ID", or "lock" where the replica did not vote
+unfoldable pub entry_front : ℕ → List ℕ → Header → List ℕ
+entry_front k kind block =
+    codes "entry " ++ decimal k ++ codes " " ++ kind ++ codes " view " ++ decimal block.view
+    ++ codes " id " ++ encode_lower (header_id block)
+
+-- " parent V ID voters"
+unfoldable pub parent_part : Header → List ℕ
+parent_part block =
+    codes " parent " ++ decimal block.parent_view ++ codes " " ++ encode_lower block.parent ++ codes " voters"
+
+-- " R", and whether it is good
+unfoldable pub voter_part : ℕ → Mark → List ℕ
+voter_part replica mark = codes " " ++ decimal replica ++ mark_text mark
+
+-- " index I"
+unfoldable pub index_part : ℕ → List ℕ
+index_part index = codes " index " ++ decimal index

@@ -1,0 +1,95 @@
+//! Committees and keys as lines.
+
+ghost use Rattle.std.specs.Prelude.{◌≡◌, ◌++◌, OnOk, decimal, length};
+ghost use Rattle.hex.specs.Hex.{encode_lower};
+ghost use Rattle.blocks.specs.Committees.{n_of};
+ghost use Rattle.show_command.specs.Lines.{chain_line, committee_lines, shown_key_line, refused_committee_line, replica_line, replica_lines, seed_line, size_line};
+
+use crate::digits::{put_id, put_key_id, put_number};
+use blocks::{CommitteeView, Id};
+use lms_tree::PublicKey;
+use std::alloc::AllocError;
+use wire::{append, array_at};
+
+/// Adds the lines of a committee.
+pub(crate) fn put_committee(text: &mut Vec<u8>, committee: &CommitteeView) -> Result<(), AllocError>
+    ensures { OnOk result (text.new.items ≡ text.old.items ++ committee_lines committee.now) }
+{
+    put_size(text, committee.f(), committee.n())?;
+    put_chain(text, &committee.chain())?;
+    put_replicas(text, committee)
+}
+
+#[tactic(auto, unfolding(crate::specs::Lines::size_line))]
+fn put_size(text: &mut Vec<u8>, f: u16, n: u16) -> Result<(), AllocError>
+    ensures { OnOk result (text.new.items ≡ text.old.items ++ size_line f n) }
+{
+    append(text, b"committee f ")?;
+    put_number(text, f)?;
+    append(text, b" n ")?;
+    put_number(text, n)?;
+    append(text, b"\n")
+}
+
+/// Adds the line of a file that begins as a committee and is none, with the text of its refusal.
+#[tactic(auto, unfolding(crate::specs::Lines::refused_committee_line))]
+pub(crate) fn put_refused_committee(text: &mut Vec<u8>, why: &[u8]) -> Result<(), AllocError>
+    ensures { OnOk result (text.new.items ≡ text.old.items ++ refused_committee_line why.now) }
+{
+    append(text, b"refused committee ")?;
+    append(text, why)?;
+    append(text, b"\n")
+}
+
+/// Adds the line of a chain.
+#[tactic(auto, unfolding(crate::specs::Lines::chain_line))]
+pub(crate) fn put_chain(text: &mut Vec<u8>, chain: &Id) -> Result<(), AllocError>
+    ensures { OnOk result (text.new.items ≡ text.old.items ++ chain_line chain.now) }
+{
+    append(text, b"chain ")?;
+    put_id(text, chain)?;
+    append(text, b"\n")
+}
+
+#[tactic(auto, unfolding(crate::specs::Lines::replica_line))]
+fn put_replica(text: &mut Vec<u8>, r: u16, key_id: &[u8; 16]) -> Result<(), AllocError>
+    ensures { OnOk result (text.new.items ≡ text.old.items ++ replica_line r key_id.now) }
+{
+    append(text, b"replica ")?;
+    put_number(text, r)?;
+    append(text, b" key ")?;
+    put_key_id(text, key_id)?;
+    append(text, b"\n")
+}
+
+fn put_replicas(text: &mut Vec<u8>, committee: &CommitteeView) -> Result<(), AllocError>
+    ensures { OnOk result (text.new.items ≡ text.old.items ++ replica_lines committee.now (n_of committee.now)) }
+{
+    for r in 0..committee.n() {
+        put_replica(text, r, &committee.key(r).key_id)?;
+    }
+    Ok(())
+}
+
+/// Adds the line of a public key.
+#[tactic(auto, unfolding(crate::specs::Lines::shown_key_line))]
+pub(crate) fn put_key(text: &mut Vec<u8>, key: &PublicKey) -> Result<(), AllocError>
+    ensures { OnOk result (text.new.items ≡ text.old.items ++ shown_key_line key.now.key_id key.now.root) }
+{
+    append(text, b"key ")?;
+    put_key_id(text, &key.key_id)?;
+    append(text, b" root ")?;
+    put_id(text, &key.root)?;
+    append(text, b"\n")
+}
+
+/// Adds the line of a seed's 48 bytes: its key's id, which is the first 16 of them. No byte behind these is read.
+#[tactic(auto, unfolding(crate::specs::Lines::seed_line))]
+pub(crate) fn put_seed(text: &mut Vec<u8>, bytes: &[u8]) -> Result<(), AllocError>
+    requires { length bytes.now ≡ 48 }
+    ensures { OnOk result (text.new.items ≡ text.old.items ++ seed_line bytes.now) }
+{
+    append(text, b"seed key ")?;
+    put_key_id(text, &array_at(bytes, 0))?;
+    append(text, b"\n")
+}

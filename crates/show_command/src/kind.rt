@@ -1,0 +1,56 @@
+//! What kind of file bytes look like.
+
+ghost use Rattle.std.specs.Prelude.{◌≡◌};
+ghost use Rattle.show_command.specs.Kinds.{begins_with_index, kind_in};
+
+use wire::u32_at;
+
+/// The length of a seed's file in bytes: the key id, then the seed.
+const SEED_LEN: usize = 48;
+
+/// The kinds of files, as they are told apart before they are read.
+#[derive(Clone, Copy, Debug, PartialEq, Eq)]
+pub(crate) enum Kind {
+    /// 48 bytes, whatever they are: nothing else of the bytes is looked at.
+    Seed,
+    /// They begin with `HSC1`.
+    Committee,
+    /// They begin with `HSX1`.
+    Verdict,
+    /// They begin with `HSL1`.
+    Export,
+    /// They begin with `HSJ1`.
+    Journal,
+    /// They begin with `HSJ1`, and the first entry has four bytes.
+    Indices,
+    /// None of these: a public key, or a file of no kind.
+    Other,
+}
+
+// Whether the first gate of a journal is open, and an entry of four bytes stands behind it.
+fn begins_with_index(bytes: &[u8]) -> bool
+    ensures { result ≡ begins_with_index bytes.now }
+{
+    bytes.len() >= 13 && bytes[8] == 1 && u32_at(bytes, 9) == 4
+}
+
+/// The kind of a file with these bytes. The length of a seed goes before all magics.
+pub(crate) fn kind_of(bytes: &[u8]) -> Kind
+    ensures { result ≡ kind_in bytes.now }
+{
+    if bytes.len() == SEED_LEN {
+        Kind::Seed
+    } else if bytes.starts_with(b"HSC1") {
+        Kind::Committee
+    } else if bytes.starts_with(b"HSX1") {
+        Kind::Verdict
+    } else if bytes.starts_with(b"HSL1") {
+        Kind::Export
+    } else if !bytes.starts_with(b"HSJ1") {
+        Kind::Other
+    } else if begins_with_index(bytes) {
+        Kind::Indices
+    } else {
+        Kind::Journal
+    }
+}

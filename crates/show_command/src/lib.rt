@@ -1,0 +1,22 @@
+//! What files are and what stands in them: committees, verdicts, exports, journals and keys as lines, from words and
+//! files to what is printed. Needs no threads or network; files and streams are handed in.
+#![tactic(auto)]
+
+mod committee;
+mod digits;
+mod entry;
+mod fault;
+mod kind;
+mod log;
+mod mark;
+mod names;
+mod page;
+mod printing;
+mod program;
+mod verdict;
+mod words;
+
+pub use fault::Fault;
+pub use page::{Page, show};
+pub use printing::print_file;
+pub use program::{FAULT, NOT_WHOLE, SHOWN, run_show};

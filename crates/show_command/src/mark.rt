@@ -1,0 +1,98 @@
+//! Whether signatures are good.
+
+ghost use Rattle.std.specs.Prelude.{◌≡◌, ◌++◌, OnOk, count_by, decimal, length};
+ghost use Rattle.show_command.specs.Lines.{good_count_line, signatures_line};
+ghost use Rattle.show_command.specs.Marks.{IsMark, is_good, mark_text};
+
+use crate::digits::put_number;
+use blocks::Ballot;
+use certificates::{CommitteeView, LmsVerifier, is_signed_by};
+use std::alloc::AllocError;
+use wire::append;
+
+/// Whether a signature is good, where a committee was given to ask.
+#[derive(Clone, Copy, Debug, PartialEq, Eq)]
+pub(crate) enum Mark {
+    /// There is no committee.
+    Unasked,
+    /// It is good.
+    Good,
+    /// It is not, or the committee has no such replica.
+    Bad,
+}
+
+impl Mark {
+    /// The word that is printed behind a vote.
+    pub(crate) fn word(self) -> &'static str
+        ensures { result.now ≡ mark_text self }
+    {
+        match self {
+            Mark::Unasked => "",
+            Mark::Good => " good",
+            Mark::Bad => " bad",
+        }
+    }
+
+    /// Whether it says that the signature is good.
+    pub(crate) fn is_good(self) -> bool
+        ensures { result ≡ is_good self }
+    {
+        match self {
+            Mark::Good => true,
+            Mark::Unasked | Mark::Bad => false,
+        }
+    }
+}
+
+/// The mark of a replica's vote on a block.
+pub(crate) fn mark_of(
+    committee: &Option<CommitteeView>,
+    replica: u16,
+    on: &Ballot,
+    signature: &[u8],
+) -> Mark
+    ensures { IsMark committee.now (record { replica = replica; view = on.now.view; id = on.now.id; signature = signature.now }) result }
+{
+    let Some(committee) = committee else {
+        return Mark::Unasked;
+    };
+    if replica >= committee.n() {
+        return Mark::Bad;
+    }
+    if is_signed_by(&LmsVerifier, committee, replica, on, signature) {
+        Mark::Good
+    } else {
+        Mark::Bad
+    }
+}
+
+/// Adds the line that counts the signatures and those of them that are good, where a committee was given.
+pub(crate) fn put_count(
+    text: &mut Vec<u8>,
+    committee: &Option<CommitteeView>,
+    marks: &[Mark],
+) -> Result<(), AllocError>
+    ensures { OnOk result (text.new.items ≡ text.old.items ++ good_count_line committee.now marks.now) }
+{
+    match committee {
+        Some(_) => put_signatures(text, marks.len(), count_of_good(marks)),
+        None => Ok(()),
+    }
+}
+
+fn count_of_good(marks: &[Mark]) -> usize
+    ensures { result ≡ count_by is_good marks.now }
+{
+    marks.iter().filter(|mark| mark.is_good()).count()
+}
+
+#[tactic(auto, unfolding(crate::specs::Lines::signatures_line))]
+fn put_signatures(text: &mut Vec<u8>, count: usize, good: usize) -> Result<(), AllocError>
+    ensures { OnOk result (text.new.items ≡ text.old.items ++ signatures_line count good) }
+{
+    append(text, b"signatures ")?;
+    put_number(text, count)?;
+    append(text, b" good ")?;
+    put_number(text, good)?;
+    append(text, b"\n")
+}
