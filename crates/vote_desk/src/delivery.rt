@@ -1,7 +1,7 @@
 //! One delivery, and one timeout.
 
 ghost use Rattle.stable_log.specs.Devices.{AtAnyMoment};
-ghost use Rattle.std.specs.Prelude.{ℕ, ◌≡◌, ◌≢◌, ◌+◌, ◌⊎◌, List, IfErr, IfOk, IfSome, IsErrOf, OnErr, OnOk};
+ghost use Rattle.std.specs.Prelude.{ℕ, ◌≡◌, ◌≢◌, ◌+◌, ◌⊎◌, ◌↔◌, List, IfErr, IfOk, IfSome, IsErrOf, IsSome, OnErr, OnOk};
 ghost use Rattle.blocks.specs.Genesis.{genesis_of};
 ghost use Rattle.blocks.specs.Replica.{Takes, Timeout};
 ghost use Rattle.replica_core.specs.Admission.{IsAdmissible};
@@ -65,11 +65,17 @@ pub fn deliver_on<N: Naming, D: Disk>(
     ensures stopped { IsStopped state.old → state.new.log ≡ state.old.log }
     ensures grows { ListGrows state.old.log.steps state.new.log.steps }
 
+    // The key has as many indices as before, and the disk tells its bytes if it did.
+    ensures limit { state.new.indices.limit ≡ state.old.indices.limit }
+    ensures tells { IsSome (D.bytes state.new.log.disk) ↔ IsSome (D.bytes state.old.log.disk) }
+
     // After a refusal core, list and session are as before, and at most one index was drawn.
     ensures first_refusal { IfErr result (IsDeskRefusal state.old block.entry.header) }
     ensures err { OnErr result (IsKept state.old state.new) }
     ensures at_most_one { OnErr result (DrawsAtMostOne state.old state.new) }
     ensures log { IfErr result (λ e. e ≢ DeskError.Device → state.new.log ≡ state.old.log) }
+    ensures undisturbed { IfErr result (λ e. e ≢ DeskError.Device →
+        state.new.indices.stopped ≡ state.old.indices.stopped) }
     ensures session { OnErr result ((session.new.receipts.items ≡ session.old.receipts.items)
         × (session.new.share.amount ≡ session.old.share.amount)) }
 

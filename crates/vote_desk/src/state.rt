@@ -1,7 +1,7 @@
 //! What stands under a desk's lock.
 
 ghost use Rattle.stable_log.specs.Devices.{AtAnyMoment};
-ghost use Rattle.std.specs.Prelude.{◌≡◌, ◌≢◌, ◌<◌, ◌≤◌, ◌+◌, ◌⊎◌, ◌++◌, ◌∷◌, [], ℕ, List, true, false, length, None, Some, IfErr, IfOk, IfSome, IsErrOf, IsTrue, ◌↔◌, OnErr, OnOk};
+ghost use Rattle.std.specs.Prelude.{◌≡◌, ◌≢◌, ◌<◌, ◌≤◌, ◌+◌, ◌⊎◌, ◌++◌, ◌∷◌, [], ℕ, List, true, false, length, None, Some, IfErr, IfOk, IfSome, IsErrOf, IsSome, IsTrue, ◌↔◌, OnErr, OnOk};
 ghost use Rattle.blocks.specs.Genesis.{chain_id_of, genesis_of};
 ghost use Rattle.blocks.specs.Replay.{IsLegal, replay};
 ghost use Rattle.blocks.specs.Replica.{timed_out};
@@ -192,6 +192,7 @@ impl<N: Naming, D: Disk> DeskState<N, D> {
         ensures stored { OnOk result (IsStored D.bytes D.images self.old self.new plan
             (entry_for block.entry plan.parent None)) }
         ensures same { (self.new.indices ≡ self.old.indices) × (self.new.released ≡ self.old.released) }
+        ensures tells { IsSome (D.bytes self.new.log.disk) ↔ IsSome (D.bytes self.old.log.disk) }
         ensures kept { OnErr result (IsKept self.old self.new) }
         ensures err { IfErr result (λ e. e ≢ DeskError.Device → self.new ≡ self.old) }
         ensures device { IsErrOf result DeskError.Device → self.new.log.stopped ≡ true }
@@ -227,6 +228,9 @@ impl<N: Naming, D: Disk> DeskState<N, D> {
         ensures stored { IfOk result (λ r. IsStored D.bytes D.images self.old self.new plan
             (entry_for block.entry plan.parent (Some r.vote.signature))) }
         ensures drawn { OnOk result (self.new.indices.mark ≡ self.old.indices.mark + 1) }
+        ensures limit { self.new.indices.limit ≡ self.old.indices.limit }
+        ensures undisturbed { IfErr result (λ e. e ≢ DeskError.Device → self.new.indices.stopped ≡ false) }
+        ensures tells { IsSome (D.bytes self.new.log.disk) ↔ IsSome (D.bytes self.old.log.disk) }
         ensures released { OnOk result (self.new.released ≡ self.old.released + 1) }
         ensures running { OnOk result (self.new.indices.stopped ≡ false) }
         ensures receipts { IfOk result (λ r. session.new.receipts.items ≡ session.old.receipts.items ++ r ∷ []) }
