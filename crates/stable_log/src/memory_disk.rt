@@ -42,6 +42,8 @@ pub struct MemoryDisk {
     calls: Vec<Call>,
     bytes: Vec<u8>,
     fuse: Fuse,
+    // how many calls came, failed ones too; it stands still at its last value
+    answered: u64,
     failures: u64,
     pub ghost replayed: { bytes.items ≡ (disk_state first.items calls.items).bytes },
 }
@@ -108,14 +110,15 @@ fn torn(
 
 impl MemoryDisk {
     ghost use Rattle.faults.specs.Fuse.{after_call, is_burning};
-    ghost use Rattle.stable_log.specs.MemoryParts.{fuse_of, synced_of};
+    ghost use Rattle.stable_log.specs.MemoryParts.{calls_of, fuse_of, synced_of};
 
-    /// A disk of these bytes, all of them synced, with no failure and no fuse.
+    /// A disk of these bytes, all of them synced, with no call, no failure and no fuse.
     pub fn new(alloc: Global, bytes: Vec<u8>) -> Result<MemoryDisk, AllocError>
         ensures told { IfOk result (λ d. ⟦<MemoryDisk as Disk>⟧.bytes d ≡ Some bytes.items) }
         ensures durable { IfOk result (λ d. Only bytes.items (⟦<MemoryDisk as Disk>⟧.images d)) }
         ensures failed { IfOk result (λ d. ⟦<MemoryDisk as Disk>⟧.failed d ≡ 0) }
         ensures fuse { IfOk result (λ d. fuse_of d ≡ None) }
+        ensures calls { IfOk result (λ d. calls_of d ≡ 0) }
     {
         let first = bytes.to_vec(alloc)?;
         Ok(MemoryDisk {
@@ -124,6 +127,7 @@ impl MemoryDisk {
             calls: Vec::new(alloc),
             bytes,
             fuse: Fuse::none(),
+            answered: 0,
             failures: 0,
         })
     }
@@ -135,6 +139,14 @@ impl MemoryDisk {
         &self.bytes
     }
 
+    /// How many calls of `len`, `read_at`, `write_at` and `sync` it answered, with faults too, up to 2^64 - 1. The calls of
+    /// a run that meets no failure are those at which a fuse can make it fail.
+    pub fn calls(&self) -> u64
+        ensures { result ≡ calls_of self.now }
+    {
+        self.answered
+    }
+
     /// From here on the next `pass` calls succeed and the one behind them fails, and all later ones too where
     /// `forever`. It replaces an earlier fuse.
     pub fn fuse(&mut self, pass: u32, forever: bool)
@@ -142,11 +154,12 @@ impl MemoryDisk {
         ensures same { Unwritten ⟦<MemoryDisk as Disk>⟧.bytes ⟦<MemoryDisk as Disk>⟧.images
             ⟦<MemoryDisk as Disk>⟧.moment ⟦<MemoryDisk as Disk>⟧.images_since self.old self.new }
         ensures failed { ⟦<MemoryDisk as Disk>⟧.failed self.new ≡ ⟦<MemoryDisk as Disk>⟧.failed self.old }
+        ensures calls { calls_of self.new ≡ calls_of self.old }
     {
         self.fuse = Fuse::set(pass, forever);
     }
 
-    /// The disk that a crash at this moment leaves, all of it synced, with no failure and no fuse.
+    /// The disk that a crash at this moment leaves, all of it synced, with no call, no failure and no fuse.
     pub fn crash(&self, choice: Choice) -> Result<MemoryDisk, AllocError>
         ensures image { IfOk result (λ d. IfSome (⟦<MemoryDisk as Disk>⟧.bytes d)
             (⟦<MemoryDisk as Disk>⟧.images self.now)) }
@@ -158,6 +171,7 @@ impl MemoryDisk {
             Only bytes (⟦<MemoryDisk as Disk>⟧.images d))) }
         ensures failed { IfOk result (λ d. ⟦<MemoryDisk as Disk>⟧.failed d ≡ 0) }
         ensures fuse { IfOk result (λ d. fuse_of d ≡ None) }
+        ensures calls { IfOk result (λ d. calls_of d ≡ 0) }
     {
         let mut seen = self.first.to_vec(self.alloc)?;
         let mut left = self.first.to_vec(self.alloc)?;
@@ -173,8 +187,9 @@ impl MemoryDisk {
         MemoryDisk::new(self.alloc, left)
     }
 
-    // Whether the next call fails by the fuse.
+    // Counts a call, and answers whether it fails by the fuse.
     fn burns(&mut self) -> bool
+        ensures counted { calls_of self.new ≡ one_more (calls_of self.old) }
         ensures burns { result ≡ is_burning (fuse_of self.old) }
         ensures fuse { fuse_of self.new ≡ after_call (fuse_of self.old) }
         ensures bytes { self.new.bytes ≡ self.old.bytes }
@@ -182,6 +197,7 @@ impl MemoryDisk {
         ensures calls { self.new.calls ≡ self.old.calls }
         ensures failures { self.new.failures ≡ self.old.failures }
     {
+        self.answered = self.answered.saturating_add(1);
         self.fuse.burns()
     }
 

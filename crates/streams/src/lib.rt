@@ -8,7 +8,6 @@ mod memory_sink;
 mod sink;
 mod std_feed;
 mod std_sink;
-mod text;
 
 pub use faults::Fault;
 pub use feed::Feed;
@@ -17,4 +16,3 @@ pub use memory_sink::MemorySink;
 pub use sink::{Sink, write_all};
 pub use std_feed::StdFeed;
 pub use std_sink::StdSink;
-pub use text::SinkText;
