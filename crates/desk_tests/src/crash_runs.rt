@@ -1,16 +1,16 @@
-//! One delivery that votes and reserves key indices, with a disk failing at each of its calls, and a crash behind it.
+//! One delivery that votes and reserves key indices, with a disk failing at each of its calls, a crash behind it, and a
+//! recovery whose disk fails at each of its calls.
 
 use crate::replicas::{
-    Outcome, Step, committee, new_disk, new_key, new_log, new_parts, new_store, on_genesis,
-    recovered_log, recovered_store, stay,
+    Block, Step, committee, found_on, new_disk, new_key, new_parts, parts_on, stay,
 };
+use key_index_store::{IndexError, IndexStore};
 use lms_tree::SigningTree;
 use stable_log::{Choice, MemoryDisk};
-use std::alloc::Global;
 use std::process::Abort;
 use std::sync::Wait;
-use std::test::Fail;
-use vote_desk::{Closed, DeskError, Parts};
+use vote_desk::{DeskError, Parts, Receipt};
+use vote_log::{LogError, VoteLog};
 
 const CHOICES: [Choice; 6] = [
     Choice::Old,
@@ -28,126 +28,237 @@ enum Failing {
     Log,
 }
 
-// A disk on which a store can be made, with three calls, and which fails after so many calls more.
-fn failing_disk(alloc: Global, pass: u32) -> Result<MemoryDisk, Fail> {
-    let mut disk = new_disk(alloc)?;
-    disk.fuse(pass.saturating_add(3), true);
-    Ok(disk)
+// Where it fails: behind so many calls, once or from then on.
+#[derive(Clone, Copy)]
+struct Failure {
+    of: Failing,
+    pass: u32,
+    forever: bool,
 }
 
-// The parts of a new replica, one of whose disks fails at this call of the first vote, counted from 0.
-fn failing_parts(
-    alloc: Global,
-    tree: SigningTree,
-    failing: Failing,
-    call: u32,
-) -> Result<Parts<MemoryDisk>, Fail> {
-    let (index, log) = match failing {
-        Failing::Index => (failing_disk(alloc, call)?, new_disk(alloc)?),
-        Failing::Log => (new_disk(alloc)?, failing_disk(alloc, call)?),
-    };
-    Ok(Parts {
-        tree,
-        index: new_store(alloc, index)?,
-        log: new_log(alloc, log)?,
-    })
+// What is left of a replica on its disks.
+#[derive(Drop)]
+struct Disks {
+    index: MemoryDisk,
+    log: MemoryDisk,
 }
 
-// The parts after a crash that leaves this of both disks.
-fn crashed(
-    alloc: Global,
-    parts: Parts<MemoryDisk>,
-    choice: Choice,
-) -> Result<Parts<MemoryDisk>, Fail> {
+// The key and the disks.
+fn taken_out(parts: Parts<MemoryDisk>) -> (SigningTree, Disks) {
     let Parts { tree, index, log } = parts;
-    Ok(Parts {
+    let index = index.into_disk();
+    let log = log.into_disk();
+    (tree, Disks { index, log })
+}
+
+impl Disks {
+    fn disk(&self, which: Failing) -> &MemoryDisk {
+        match which {
+            Failing::Index => &self.index,
+            Failing::Log => &self.log,
+        }
+    }
+}
+
+// How many calls a disk answered, as a fuse counts them.
+fn calls_of(disk: &MemoryDisk) -> u32 {
+    u32::try_from(disk.calls()).unwrap_or(u32::MAX)
+}
+
+// How many calls a disk answered before the first vote of a new replica, and how many once that was released.
+fn calls_of_a_vote<R: Wait + Abort + AllocGlobal>(
+    rt: &R,
+    tree: SigningTree,
+    which: Failing,
+) -> (SigningTree, u32, u32) {
+    let (tree, made) = taken_out(parts_on(rt, tree, new_disk(rt), new_disk(rt)));
+    let parts = parts_on(rt, tree, new_disk(rt), new_disk(rt));
+    let closed = stay(rt, parts, &[Step::Votes(Block::OnGenesis(1), 0)]);
+    let (tree, voted) = taken_out(closed.parts);
+    (
         tree,
-        index: recovered_store(alloc, index.into_disk().crash(choice)?)?,
-        log: recovered_log(alloc, log.into_disk().crash(choice)?)?,
-    })
+        calls_of(made.disk(which)),
+        calls_of(voted.disk(which)),
+    )
+}
+
+// A disk that fails so, if it is this one.
+fn failing_disk<R: Abort + AllocGlobal>(rt: &R, which: Failing, failure: Failure) -> MemoryDisk {
+    let mut disk = new_disk(rt);
+    if which == failure.of {
+        disk.fuse(failure.pass, failure.forever);
+    }
+    disk
+}
+
+// A new replica whose first delivery meets this failure: the next answers `Stopped`. What is left.
+fn failed<R: Wait + Abort + AllocGlobal>(
+    rt: &R,
+    tree: SigningTree,
+    failure: Failure,
+) -> (SigningTree, Disks) {
+    let index = failing_disk(rt, Failing::Index, failure);
+    let log = failing_disk(rt, Failing::Log, failure);
+    let steps = [
+        Step::Refuses(Block::OnGenesis(1), DeskError::Device),
+        Step::Refuses(Block::OnGenesis(2), DeskError::Stopped),
+        Step::IsStopped,
+    ];
+    let closed = stay(rt, parts_on(rt, tree, index, log), &steps);
+    taken_out(closed.parts)
+}
+
+// What a crash leaves of both disks.
+fn crashed<R: Abort>(rt: &R, disks: &Disks, choice: Choice) -> Disks {
+    let index = disks.index.crash(choice).expect(rt, "memory");
+    let log = disks.log.crash(choice).expect(rt, "memory");
+    Disks { index, log }
+}
+
+// How many entries a log has that is recovered from a disk; the disk where that failed.
+fn entries_on<R: Abort + AllocGlobal>(rt: &R, disk: MemoryDisk) -> Result<u32, MemoryDisk> {
+    match VoteLog::recover(rt.alloc(), disk, committee(rt).genesis()) {
+        Ok(log) => Ok(log.count() as u32),
+        Err((refusal, disk)) => {
+            assert!(rt; refusal == LogError::Device);
+            Err(disk)
+        }
+    }
+}
+
+// How many indices are left in a store that is recovered from a disk; the disk where that failed.
+fn indices_on<R: Abort + AllocGlobal>(rt: &R, disk: MemoryDisk) -> Result<u32, MemoryDisk> {
+    match IndexStore::recover(rt.alloc(), disk) {
+        Ok(store) => Ok(store.left()),
+        Err((refusal, disk)) => {
+            assert!(rt; refusal == IndexError::Device);
+            Err(disk)
+        }
+    }
+}
+
+fn found<R: Abort + AllocGlobal>(
+    rt: &R,
+    which: Failing,
+    disk: MemoryDisk,
+) -> Result<u32, MemoryDisk> {
+    match which {
+        Failing::Index => indices_on(rt, disk),
+        Failing::Log => entries_on(rt, disk),
+    }
+}
+
+// What is found on the disk that a crash leaves of this one, by a second recovery if the first fails behind so many
+// calls; and whether it failed.
+fn found_behind<R: Abort + AllocGlobal>(
+    rt: &R,
+    which: Failing,
+    disk: &MemoryDisk,
+    choice: Choice,
+    pass: u32,
+) -> (u32, bool) {
+    let mut left = disk.crash(choice).expect(rt, "memory");
+    left.fuse(pass, false);
+    match found(rt, which, left) {
+        Ok(count) => (count, false),
+        Err(left) => {
+            let again = found(rt, which, left).ok();
+            (again.expect(rt, "a second recovery"), true)
+        }
+    }
+}
+
+// What is found there, the same whichever call of the first recovery fails.
+fn found_after<R: Abort + AllocGlobal>(
+    rt: &R,
+    which: Failing,
+    disk: &MemoryDisk,
+    choice: Choice,
+) -> u32 {
+    let (count, _) = found_behind(rt, which, disk, choice, u32::MAX);
+    for pass in 0..u32::MAX {
+        let (again, failed) = found_behind(rt, which, disk, choice, pass);
+        assert!(rt; again == count, "{choice:?}, recovery fails behind {pass}");
+        if !failed {
+            break;
+        }
+    }
+    count
 }
 
 // The key index of the last receipt.
-fn last_index(closed: &Closed<MemoryDisk>) -> Option<u32> {
-    let receipt = closed.receipts.last()?;
-    let [a, b, c, d, ..] = receipt.vote.signature;
+fn last_index(receipts: &[Receipt]) -> Option<u32> {
+    let [a, b, c, d, ..] = receipts.last()?.vote.signature;
     Some(u32::from_be_bytes([a, b, c, d]))
 }
 
-// A delivery whose disk fails, a crash, and the next delivery. Answers the key and the index of the later vote.
-fn runs<R: Wait + Abort>(
+// A crash, a recovery, and a delivery that is voted for. Answers the key, and the index of the vote.
+fn goes_on<R: Wait + Abort + AllocGlobal>(
     rt: &R,
-    alloc: Global,
     tree: SigningTree,
-    failing: Failing,
-    call: u32,
+    disks: &Disks,
     choice: Choice,
-) -> Result<(SigningTree, u32), Fail> {
-    let committee = committee()?;
-    let steps = [
-        Step::Delivers(
-            on_genesis(&committee, 1),
-            Outcome::Refused(DeskError::Device),
-        ),
-        Step::Delivers(
-            on_genesis(&committee, 2),
-            Outcome::Refused(DeskError::Stopped),
-        ),
-        Step::IsStopped,
-    ];
-    let closed = stay(
-        rt,
-        alloc,
-        failing_parts(alloc, tree, failing, call)?,
-        &steps,
-    )?;
-    let parts = crashed(alloc, closed.parts, choice)?;
-    let stored = parts.log.count();
-    assert!(rt; stored <= 1);
-    let votes = Step::Delivers(on_genesis(&committee, 9), Outcome::Voted(stored as u32));
-    let closed = stay(rt, alloc, parts, &[votes])?;
-    let index = last_index(&closed).ok_or("no receipt")?;
-    Ok((closed.parts.tree, index))
+) -> (SigningTree, u32) {
+    let entries = found_after(rt, Failing::Log, &disks.log, choice);
+    assert!(rt; entries <= 1);
+    let left = found_after(rt, Failing::Index, &disks.index, choice);
+    let Disks { index, log } = crashed(rt, disks, choice);
+    let parts = found_on(rt, tree, index, log);
+    let closed = stay(rt, parts, &[Step::Votes(Block::OnGenesis(9), entries)]);
+    let index = last_index(&closed.receipts).expect(rt, "a receipt");
+    assert!(rt; index.checked_add(left) == Some(1024));
+    (closed.parts.tree, index)
 }
 
 // No index comes twice: none was given where the index disk failed, and 16 are skipped where the log's did.
-fn runs_all<R: Wait + Abort>(
+fn survives<R: Wait + Abort + AllocGlobal>(
     rt: &R,
-    alloc: Global,
     tree: SigningTree,
-    failing: Failing,
+    failure: Failure,
     least: u32,
-) -> Result<SigningTree, Fail> {
-    let mut tree = tree;
-    for call in 0..4 {
-        for choice in CHOICES {
-            let (again, index) = runs(rt, alloc, tree, failing, call, choice)?;
-            assert!(rt; index >= least && index % 16 == 0, "call {call}");
-            tree = again;
+) -> SigningTree {
+    let (mut tree, disks) = failed(rt, tree, failure);
+    for choice in CHOICES {
+        let (again, index) = goes_on(rt, tree, &disks, choice);
+        assert!(rt;
+            index >= least && index % 16 == 0,
+            "call {}, {choice:?}",
+            failure.pass
+        );
+        tree = again;
+    }
+    tree
+}
+
+// A failure at each call that the delivery makes of this disk, once and from then on.
+fn survives_each<R: Wait + Abort + AllocGlobal>(rt: &R, of: Failing, least: u32) {
+    let (mut tree, made, voted) = calls_of_a_vote(rt, new_key(rt), of);
+    for pass in made..voted {
+        for forever in [false, true] {
+            tree = survives(rt, tree, Failure { of, pass, forever }, least);
         }
     }
-    Ok(tree)
 }
 
 #[test]
-fn a_delivery_survives_a_crash_at_each_call(rt: HostRuntime) -> Result<(), Fail> {
-    let alloc = rt.alloc();
-    let tree = runs_all(&rt, alloc, new_key(alloc)?, Failing::Index, 0)?;
-    runs_all(&rt, alloc, tree, Failing::Log, 16)?;
-    Ok(())
+fn a_delivery_survives_a_failing_index_disk(rt: HostRuntime) {
+    survives_each(&rt, Failing::Index, 0);
+}
+
+#[test]
+fn a_delivery_survives_a_failing_log_disk(rt: HostRuntime) {
+    survives_each(&rt, Failing::Log, 16);
 }
 
 // A vote that was released stands in the log whatever a crash leaves.
 #[test]
-fn a_released_vote_outlasts_each_crash(rt: HostRuntime) -> Result<(), Fail> {
-    let alloc = rt.alloc();
-    let committee = committee()?;
-    let mut parts = new_parts(alloc)?;
-    for k in 0..6 {
-        let votes = Step::Delivers(on_genesis(&committee, k + 1), Outcome::Voted(k as u32));
-        let closed = stay(&rt, alloc, parts, &[votes])?;
-        parts = crashed(alloc, closed.parts, CHOICES[k as usize])?;
-        assert!(rt; parts.log.count() as u64 == k + 1);
+fn a_released_vote_outlasts_each_crash(rt: HostRuntime) {
+    let mut parts = new_parts(&rt);
+    for (k, choice) in CHOICES.iter().enumerate() {
+        let votes = Step::Votes(Block::OnGenesis(k as u64 + 1), k as u32);
+        let (tree, disks) = taken_out(stay(&rt, parts, &[votes]).parts);
+        let Disks { index, log } = crashed(&rt, &disks, *choice);
+        parts = found_on(&rt, tree, index, log);
+        assert!(rt; parts.log.count() == k + 1);
     }
-    Ok(())
 }

@@ -1,7 +1,7 @@
 //! What a replica does at its limits: 1,024 votes of a key, 4,096 entries of a log, and 65,536 headers.
 
 use crate::replicas::{
-    Outcome, Step, committee, new_disk, new_key, new_parts, new_store, on_genesis, recovered_log,
+    Block, Step, committee, new_disk, new_key, new_parts, new_store, on_genesis, recovered_log,
     stay,
 };
 use blocks::{CommitteeView, Header};
@@ -9,24 +9,31 @@ use fixtures::certificates as texts;
 use replica_core::CoreRefusal;
 use stable_log::MemoryDisk;
 use std::alloc::{AllocError, Global};
-use std::test::Fail;
-use vote_desk::{DeskError, Parts};
+use std::process::Abort;
+use vote_desk::{Closed, DeskError, Parts};
 
-fn refused(committee: &CommitteeView, view: u64, refusal: DeskError) -> Step {
-    Step::Delivers(on_genesis(committee, view), Outcome::Refused(refusal))
+// Whether the log has so many entries, and the key so many indices left.
+fn has_left(parts: &Parts<MemoryDisk>, entries: usize, indices: u32) -> bool {
+    parts.log.count() == entries && parts.index.left() == indices
+}
+
+// Whether 1,024 votes were released, and no more.
+fn gave_1024_votes(closed: &Closed<MemoryDisk>) -> bool {
+    closed.receipts.len() == 1024
+        && closed.core.vote_view() == 1024
+        && has_left(&closed.parts, 1024, 0)
 }
 
 // The key's 1,024 indices are given, and the next vote is refused, each time.
 #[test]
-fn key_is_spent_after_1024_votes(rt: HostRuntime) -> Result<(), Fail> {
-    let alloc = rt.alloc();
-    let committee = committee()?;
-    let spent = refused(&committee, 1025, DeskError::KeySpent);
-    let steps = [Step::VotesForAll(1024), spent, spent];
-    let closed = stay(&rt, alloc, new_parts(alloc)?, &steps)?;
-    assert!(rt; closed.receipts.len() == 1024 && closed.parts.index.left() == 0);
-    assert!(rt; closed.core.vote_view() == 1024 && closed.parts.log.count() == 1024);
-    Ok(())
+fn key_is_spent_after_1024_votes(rt: HostRuntime) {
+    let spent = Step::Refuses(Block::OnGenesis(1025), DeskError::KeySpent);
+    let closed = stay(
+        &rt,
+        new_parts(&rt),
+        &[Step::VotesForAll(1024), spent, spent],
+    );
+    assert!(rt; gave_1024_votes(&closed));
 }
 
 // The entry of a vote for the block of this view on genesis. No signature in a log is checked.
@@ -40,55 +47,47 @@ fn push_entry(bytes: &mut Vec<u8>, genesis: &Header, block: &Header) -> Result<(
     bytes.extend_from_slice(texts::of_genesis())
 }
 
-// The disk of a log that has all the entries that it has room for: votes of the views 1 to 4,096 on genesis.
-fn full_disk(alloc: Global, committee: &CommitteeView) -> Result<MemoryDisk, Fail> {
+// The bytes of a log that has all the entries that it has room for: votes of the views 1 to 4,096 on genesis.
+fn full_log(alloc: Global, committee: &CommitteeView) -> Result<Vec<u8>, AllocError> {
     let genesis = committee.genesis();
-    let mut bytes = Vec::new(alloc);
-    bytes.extend_from_slice(b"HSJ1\x00\x00\x00\x00")?;
+    let mut bytes = b"HSJ1\x00\x00\x00\x00".to_vec(alloc)?;
     for view in 1..4097 {
-        push_entry(&mut bytes, &genesis, &on_genesis(committee, view).header)?;
+        push_entry(&mut bytes, &genesis, &on_genesis(committee, view))?;
     }
-    bytes.extend_from_slice(b"\x00")?;
-    Ok(MemoryDisk::new(alloc, bytes)?)
+    bytes.push(0)?;
+    Ok(bytes)
 }
 
-fn parts_with_a_full_log(
-    alloc: Global,
-    committee: &CommitteeView,
-) -> Result<Parts<MemoryDisk>, Fail> {
-    Ok(Parts {
-        tree: new_key(alloc)?,
-        index: new_store(alloc, new_disk(alloc)?)?,
-        log: recovered_log(alloc, full_disk(alloc, committee)?)?,
-    })
+fn parts_with_a_full_log<R: Abort + AllocGlobal>(rt: &R) -> Parts<MemoryDisk> {
+    let bytes = full_log(rt.alloc(), &committee(rt)).expect(rt, "memory");
+    let disk = MemoryDisk::new(rt.alloc(), bytes).expect(rt, "memory");
+    let tree = new_key(rt);
+    let index = new_store(rt, new_disk(rt));
+    let log = recovered_log(rt, disk);
+    Parts { tree, index, log }
 }
 
 // A full log refuses a vote, and no index is drawn for it; a block that is only held is not refused.
 #[test]
-fn log_is_full_at_4096_entries(rt: HostRuntime) -> Result<(), Fail> {
-    let alloc = rt.alloc();
-    let committee = committee()?;
-    let full = refused(&committee, 4097, DeskError::LogFull);
-    let held = Step::Delivers(on_genesis(&committee, 1), Outcome::Held);
-    let parts = parts_with_a_full_log(alloc, &committee)?;
-    let closed = stay(&rt, alloc, parts, &[full, held, full])?;
-    assert!(rt; closed.parts.index.left() == 1024 && closed.parts.log.count() == 4096);
-    Ok(())
+fn log_is_full_at_4096_entries(rt: HostRuntime) {
+    let full = Step::Refuses(Block::OnGenesis(4097), DeskError::LogFull);
+    let held = Step::Holds(Block::OnGenesis(1));
+    let closed = stay(&rt, parts_with_a_full_log(&rt), &[full, held, full]);
+    assert!(rt; has_left(&closed.parts, 4096, 1024));
 }
 
 // Beside genesis 65,535 blocks are held. One more is refused, and one that is held is delivered again.
 #[test]
-fn tree_is_full_at_65536_headers(rt: HostRuntime) -> Result<(), Fail> {
-    let alloc = rt.alloc();
-    let committee = committee()?;
-    let held = Step::Delivers(on_genesis(&committee, 1), Outcome::Held);
+fn tree_is_full_at_65536_headers(rt: HostRuntime) {
     let steps = [
         Step::TimesOut(100_000),
         Step::HoldsAll(65_535),
-        refused(&committee, 65_536, DeskError::Core(CoreRefusal::TreeFull)),
-        held,
+        Step::Refuses(
+            Block::OnGenesis(65_536),
+            DeskError::Core(CoreRefusal::TreeFull),
+        ),
+        Step::Holds(Block::OnGenesis(1)),
     ];
-    let closed = stay(&rt, alloc, new_parts(alloc)?, &steps)?;
+    let closed = stay(&rt, new_parts(&rt), &steps);
     assert!(rt; closed.parts.log.count() == 0);
-    Ok(())
 }

@@ -3,17 +3,17 @@
 ghost use Rattle.std.specs.Prelude.{◌≡◌};
 ghost use Rattle.blocks.specs.Headers.{IsGenesis};
 
-use crate::replicas::{checked_by, committee, new_disk, new_log, new_parts, new_store, on_genesis};
+use crate::replicas::{Block, checked_by, committee, new_disk, new_log, new_parts, new_store};
 use blocks::{CommitteeView, Header};
 use certificates::LmsVerifier;
 use fixtures::log_entries;
+use key_index_store::IndexStore;
 use stable_log::MemoryDisk;
 use std::alloc::Global;
 use std::marker::Brand;
 use std::process::Abort;
 use std::sync::Wait;
 use std::sync::ledger::Blank;
-use std::test::Fail;
 use vote_desk::{Desk, DeskError, Naming, Parts, StartError};
 use vote_log::{Entry, VoteLog};
 
@@ -35,18 +35,17 @@ fn starts<N: Naming>(
 }
 
 // Asserts how a desk of this replica is refused, and gives the parts back.
-fn is_refused<R: Abort>(
+fn refused<R: Abort + AllocGlobal>(
     rt: &R,
-    alloc: Global,
     replica: u16,
     parts: Parts<MemoryDisk>,
     want: StartError,
-) -> Result<Parts<MemoryDisk>, Fail> {
-    let committee = committee()?;
-    let refused = starts::<Brand>(alloc, Blank::new(2), &committee, replica, parts);
-    let (refusal, parts) = refused.ok_or("the desk is opened")?;
+) -> Parts<MemoryDisk> {
+    let committee = committee(rt);
+    let refused = starts::<Brand>(rt.alloc(), Blank::new(2), &committee, replica, parts);
+    let (refusal, parts) = refused.expect(rt, "a refusal");
     assert!(rt; refusal == want);
-    Ok(parts)
+    parts
 }
 
 // The genesis of another chain.
@@ -61,117 +60,113 @@ fn other_genesis() -> Header
     }
 }
 
-fn log_of_another_chain(alloc: Global) -> Result<VoteLog<MemoryDisk>, Fail> {
-    let log = VoteLog::create(alloc, new_disk(alloc)?, other_genesis()).ok();
-    Ok(log.ok_or("no log")?)
+fn log_of_another_chain<R: Abort + AllocGlobal>(rt: &R) -> VoteLog<MemoryDisk> {
+    let log = VoteLog::create(rt.alloc(), new_disk(rt), other_genesis()).ok();
+    log.expect(rt, "a log")
 }
 
-// A disk that answers the three calls that make a log or an index store on it, and fails the next.
-fn failing_disk(alloc: Global) -> Result<MemoryDisk, Fail> {
-    let mut disk = new_disk(alloc)?;
-    disk.fuse(3, false);
-    Ok(disk)
-}
-
-// A log whose disk failed in an append.
-fn stopped_log(alloc: Global) -> Result<VoteLog<MemoryDisk>, Fail> {
-    let mut log = new_log(alloc, failing_disk(alloc)?)?;
-    let entry = Entry::read(alloc, log_entries::a1_voted()).ok();
-    let entry = entry.ok_or("no entry")?;
-    if log.allows(&entry) {
-        let _ = log.append(&entry);
-    }
-    Ok(log)
-}
-
-#[test]
-fn desk_refusals(rt: HostRuntime) -> Result<(), Fail> {
-    let alloc = rt.alloc();
-    let parts = new_parts(alloc)?;
-    let parts = is_refused(&rt, alloc, 1, parts, StartError::WrongKey)?;
-    let Parts {
-        tree,
-        index,
-        log: _,
-    } = is_refused(&rt, alloc, 4, parts, StartError::UnknownReplica)?;
-    let log = log_of_another_chain(alloc)?;
-    let parts = is_refused(
-        &rt,
-        alloc,
-        0,
-        Parts { tree, index, log },
-        StartError::WrongChain,
-    )?;
+// The parts with another log.
+fn with_log(parts: Parts<MemoryDisk>, log: VoteLog<MemoryDisk>) -> Parts<MemoryDisk> {
     let Parts {
         tree,
         index,
         log: _,
     } = parts;
-    let log = stopped_log(alloc)?;
-    is_refused(
-        &rt,
-        alloc,
-        0,
-        Parts { tree, index, log },
-        StartError::Stopped,
-    )?;
-    Ok(())
+    Parts { tree, index, log }
 }
 
-#[test]
-fn a_stopped_index_store_is_refused(rt: HostRuntime) -> Result<(), Fail> {
-    let alloc = rt.alloc();
+// The parts with other indices.
+fn with_index(parts: Parts<MemoryDisk>, index: IndexStore<MemoryDisk>) -> Parts<MemoryDisk> {
     let Parts {
         tree,
         index: _,
         log,
-    } = new_parts(alloc)?;
-    let mut index = new_store(alloc, failing_disk(alloc)?)?;
-    let _ = index.next();
-    is_refused(
+    } = parts;
+    Parts { tree, index, log }
+}
+
+// A log whose disk fails from now on.
+fn failing_log<R: Abort + AllocGlobal>(rt: &R) -> VoteLog<MemoryDisk> {
+    let calls = new_log(rt, new_disk(rt)).into_disk().calls();
+    let mut disk = new_disk(rt);
+    disk.fuse(u32::try_from(calls).unwrap_or(u32::MAX), false);
+    new_log(rt, disk)
+}
+
+// An index store whose disk fails from now on.
+fn failing_store<R: Abort + AllocGlobal>(rt: &R) -> IndexStore<MemoryDisk> {
+    let calls = new_store(rt, new_disk(rt)).into_disk().calls();
+    let mut disk = new_disk(rt);
+    disk.fuse(u32::try_from(calls).unwrap_or(u32::MAX), false);
+    new_store(rt, disk)
+}
+
+// A log whose disk failed in an append.
+fn stopped_log<R: Abort + AllocGlobal>(rt: &R) -> VoteLog<MemoryDisk> {
+    let mut log = failing_log(rt);
+    let entry = Entry::read(rt.alloc(), log_entries::a1_voted()).ok();
+    let entry = entry.expect(rt, "an entry");
+    if log.allows(&entry) {
+        let _ = log.append(&entry);
+    }
+    log
+}
+
+// An index store whose disk failed in a reservation.
+fn stopped_store<R: Abort + AllocGlobal>(rt: &R) -> IndexStore<MemoryDisk> {
+    let mut store = failing_store(rt);
+    let _ = store.next();
+    store
+}
+
+#[test]
+fn desk_refusals(rt: HostRuntime) {
+    let mut parts = new_parts(&rt);
+    for (replica, why) in [(1, StartError::WrongKey), (4, StartError::UnknownReplica)] {
+        parts = refused(&rt, replica, parts, why);
+    }
+    let parts = with_log(parts, log_of_another_chain(&rt));
+    let parts = refused(&rt, 0, parts, StartError::WrongChain);
+    refused(
         &rt,
-        alloc,
         0,
-        Parts { tree, index, log },
+        with_log(parts, stopped_log(&rt)),
         StartError::Stopped,
-    )?;
-    Ok(())
+    );
+}
+
+#[test]
+fn a_stopped_index_store_is_refused(rt: HostRuntime) {
+    let parts = with_index(new_parts(&rt), stopped_store(&rt));
+    refused(&rt, 0, parts, StartError::Stopped);
 }
 
 // A desk of two sessions, one of which gets a receipt and is kept back: how closing is refused, and the parts.
-fn withholds<N: Naming, R: Wait>(
+fn withholds<N: Naming, R: Wait + AllocGlobal>(
     rt: &R,
-    alloc: Global,
     blank: Blank,
     committee: &CommitteeView,
     parts: Parts<MemoryDisk>,
-) -> Result<Option<(DeskError, Parts<MemoryDisk>)>, Fail>
+) -> Option<(DeskError, Parts<MemoryDisk>)>
     requires name { blank.name ≡ N.name }
     requires ledger { (blank.parts ≡ N.parts) × (N.parts ≡ 2) }
     requires committee { committee.now ≡ N.committee }
     requires replica { 0 ≡ N.replica }
     requires opening { parts.log.steps ≡ N.opening }
 {
-    let Ok((desk, mut sessions)) = Desk::<N, MemoryDisk>::start(
-        alloc, blank, committee, 0, parts, 2,
-    ) else {
-        return Err("the desk is not opened".into());
-    };
-    let mut kept = sessions.pop().ok_or("no session")?;
-    let block = checked_by(alloc, &LmsVerifier, committee, &on_genesis(committee, 1));
-    let block = block.ok_or("the block is refused")?;
+    let started = Desk::<N, MemoryDisk>::start(rt.alloc(), blank, committee, 0, parts, 2);
+    let (desk, mut sessions) = started.ok()?;
+    let mut kept = sessions.pop()?;
+    let block = checked_by(rt.alloc(), &LmsVerifier, committee, Block::OnGenesis(1))?;
     let _ = desk.deliver(rt, &mut kept, block);
-    Ok(desk.close(alloc, sessions).err())
+    desk.close(rt.alloc(), sessions).err()
 }
 
 #[test]
-fn withheld_receipt(rt: HostRuntime) -> Result<(), Fail> {
-    let alloc = rt.alloc();
-    let committee = committee()?;
-    let parts = new_parts(alloc)?;
-    let refused = withholds::<Brand, HostRuntime>(&rt, alloc, Blank::new(2), &committee, parts)?;
-    let (refusal, parts) = refused.ok_or("the desk is closed")?;
-    assert!(rt; refusal == DeskError::ReceiptMismatch);
-    assert!(rt; parts.log.count() == 1);
-    Ok(())
+fn withheld_receipt(rt: HostRuntime) {
+    let committee = committee(&rt);
+    let parts = new_parts(&rt);
+    let refused = withholds::<Brand, HostRuntime>(&rt, Blank::new(2), &committee, parts);
+    let (refusal, parts) = refused.expect(&rt, "a refusal");
+    assert!(rt; refusal == DeskError::ReceiptMismatch && parts.log.count() == 1);
 }

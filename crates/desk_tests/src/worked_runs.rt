@@ -1,12 +1,12 @@
 //! Worked runs of replica 0. What each stay leaves in the log is compared, by the digest of the disk's bytes, with the log
 //! of an independent program that made them from the formats of docs/FORMATS.md and the seeds that `fixtures::keys` names.
 
-use crate::replicas::{Block, Certified, Outcome, Step, new_parts, restarted, stay, stored};
-use blocks::Id;
-use fixtures::{certificates as texts, core_blocks};
+use crate::replicas::{Block, Step, id_of_a1, new_parts, restarted, stay};
+use replica_core::Core;
 use stable_log::MemoryDisk;
-use std::test::Fail;
-use vote_desk::Closed;
+use std::process::Abort;
+use std::sync::Wait;
+use vote_desk::Parts;
 
 const LOG_WITH_A_RAISED_LOCK: &[u8; 32] =
     b"\xf8\x67\x8a\xde\x0b\xa9\xd8\x06\x98\xd6\x28\x46\xc2\x6d\x12\x6b\x3d\xa3\x0e\x09\x5e\x28\x7e\x75\xeb\x4f\x31\x82\x56\x20\xcc\xd0";
@@ -23,106 +23,106 @@ const LOG_OF_A1_TO_A4: &[u8; 32] =
 const LOG_WITH_A_RAISE_AND_NO_VOTE: &[u8; 32] =
     b"\xed\x00\xe5\xa1\x1a\x8e\x26\xc8\x81\x01\x18\x53\x07\xe8\xf2\x12\xdd\x4e\xea\x5a\x4a\x4d\x41\xe0\xb0\xd4\x9a\xaa\xf9\x16\xef\xa2";
 
-fn a1() -> Result<Block, Fail> {
-    stored(core_blocks::a1(), Certified::Genesis)
+// One stay at a desk, and the digest of the log that it leaves.
+#[derive(Clone, Copy)]
+struct Stay {
+    steps: &'static [Step],
+    log: &'static [u8; 32],
 }
 
-fn a2() -> Result<Block, Fail> {
-    stored(texts::header_a2(), Certified::A1)
+// The stays of a new replica, one after the other.
+fn lives<R: Wait + Abort + AllocGlobal>(rt: &R, stays: &[Stay]) -> Parts<MemoryDisk> {
+    let mut parts = new_parts(rt);
+    for next in stays {
+        parts = restarted(rt, stay(rt, parts, next.steps).parts, next.log);
+    }
+    parts
 }
 
-fn a3() -> Result<Block, Fail> {
-    stored(core_blocks::a3(), Certified::A2)
-}
-
-fn votes(block: Block, number: u32) -> Step {
-    Step::Delivers(block, Outcome::Voted(number))
-}
-
-fn holds(block: Block) -> Step {
-    Step::Delivers(block, Outcome::Held)
-}
-
-fn raises(block: Block) -> Step {
-    Step::Delivers(block, Outcome::Raised)
-}
+const RAISED_LOCK: [Stay; 2] = [
+    Stay {
+        steps: &[
+            Step::Votes(Block::A1, 0),
+            Step::Votes(Block::A2, 1),
+            Step::Votes(Block::A3, 2),
+            Step::Holds(Block::W4),
+            Step::TimesOut(9),
+            Step::Holds(Block::X5),
+            Step::Raises(Block::X6),
+        ],
+        log: LOG_WITH_A_RAISED_LOCK,
+    },
+    Stay {
+        steps: &[Step::Holds(Block::W4)],
+        log: LOG_WITH_A_RAISED_LOCK,
+    },
+];
 
 // A lock that a block raised without a vote holds after a restart.
 #[test]
-fn raised_lock_survives_restart(rt: HostRuntime) -> Result<(), Fail> {
-    let alloc = rt.alloc();
-    let w4 = stored(core_blocks::w4(), Certified::Genesis)?;
-    let x5 = stored(core_blocks::x5(), Certified::W4)?;
-    let x6 = stored(core_blocks::x6(), Certified::X5)?;
-    let steps = [
-        votes(a1()?, 0),
-        votes(a2()?, 1),
-        votes(a3()?, 2),
-        holds(w4),
-        Step::TimesOut(9),
-        holds(x5),
-        raises(x6),
-    ];
-    let closed = stay(&rt, alloc, new_parts(alloc)?, &steps)?;
-    let parts = restarted(&rt, alloc, closed.parts, LOG_WITH_A_RAISED_LOCK)?;
-    let closed = stay(&rt, alloc, parts, &[holds(w4)])?;
-    restarted(&rt, alloc, closed.parts, LOG_WITH_A_RAISED_LOCK)?;
-    Ok(())
+fn raised_lock_survives_restart(rt: HostRuntime) {
+    lives(&rt, &RAISED_LOCK);
 }
+
+const TIMEOUT: [Stay; 2] = [
+    Stay {
+        steps: &[
+            Step::Votes(Block::A1, 0),
+            Step::Votes(Block::A3OnA1, 1),
+            Step::TimesOut(9),
+            Step::Holds(Block::F5),
+        ],
+        log: LOG_OF_A1_AND_A3,
+    },
+    Stay {
+        steps: &[Step::Votes(Block::F5, 2)],
+        log: LOG_OF_A1_A3_AND_F5,
+    },
+];
 
 // A timeout keeps a replica from voting until it is started again.
 #[test]
-fn timeout_is_forgotten_at_restart(rt: HostRuntime) -> Result<(), Fail> {
-    let alloc = rt.alloc();
-    let a3 = stored(core_blocks::a3_on_a1(), Certified::A1)?;
-    let f5 = stored(core_blocks::f5(), Certified::A1)?;
-    let steps = [votes(a1()?, 0), votes(a3, 1), Step::TimesOut(9), holds(f5)];
-    let closed = stay(&rt, alloc, new_parts(alloc)?, &steps)?;
-    let parts = restarted(&rt, alloc, closed.parts, LOG_OF_A1_AND_A3)?;
-    let closed = stay(&rt, alloc, parts, &[votes(f5, 2)])?;
-    restarted(&rt, alloc, closed.parts, LOG_OF_A1_A3_AND_F5)?;
-    Ok(())
+fn timeout_is_forgotten_at_restart(rt: HostRuntime) {
+    lives(&rt, &TIMEOUT);
 }
+
+const FOUR_BLOCKS: [Stay; 1] = [Stay {
+    steps: &[
+        Step::Votes(Block::A1, 0),
+        Step::Votes(Block::A2, 1),
+        Step::Votes(Block::A3, 2),
+        Step::VotesAndCommitsA1(Block::A4, 3),
+    ],
+    log: LOG_OF_A1_TO_A4,
+}];
 
 // Of four blocks in successive views the last commits the first.
 #[test]
-fn a_fourth_block_commits_the_first(rt: HostRuntime) -> Result<(), Fail> {
-    let alloc = rt.alloc();
-    let a4 = stored(core_blocks::a4(), Certified::A3)?;
-    let id_of_a1: Id = a2()?.header.parent;
-    let steps = [
-        votes(a1()?, 0),
-        votes(a2()?, 1),
-        votes(a3()?, 2),
-        Step::Commits(a4, id_of_a1),
-    ];
-    let closed = stay(&rt, alloc, new_parts(alloc)?, &steps)?;
-    restarted(&rt, alloc, closed.parts, LOG_OF_A1_TO_A4)?;
-    Ok(())
+fn a_fourth_block_commits_the_first(rt: HostRuntime) {
+    lives(&rt, &FOUR_BLOCKS);
 }
 
-// Whether its vote view is 2, and it is locked on the parent of A2.
-fn is_locked_on_a1(closed: &Closed<MemoryDisk>) -> Result<bool, Fail> {
-    let lock = closed.core.lock();
-    Ok(closed.core.vote_view() == 2 && lock.view == 1 && lock.id == a2()?.header.parent)
+// Whether its vote view is 2, and it is locked on A1.
+fn is_locked_on_a1(core: &Core) -> bool {
+    let lock = core.lock();
+    core.vote_view() == 2 && lock.view == 1 && Some(lock.id) == id_of_a1()
 }
+
+const RAISE_WITHOUT_VOTE: [Stay; 1] = [Stay {
+    steps: &[
+        Step::Votes(Block::A1, 0),
+        Step::Votes(Block::A2, 1),
+        Step::TimesOut(9),
+        Step::Raises(Block::A3),
+    ],
+    log: LOG_WITH_A_RAISE_AND_NO_VOTE,
+}];
 
 // A lock that a block raises after a timeout is stored, and holds after a restart.
 #[test]
-fn raise_without_vote_is_stored(rt: HostRuntime) -> Result<(), Fail> {
-    let alloc = rt.alloc();
-    let z4 = stored(core_blocks::z4(), Certified::Genesis)?;
-    let steps = [
-        votes(a1()?, 0),
-        votes(a2()?, 1),
-        Step::TimesOut(9),
-        raises(a3()?),
-    ];
-    let closed = stay(&rt, alloc, new_parts(alloc)?, &steps)?;
-    let parts = restarted(&rt, alloc, closed.parts, LOG_WITH_A_RAISE_AND_NO_VOTE)?;
-    let closed = stay(&rt, alloc, parts, &[holds(z4)])?;
-    let is_locked = is_locked_on_a1(&closed)?;
-    assert!(rt; is_locked);
-    restarted(&rt, alloc, closed.parts, LOG_WITH_A_RAISE_AND_NO_VOTE)?;
-    Ok(())
+fn raise_without_vote_is_stored(rt: HostRuntime) {
+    let parts = lives(&rt, &RAISE_WITHOUT_VOTE);
+    let closed = stay(&rt, parts, &[Step::Holds(Block::Z4)]);
+    assert!(rt; is_locked_on_a1(&closed.core));
+    restarted(&rt, closed.parts, LOG_WITH_A_RAISE_AND_NO_VOTE);
 }

@@ -1,4 +1,4 @@
-use Rattle.desk_tests.proofs.refusals.is_refused.Given as goal
+use Rattle.desk_tests.proofs.refusals.refused.Given as goal
 
 abbrev pub ghosts-starts-N-Naming : goal.ghosts-starts-N-Naming
 ghosts-starts-N-Naming g a = record { committee = a.committee.now; replica = a.replica; opening = a.parts.log.steps }
