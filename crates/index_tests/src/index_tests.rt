@@ -5,6 +5,12 @@ use stable_log::{Choice, Disk, Journal, MemoryDisk};
 use std::alloc::{AllocError, Global};
 use std::process::Abort;
 
+// No reservation.
+const EMPTY: &[u8] = b"HSJ1\0\0\0\0\0";
+
+// One reservation.
+const ONE: &[u8] = b"HSJ1\0\0\0\0\x01\0\0\0\x04\0\0\0\x10\0";
+
 // A disk of these bytes.
 fn disk_of<R: Abort + AllocGlobal>(rt: &R, bytes: &[u8]) -> MemoryDisk {
     let bytes = bytes.to_vec(rt.alloc()).expect(rt, "memory");
@@ -78,7 +84,7 @@ fn indices_skip_after_crash(rt: HostRuntime) {
     let mut store = created(&rt);
     assert!(rt; gives(&mut store, 0, 3) && store.left() == 1_021);
     let disk = store.into_disk();
-    assert!(rt; disk.bytes() == b"HSJ1\0\0\0\0\x01\0\0\0\x04\0\0\0\x10\0".as_slice());
+    assert!(rt; disk.bytes() == ONE);
     assert_gives_the_rest(&rt, disk.crash(Choice::Old).expect(&rt, "memory"));
 }
 
@@ -90,25 +96,69 @@ fn fails_and_stops<D: Disk>(store: &mut IndexStore<D>) -> bool {
         && store.next() == Err(IndexError::Stopped)
 }
 
-// The disk that a `next` leaves which fails after `pass` calls.
-fn failed_disk<R: Abort + AllocGlobal>(rt: &R, pass: u32) -> MemoryDisk {
-    let mut disk = created(rt).into_disk();
-    // `recover` makes four calls of an empty journal
-    disk.fuse(pass.saturating_add(4), false);
+// How many calls the disk answered, as a fuse counts them.
+fn calls_of(store: IndexStore<MemoryDisk>) -> u32 {
+    u32::try_from(store.into_disk().calls()).unwrap_or(u32::MAX)
+}
+
+// How many calls a recovery of these bytes makes.
+fn recovery_calls<R: Abort + AllocGlobal>(rt: &R, bytes: &[u8]) -> u32 {
+    calls_of(recovered(rt, disk_of(rt, bytes)))
+}
+
+// How many calls a recovery of no reservation makes with a `next` behind it.
+fn next_calls<R: Abort + AllocGlobal>(rt: &R) -> u32 {
+    let mut store = recovered(rt, disk_of(rt, EMPTY));
+    assert!(rt; store.next() == Ok(0));
+    calls_of(store)
+}
+
+// The disk that a failed `next` leaves, where the call behind `pass` of a recovery and the `next` fails.
+fn failed_disk<R: Abort + AllocGlobal>(rt: &R, pass: u32, forever: bool) -> MemoryDisk {
+    let mut disk = disk_of(rt, EMPTY);
+    disk.fuse(pass, forever);
     let mut store = recovered(rt, disk);
     assert!(rt; fails_and_stops(&mut store), "after {pass} calls");
     store.into_disk()
 }
 
+// Whether the disk failed just once, and the store that it holds gives this index next.
+fn goes_on_with<R: Abort + AllocGlobal>(rt: &R, disk: MemoryDisk, index: u32) -> bool {
+    let mut disk = disk;
+    disk.fuse(u32::MAX, false);
+    disk.failures() == 1 && recovered(rt, disk).next() == Ok(index)
+}
+
+// A boundary is found from its last call on, which makes it durable.
 #[test]
 fn next_with_each_call_failing(rt: HostRuntime) {
-    for (pass, index) in [(0, 0), (1, 0), (2, 0), (3, 16)] {
-        let disk = failed_disk(&rt, pass);
-        assert!(rt; disk.failures() == 1);
-        assert!(rt;
-            recovered(&rt, disk).next() == Ok(index),
-            "after {pass} calls"
-        );
+    let last = next_calls(&rt).saturating_sub(1);
+    for pass in recovery_calls(&rt, EMPTY)..=last {
+        for forever in [false, true] {
+            let index = if pass == last { 16 } else { 0 };
+            let disk = failed_disk(&rt, pass, forever);
+            assert!(rt; goes_on_with(&rt, disk, index), "after {pass} calls");
+        }
+    }
+}
+
+// Whether a recovery of one reservation that fails behind `pass` calls answers `Device`, and one of the disk that it
+// hands back, once mended, finds the boundary.
+fn fails_and_is_found<R: Abort + AllocGlobal>(rt: &R, pass: u32, forever: bool) -> bool {
+    let mut disk = disk_of(rt, ONE);
+    disk.fuse(pass, forever);
+    match IndexStore::recover(rt.alloc(), disk) {
+        Err((IndexError::Device, disk)) => goes_on_with(rt, disk, 16),
+        _ => false,
+    }
+}
+
+#[test]
+fn recover_with_each_call_failing(rt: HostRuntime) {
+    for pass in 0..recovery_calls(&rt, ONE) {
+        for forever in [false, true] {
+            assert!(rt; fails_and_is_found(&rt, pass, forever), "{pass} {forever}");
+        }
     }
 }
 
@@ -118,7 +168,7 @@ const BAD: Result<u32, IndexError> = Err(IndexError::BadEntry);
 const FILES: [(&[u8], Option<usize>, Result<u32, IndexError>); 7] = [
     (b"", None, BAD),
     (b"HSJ1\0\0\0\0\x01", None, BAD),
-    (b"HSJ1\0\0\0\0\0", Some(0), Ok(1_024)),
+    (EMPTY, Some(0), Ok(1_024)),
     (
         b"HSJ1\0\0\0\0\x01\0\0\0\x04\0\0\0\x10\x01\0\0\0\x04\0\0\0\x20\0",
         Some(2),

@@ -103,7 +103,26 @@ fn ends_with_cd<D: Disk>(disk: &mut D) -> bool {
 fn a_fuse_burns_once_or_forever(rt: HostRuntime) {
     let mut disk = disk_of(&rt, b"abcd");
     assert!(rt; burns_once(&mut disk) && burns_forever(&mut disk) && disk.failures() == 4);
+    assert!(rt; disk.calls() == 6);
     assert!(rt; ends_with_cd(&mut crashed(&rt, &disk, Choice::New)));
+}
+
+// Whether a call of each kind is counted, and one that fails.
+fn counts_each(disk: &mut MemoryDisk) -> bool {
+    disk.calls() == 0
+        && disk.write_at(0, b"x") == Ok(())
+        && disk.sync() == Ok(())
+        && disk.len() == Ok(1)
+        && disk.read_at(0, &mut [0u8; 1]) == Ok(())
+        && disk.read_at(0, &mut [0u8; 2]) == Err(Fault)
+        && disk.calls() == 5
+}
+
+#[test]
+fn each_call_is_counted(rt: HostRuntime) {
+    let mut disk = disk_of(&rt, b"");
+    assert!(rt; counts_each(&mut disk));
+    assert!(rt; crashed(&rt, &disk, Choice::New).calls() == 0);
 }
 
 #[test]

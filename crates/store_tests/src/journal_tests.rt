@@ -26,12 +26,21 @@ pub(crate) fn recovered<R: Abort + AllocGlobal, D: Disk>(rt: &R, disk: D) -> Jou
         .expect(rt, "recover")
 }
 
-// A journal with no entry whose disk fails after `pass` calls more.
-fn failing_after<R: Abort + AllocGlobal>(rt: &R, pass: u32, forever: bool) -> Journal<MemoryDisk> {
-    let mut disk = disk_of(rt, EMPTY);
-    // `recover` makes four calls: sync, length, head, gate
-    disk.fuse(pass.saturating_add(4), forever);
-    recovered(rt, disk)
+// How many calls the disk answered, as a fuse counts them.
+fn calls_of(journal: Journal<MemoryDisk>) -> u32 {
+    u32::try_from(journal.into_disk().calls()).unwrap_or(u32::MAX)
+}
+
+// How many calls a recovery of these bytes makes.
+fn recovery_calls<R: Abort + AllocGlobal>(rt: &R, bytes: &[u8]) -> u32 {
+    calls_of(recovered(rt, disk_of(rt, bytes)))
+}
+
+// How many calls a recovery of no entry makes with an append behind it.
+fn append_calls<R: Abort + AllocGlobal>(rt: &R) -> u32 {
+    let mut journal = recovered(rt, disk_of(rt, EMPTY));
+    assert!(rt; journal.append(b"abc") == Ok(()));
+    calls_of(journal)
 }
 
 // How `recover` refuses a disk.
@@ -116,43 +125,84 @@ fn an_append_is_found_again(rt: HostRuntime) {
     assert!(rt; has_abc_alone(rt.alloc(), &mut recovered(&rt, disk)));
 }
 
-// The disk that an append leaves, where the call behind `pass` fails. An append makes four.
+// The disk that a failed append leaves, where the call behind `pass` of a recovery of no entry and the append fails.
 fn disk_after_append<R: Abort + AllocGlobal>(rt: &R, pass: u32, forever: bool) -> MemoryDisk {
-    let mut journal = failing_after(rt, pass, forever);
-    if pass < 4 {
-        assert!(rt; fails(&mut journal) && is_stopped_and_empty(rt.alloc(), &mut journal));
-    } else {
-        assert!(rt; journal.append(b"abc") == Ok(()));
-    }
+    let mut disk = disk_of(rt, EMPTY);
+    disk.fuse(pass, forever);
+    let mut journal = recovered(rt, disk);
+    assert!(rt; fails(&mut journal) && is_stopped_and_empty(rt.alloc(), &mut journal));
     journal.into_disk()
 }
 
-// Whether "abc" is the one entry, or there is none and may be none.
-fn has_abc<D: Disk>(alloc: Global, journal: &mut Journal<D>, may_lack: bool) -> bool {
-    (may_lack && journal.count() == 0) || has_abc_alone(alloc, journal)
+// Whether there is no entry, or "abc" is the one.
+fn is_empty_or_has_abc<D: Disk>(alloc: Global, journal: &mut Journal<D>) -> bool {
+    journal.count() == 0 || has_abc_alone(alloc, journal)
+}
+
+// Asserts what each crash leaves of an append whose call behind `pass` failed.
+fn assert_crashes_leave_it<R: Abort + AllocGlobal>(rt: &R, pass: u32, forever: bool) {
+    let disk = disk_after_append(rt, pass, forever);
+    for choice in &CHOICES {
+        let mut again = recovered(rt, crashed(rt, &disk, *choice));
+        assert!(rt;
+            is_empty_or_has_abc(rt.alloc(), &mut again),
+            "{pass} {forever} {choice:?}"
+        );
+    }
 }
 
 #[test]
 fn append_with_each_call_failing(rt: HostRuntime) {
-    for pass in 0..5u32 {
-        for forever in [false, true] {
-            for choice in &CHOICES {
-                let disk = crashed(&rt, &disk_after_append(&rt, pass, forever), *choice);
-                let mut again = recovered(&rt, disk);
-                assert!(rt;
-                    has_abc(rt.alloc(), &mut again, pass < 4),
-                    "{pass} {forever} {choice:?}"
-                );
-            }
-        }
+    for pass in recovery_calls(&rt, EMPTY)..append_calls(&rt) {
+        assert_crashes_leave_it(&rt, pass, false);
+        assert_crashes_leave_it(&rt, pass, true);
     }
 }
 
 #[test]
+fn an_append_outlasts_each_crash(rt: HostRuntime) {
+    let mut journal = created(&rt, disk_of(&rt, b""));
+    assert!(rt; journal.append(b"abc") == Ok(()));
+    let disk = journal.into_disk();
+    for choice in &CHOICES {
+        let mut again = recovered(&rt, crashed(&rt, &disk, *choice));
+        assert!(rt; has_abc_alone(rt.alloc(), &mut again), "{choice:?}");
+    }
+}
+
+// The disk that an append leaves whose last call fails, once.
+fn disk_without_last_call<R: Abort + AllocGlobal>(rt: &R) -> MemoryDisk {
+    disk_after_append(rt, append_calls(rt).saturating_sub(1), false)
+}
+
+// The gate is written before the last call, and not before the one before it.
+#[test]
 fn a_failed_append_may_be_found(rt: HostRuntime) {
-    for (pass, count) in [(0, 0), (1, 0), (2, 0), (3, 1)] {
-        let disk = disk_after_append(&rt, pass, false);
-        assert!(rt; recovered(&rt, disk).count() == count, "after {pass} calls");
+    let last = append_calls(&rt).saturating_sub(1);
+    for pass in recovery_calls(&rt, EMPTY)..=last {
+        let count = recovered(&rt, disk_after_append(&rt, pass, false)).count();
+        assert!(rt; count == usize::from(pass == last), "after {pass} calls");
+    }
+}
+
+// Whether a recovery that fails behind `pass` calls answers `Device`, and one of the disk that it hands back, once
+// mended, finds "abc".
+fn fails_and_is_found<R: Abort + AllocGlobal>(rt: &R, pass: u32, forever: bool) -> bool {
+    let mut disk = disk_of(rt, ABC);
+    disk.fuse(pass, forever);
+    let Err((JournalError::Device, mut disk)) = Journal::recover(rt.alloc(), disk) else {
+        return false;
+    };
+    disk.fuse(u32::MAX, false);
+    disk.failures() == 1 && has_abc_alone(rt.alloc(), &mut recovered(rt, disk))
+}
+
+#[test]
+fn recover_with_each_call_failing(rt: HostRuntime) {
+    for pass in 0..recovery_calls(&rt, ABC) {
+        for forever in [false, true] {
+            assert!(rt; fails_and_is_found(&rt, pass, forever), "{pass} {forever}");
+        }
     }
 }
 
@@ -163,7 +213,7 @@ fn takes_one<D: Disk>(journal: &mut Journal<D>) -> bool {
 
 #[test]
 fn torn_gate_is_closed(rt: HostRuntime) {
-    let disk = crashed(&rt, &disk_after_append(&rt, 3, false), Choice::Fill(0x37));
+    let disk = crashed(&rt, &disk_without_last_call(&rt), Choice::Fill(0x37));
     assert!(rt; disk.bytes() == b"HSJ1\0\0\0\0\x37\0\0\0\x03abc\0".as_slice());
     assert!(rt; takes_one(&mut recovered(&rt, disk)));
 }
@@ -263,8 +313,7 @@ fn call_refusals(rt: HostRuntime) {
 fn a_failed_read_stops_nothing(rt: HostRuntime) {
     let alloc = rt.alloc();
     let mut disk = disk_of(&rt, ABC);
-    // `recover` makes six calls: sync, length, head, gate, length of the payload, gate
-    disk.fuse(6, false);
+    disk.fuse(recovery_calls(&rt, ABC), false);
     let mut journal = recovered(&rt, disk);
     assert!(rt; refuses(alloc, &mut journal, 0, JournalError::Device, b""));
     assert!(rt; !journal.stopped() && reads(alloc, &mut journal, 0, b"abc"));
