@@ -1,6 +1,6 @@
 //! Logs that are sent out. The log and its export are those of an independent program.
 
-use crate::log_tests::{add, append, failing_after, new_log};
+use crate::log_tests::{add, append, append_calls, failing_after, new_log};
 use fixtures::exports::nine_entries;
 use fixtures::log_entries;
 use stable_log::{Disk, MemoryDisk};
@@ -107,8 +107,7 @@ fn refuses<D: Disk>(alloc: Global, log: &mut VoteLog<D>, why: ExportError, sent:
 
 #[test]
 fn a_failing_read_stops_nothing(rt: HostRuntime) {
-    // `append` makes four calls
-    let mut log = failing_after(&rt, 4);
+    let mut log = failing_after(&rt, append_calls(&rt));
     add(&rt, &mut log, log_entries::a1_voted());
     assert!(rt; refuses(rt.alloc(), &mut log, ExportError::Device, b"HSL1"));
     assert!(rt; !log.stopped());

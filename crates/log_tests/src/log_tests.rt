@@ -35,11 +35,27 @@ pub(crate) fn new_log<R: Abort + AllocGlobal>(rt: &R) -> VoteLog<MemoryDisk> {
     created(rt, disk_of(rt, b""))
 }
 
-/// The same, on a disk that lets `pass` calls through after `create` and fails the next.
+// How many calls the disk answered, as a fuse counts them.
+fn calls_of(log: VoteLog<MemoryDisk>) -> u32 {
+    u32::try_from(log.into_disk().calls()).unwrap_or(u32::MAX)
+}
+
+// How many calls `create` makes.
+fn create_calls<R: Abort + AllocGlobal>(rt: &R) -> u32 {
+    calls_of(new_log(rt))
+}
+
+/// How many calls an append makes behind it.
+pub(crate) fn append_calls<R: Abort + AllocGlobal>(rt: &R) -> u32 {
+    let mut log = new_log(rt);
+    add(rt, &mut log, texts::a1_voted());
+    calls_of(log).saturating_sub(create_calls(rt))
+}
+
+/// The same log, on a disk that lets `pass` calls through after `create` and fails the next.
 pub(crate) fn failing_after<R: Abort + AllocGlobal>(rt: &R, pass: u32) -> VoteLog<MemoryDisk> {
     let mut disk = disk_of(rt, b"");
-    // `create` makes three calls: length, write, sync
-    disk.fuse(pass.saturating_add(3), false);
+    disk.fuse(pass.saturating_add(create_calls(rt)), false);
     created(rt, disk)
 }
 
@@ -131,6 +147,38 @@ fn entries_outlast_recovery(rt: HostRuntime) {
     let disk = log.into_disk();
     assert!(rt; are_both(rt.alloc(), disk.bytes()));
     assert!(rt; ends_with_a2(rt.alloc(), &mut recovered(&rt, disk)));
+}
+
+// The disk of a log of A1 and A2.
+fn disk_of_both<R: Abort + AllocGlobal>(rt: &R) -> MemoryDisk {
+    let pieces = [SHORT, texts::a1_voted(), LONG, texts::a2_voted()];
+    disk_of(rt, &file_of(rt.alloc(), &pieces).expect(rt, "memory"))
+}
+
+// Whether the disk failed just once, and both entries are found on it once it is mended.
+fn has_both<R: Abort + AllocGlobal>(rt: &R, disk: MemoryDisk) -> bool {
+    let mut disk = disk;
+    disk.fuse(u32::MAX, false);
+    disk.failures() == 1 && ends_with_a2(rt.alloc(), &mut recovered(rt, disk))
+}
+
+// Whether a recovery that fails behind `pass` calls answers `Device`, and one of the disk that it hands back finds both.
+fn fails_and_is_found<R: Abort + AllocGlobal>(rt: &R, pass: u32, forever: bool) -> bool {
+    let mut disk = disk_of_both(rt);
+    disk.fuse(pass, forever);
+    match VoteLog::recover(rt.alloc(), disk, genesis(rt)) {
+        Err((LogError::Device, disk)) => has_both(rt, disk),
+        _ => false,
+    }
+}
+
+#[test]
+fn recover_with_each_call_failing(rt: HostRuntime) {
+    for pass in 0..calls_of(recovered(&rt, disk_of_both(&rt))) {
+        for forever in [false, true] {
+            assert!(rt; fails_and_is_found(&rt, pass, forever), "{pass} {forever}");
+        }
+    }
 }
 
 // How recovery refuses a journal of these pieces.
