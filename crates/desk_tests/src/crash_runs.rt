@@ -60,53 +60,55 @@ impl Disks {
     }
 }
 
-// How many calls a disk answered, as a fuse counts them.
-fn calls_of(disk: &MemoryDisk) -> u32 {
-    u32::try_from(disk.calls()).unwrap_or(u32::MAX)
-}
-
-// How many calls a disk answered before the first vote of a new replica, and how many once that was released.
-fn calls_of_a_vote<R: Wait + Abort + AllocGlobal>(
+// A disk that holds nothing. It fails so, if it is this one.
+fn disk_with<R: Abort + AllocGlobal>(
     rt: &R,
-    tree: SigningTree,
     which: Failing,
-) -> (SigningTree, u32, u32) {
-    let (tree, made) = taken_out(parts_on(rt, tree, new_disk(rt), new_disk(rt)));
-    let parts = parts_on(rt, tree, new_disk(rt), new_disk(rt));
-    let closed = stay(rt, parts, &[Step::Votes(Block::OnGenesis(1), 0)]);
-    let (tree, voted) = taken_out(closed.parts);
-    (
-        tree,
-        calls_of(made.disk(which)),
-        calls_of(voted.disk(which)),
-    )
-}
-
-// A disk that fails so, if it is this one.
-fn failing_disk<R: Abort + AllocGlobal>(rt: &R, which: Failing, failure: Failure) -> MemoryDisk {
+    failure: Option<Failure>,
+) -> MemoryDisk {
     let mut disk = new_disk(rt);
-    if which == failure.of {
-        disk.fuse(failure.pass, failure.forever);
+    if let Some(failure) = failure {
+        if failure.of == which {
+            disk.fuse(failure.pass, failure.forever);
+        }
     }
     disk
 }
 
-// A new replica whose first delivery meets this failure: the next answers `Stopped`. What is left.
-fn failed<R: Wait + Abort + AllocGlobal>(
+// What a new replica leaves that takes these steps and meets this failure, if any.
+fn left_by<R: Wait + Abort + AllocGlobal>(
     rt: &R,
     tree: SigningTree,
-    failure: Failure,
+    failure: Option<Failure>,
+    steps: &[Step],
 ) -> (SigningTree, Disks) {
-    let index = failing_disk(rt, Failing::Index, failure);
-    let log = failing_disk(rt, Failing::Log, failure);
-    let steps = [
-        Step::Refuses(Block::OnGenesis(1), DeskError::Device),
-        Step::Refuses(Block::OnGenesis(2), DeskError::Stopped),
-        Step::IsStopped,
-    ];
-    let closed = stay(rt, parts_on(rt, tree, index, log), &steps);
+    let index = disk_with(rt, Failing::Index, failure);
+    let log = disk_with(rt, Failing::Log, failure);
+    let closed = stay(rt, parts_on(rt, tree, index, log), steps);
     taken_out(closed.parts)
 }
+
+// How many calls a disk of a new replica that takes these steps answers, as a fuse counts them.
+fn calls_in<R: Wait + Abort + AllocGlobal>(
+    rt: &R,
+    tree: SigningTree,
+    which: Failing,
+    steps: &[Step],
+) -> (SigningTree, u32) {
+    let (tree, disks) = left_by(rt, tree, None, steps);
+    let calls = disks.disk(which).calls();
+    (tree, u32::try_from(calls).unwrap_or(u32::MAX))
+}
+
+// The delivery whose failures are met.
+const VOTE: [Step; 1] = [Step::Votes(Block::OnGenesis(1), 0)];
+
+// The same where a disk fails in it, and a delivery behind it.
+const FAILED_VOTE: [Step; 3] = [
+    Step::Refuses(Block::OnGenesis(1), DeskError::Device),
+    Step::Refuses(Block::OnGenesis(2), DeskError::Stopped),
+    Step::IsStopped,
+];
 
 // What a crash leaves of both disks.
 fn crashed<R: Abort>(rt: &R, disks: &Disks, choice: Choice) -> Disks {
@@ -217,7 +219,7 @@ fn survives<R: Wait + Abort + AllocGlobal>(
     failure: Failure,
     least: u32,
 ) -> SigningTree {
-    let (mut tree, disks) = failed(rt, tree, failure);
+    let (mut tree, disks) = left_by(rt, tree, Some(failure), &FAILED_VOTE);
     for choice in CHOICES {
         let (again, index) = goes_on(rt, tree, &disks, choice);
         assert!(rt;
@@ -232,8 +234,9 @@ fn survives<R: Wait + Abort + AllocGlobal>(
 
 // A failure at each call that the delivery makes of this disk, once and from then on.
 fn survives_each<R: Wait + Abort + AllocGlobal>(rt: &R, of: Failing, least: u32) {
-    let (mut tree, made, voted) = calls_of_a_vote(rt, new_key(rt), of);
-    for pass in made..voted {
+    let (tree, before) = calls_in(rt, new_key(rt), of, &[]);
+    let (mut tree, behind) = calls_in(rt, tree, of, &VOTE);
+    for pass in before..behind {
         for forever in [false, true] {
             tree = survives(rt, tree, Failure { of, pass, forever }, least);
         }
