@@ -1,8 +1,7 @@
 //! What a replica does at its limits: 1,024 votes of a key, 4,096 entries of a log, and 65,536 headers.
 
 use crate::replicas::{
-    Block, Step, committee, new_disk, new_key, new_parts, new_store, on_genesis, recovered_log,
-    stay,
+    Block, Step, committee, found_on, new_disk, new_key, new_parts, new_store, on_genesis, stay,
 };
 use blocks::{CommitteeView, Header};
 use fixtures::certificates as texts;
@@ -24,15 +23,16 @@ fn gave_1024_votes(closed: &Closed<MemoryDisk>) -> bool {
         && has_left(&closed.parts, 1024, 0)
 }
 
+const SPENDING: [Step; 3] = [
+    Step::VotesForAll(1024),
+    Step::Refuses(Block::OnGenesis(1025), DeskError::KeySpent),
+    Step::Refuses(Block::OnGenesis(1025), DeskError::KeySpent),
+];
+
 // The key's 1,024 indices are given, and the next vote is refused, each time.
 #[test]
 fn key_is_spent_after_1024_votes(rt: HostRuntime) {
-    let spent = Step::Refuses(Block::OnGenesis(1025), DeskError::KeySpent);
-    let closed = stay(
-        &rt,
-        new_parts(&rt),
-        &[Step::VotesForAll(1024), spent, spent],
-    );
+    let closed = stay(&rt, new_parts(&rt), &SPENDING);
     assert!(rt; gave_1024_votes(&closed));
 }
 
@@ -58,36 +58,40 @@ fn full_log(alloc: Global, committee: &CommitteeView) -> Result<Vec<u8>, AllocEr
     Ok(bytes)
 }
 
+// A new replica but for its log, which is full.
 fn parts_with_a_full_log<R: Abort + AllocGlobal>(rt: &R) -> Parts<MemoryDisk> {
     let bytes = full_log(rt.alloc(), &committee(rt)).expect(rt, "memory");
     let disk = MemoryDisk::new(rt.alloc(), bytes).expect(rt, "memory");
-    let tree = new_key(rt);
-    let index = new_store(rt, new_disk(rt));
-    let log = recovered_log(rt, disk);
-    Parts { tree, index, log }
+    let index = new_store(rt, new_disk(rt)).into_disk();
+    found_on(rt, new_key(rt), index, disk)
 }
+
+const FULL_LOG: [Step; 3] = [
+    Step::Refuses(Block::OnGenesis(4097), DeskError::LogFull),
+    Step::Holds(Block::OnGenesis(1)),
+    Step::Refuses(Block::OnGenesis(4097), DeskError::LogFull),
+];
 
 // A full log refuses a vote, and no index is drawn for it; a block that is only held is not refused.
 #[test]
 fn log_is_full_at_4096_entries(rt: HostRuntime) {
-    let full = Step::Refuses(Block::OnGenesis(4097), DeskError::LogFull);
-    let held = Step::Holds(Block::OnGenesis(1));
-    let closed = stay(&rt, parts_with_a_full_log(&rt), &[full, held, full]);
+    let closed = stay(&rt, parts_with_a_full_log(&rt), &FULL_LOG);
     assert!(rt; has_left(&closed.parts, 4096, 1024));
 }
+
+const FULL_TREE: [Step; 4] = [
+    Step::TimesOut(100_000),
+    Step::HoldsAll(65_535),
+    Step::Refuses(
+        Block::OnGenesis(65_536),
+        DeskError::Core(CoreRefusal::TreeFull),
+    ),
+    Step::Holds(Block::OnGenesis(1)),
+];
 
 // Beside genesis 65,535 blocks are held. One more is refused, and one that is held is delivered again.
 #[test]
 fn tree_is_full_at_65536_headers(rt: HostRuntime) {
-    let steps = [
-        Step::TimesOut(100_000),
-        Step::HoldsAll(65_535),
-        Step::Refuses(
-            Block::OnGenesis(65_536),
-            DeskError::Core(CoreRefusal::TreeFull),
-        ),
-        Step::Holds(Block::OnGenesis(1)),
-    ];
-    let closed = stay(&rt, new_parts(&rt), &steps);
+    let closed = stay(&rt, new_parts(&rt), &FULL_TREE);
     assert!(rt; closed.parts.log.count() == 0);
 }

@@ -123,17 +123,49 @@ fn deliver_both<N: Naming + Send + Sync, R: Threads + Wait + AllocGlobal + Sync>
     )
 }
 
-// What the two calls were answered, and what is left.
-#[derive(Drop)]
-struct Outcomes {
+// What the two calls were answered, and whether one gave up waiting for the other.
+#[derive(Clone, Copy)]
+struct Replies {
     first: Option<Reply>,
     second: Option<Reply>,
     gave_up: bool,
+}
+
+// A1, and then the two blocks. Gives the sessions back.
+fn deliver_all<N: Naming + Send + Sync, R: Threads + Wait + AllocGlobal + Sync>(
+    rt: &R,
+    desk: &Desk<N, MemoryDisk>,
+    sessions: Vec<Session<N>>,
+    committee: &CommitteeView,
+    blocks: (Block, Block),
+) -> Option<(Vec<Session<N>>, Replies)>
+    requires { committee.now ≡ N.committee }
+{
+    let mut sessions = sessions;
+    let b = sessions.pop()?;
+    let a = sessions.pop()?;
+    let (a, _) = deliver(rt, &LmsVerifier, desk, a, committee, Block::A1);
+    let gate = Gate::new();
+    let ((a, first), (b, second)) = deliver_both(rt, &gate, desk, (a, b), committee, blocks);
+    sessions.push(a).ok()?;
+    sessions.push(b).ok()?;
+    let replies = Replies {
+        first,
+        second,
+        gave_up: gate.gave_up.load(Ordering::SeqCst),
+    };
+    Some((sessions, replies))
+}
+
+// What the two calls were answered, and what is left.
+#[derive(Drop)]
+struct Outcomes {
+    replies: Replies,
     receipts: usize,
     parts: Parts<MemoryDisk>,
 }
 
-// A1, and then the two blocks.
+// A desk that is opened, overlapped, and closed.
 fn overlaps<N: Naming + Send + Sync, R: Threads + Wait + AllocGlobal + Sync>(
     rt: &R,
     blank: Blank,
@@ -148,20 +180,11 @@ fn overlaps<N: Naming + Send + Sync, R: Threads + Wait + AllocGlobal + Sync>(
     requires opening { parts.log.steps ≡ N.opening }
 {
     let started = Desk::<N, MemoryDisk>::start(rt.alloc(), blank, committee, 0, parts, 2);
-    let (desk, mut sessions) = started.ok()?;
-    let b = sessions.pop()?;
-    let a = sessions.pop()?;
-    let (a, _) = deliver(rt, &LmsVerifier, &desk, a, committee, Block::A1);
-    let gate = Gate::new();
-    let ((a, first), (b, second)) = deliver_both(rt, &gate, &desk, (a, b), committee, blocks);
-    sessions.push(a).ok()?;
-    sessions.push(b).ok()?;
-    let gave_up = gate.gave_up.load(Ordering::SeqCst);
+    let (desk, sessions) = started.ok()?;
+    let (sessions, replies) = deliver_all(rt, &desk, sessions, committee, blocks)?;
     let closed = desk.close(rt.alloc(), sessions).ok()?;
     Some(Outcomes {
-        first,
-        second,
-        gave_up,
+        replies,
         receipts: closed.receipts.len(),
         parts: closed.parts,
     })
@@ -195,21 +218,21 @@ fn is_held(reply: &Option<Reply>) -> bool {
     }
 }
 
-// Whether both blocks were voted for, the second before the first, and the desk gave three receipts.
-fn voted_for_both(done: &Outcomes) -> bool {
-    !done.gave_up && is_vote(&done.first, 2) && is_vote(&done.second, 1) && done.receipts == 3
+// Whether both blocks were voted for, the second before the first.
+fn are_votes(replies: &Replies) -> bool {
+    !replies.gave_up && is_vote(&replies.first, 2) && is_vote(&replies.second, 1)
 }
 
-// Whether the second block was voted for and the first one held, and the desk gave two receipts.
-fn voted_for_second(done: &Outcomes) -> bool {
-    !done.gave_up && is_held(&done.first) && is_vote(&done.second, 1) && done.receipts == 2
+// Whether the second block was voted for, and the first one held.
+fn is_overtaken(replies: &Replies) -> bool {
+    !replies.gave_up && is_held(&replies.first) && is_vote(&replies.second, 1)
 }
 
 // The call of the higher view is answered last: both are voted for.
 #[test]
 fn parallel_calls_overlap(rt: HostRuntime) {
     let done = overlapped(&rt, (Block::X9, Block::X8));
-    assert!(rt; voted_for_both(&done));
+    assert!(rt; are_votes(&done.replies) && done.receipts == 3);
     restarted(&rt, done.parts, LOG_OF_X8_AND_X9);
 }
 
@@ -217,6 +240,6 @@ fn parallel_calls_overlap(rt: HostRuntime) {
 #[test]
 fn later_call_overtakes(rt: HostRuntime) {
     let done = overlapped(&rt, (Block::X8, Block::X9));
-    assert!(rt; voted_for_second(&done));
+    assert!(rt; is_overtaken(&done.replies) && done.receipts == 2);
     restarted(&rt, done.parts, LOG_OF_X9);
 }

@@ -195,11 +195,8 @@ pub(crate) fn new_parts<R: Abort + AllocGlobal>(rt: &R) -> Parts<MemoryDisk> {
     parts_on(rt, new_key(rt), new_disk(rt), new_disk(rt))
 }
 
-/// The log that a disk holds.
-pub(crate) fn recovered_log<R: Abort + AllocGlobal>(
-    rt: &R,
-    disk: MemoryDisk,
-) -> VoteLog<MemoryDisk> {
+// The log that a disk holds.
+fn recovered_log<R: Abort + AllocGlobal>(rt: &R, disk: MemoryDisk) -> VoteLog<MemoryDisk> {
     let log = VoteLog::recover(rt.alloc(), disk, committee(rt).genesis()).ok();
     log.expect(rt, "a log that is found again")
 }
