@@ -1,0 +1,86 @@
+//! The line that answers each outcome. The expected lines follow from docs/FORMATS.md and docs/REFUSALS.md.
+
+use crate::stored::voted_line;
+use blocks::HeaderRefusal;
+use certificates::{BlockRefusal, CertificateRefusal, SignedVote};
+use replica_core::CoreRefusal;
+use replica_lines::{Outcome, write_outcome};
+use std::alloc::Global;
+use std::test::Fail;
+use streams::MemorySink;
+use vote_desk::{Answer, DeskError, Receipt, Reply};
+use wire::{array_at, u16_at, u64_at};
+
+fn writes(alloc: Global, outcome: &Outcome, want: &str) -> bool {
+    let mut out = MemorySink::new(alloc);
+    write_outcome(&mut out, outcome) == Ok(()) && out.bytes() == want.as_bytes()
+}
+
+#[test]
+fn short_lines_are_these(rt: HostRuntime) {
+    for (outcome, want) in [
+        (Outcome::TimedOut(9), "timeout 9\n"),
+        (
+            Outcome::RefusedHeader(HeaderRefusal::ViewOrder),
+            "refused header 3\n",
+        ),
+        (
+            Outcome::RefusedCertificate(CertificateRefusal::Count),
+            "refused certificate 4\n",
+        ),
+        (
+            Outcome::RefusedBlock(BlockRefusal::Signature(2)),
+            "refused block 4\n",
+        ),
+        (
+            Outcome::RefusedByDesk(DeskError::Core(CoreRefusal::UnknownParent)),
+            "refused core 2\n",
+        ),
+        (Outcome::RefusedByDesk(DeskError::KeySpent), "desk 3\n"),
+        (Outcome::RefusedByDesk(DeskError::Stopped), "desk 6\n"),
+        (Outcome::BadLine, "bad line\n"),
+    ] {
+        assert!(rt; writes(rt.alloc(), &outcome, want), "{want}");
+    }
+}
+
+#[test]
+fn replies_without_a_vote_are_these(rt: HostRuntime) {
+    let id = [0xab; 32];
+    for (act, committed, want) in [
+        (Answer::Raised, None, "raised\n"),
+        (Answer::Held, None, "held\n"),
+        (
+            Answer::Held,
+            Some(id),
+            "held committed abababababababababababababababababababababababababababababababab\n",
+        ),
+    ] {
+        let outcome = Outcome::Replied(Reply { act, committed });
+        assert!(rt; writes(rt.alloc(), &outcome, want), "{want}");
+    }
+}
+
+#[test]
+fn a_vote_is_written_with_all_its_bytes(rt: HostRuntime) -> Result<(), Fail> {
+    let line = voted_line();
+    let digits = line.get(8..2996).ok_or("the vote")?;
+    let vote = hex::decode(rt.alloc(), digits)?;
+    let digits = line.get(3007..3071).ok_or("the id")?;
+    let id = hex::decode(rt.alloc(), digits)?;
+    assert!(rt; vote.len() == 1494 && id.len() == 32);
+    let outcome = Outcome::Replied(Reply {
+        act: Answer::Voted(Receipt {
+            number: 3,
+            vote: SignedVote {
+                replica: u16_at(&vote, 0),
+                view: u64_at(&vote, 2),
+                id: array_at(&vote, 10),
+                signature: array_at(&vote, 42),
+            },
+        }),
+        committed: Some(array_at(&id, 0)),
+    });
+    assert!(rt; writes(rt.alloc(), &outcome, line));
+    Ok(())
+}
