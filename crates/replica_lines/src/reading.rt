@@ -1,10 +1,18 @@
 //! Lines that are read from a feed.
 
+ghost use Rattle.std.specs.Prelude.{◌≡◌, ◌<◌, ◌≤◌, ◌+◌, ◌-◌, ◌^◌, ◌⊎◌, ◌↔◌, ◌++◌, ◌∷◌, [], ℕ, List, IfNone, IfOk, IfSome, IsTrue, OnErr, OnOk, length};
+ghost use Rattle.std.specs.List.{Contains};
+ghost use Rattle.faults.specs.Counting.{one_more};
+ghost use Rattle.replica_lines.specs.Intakes.{AddsRequestOf, IsTakenIn, held};
+ghost use Rattle.replica_lines.specs.LineReading.{AreOfText, IsLine, IsWhatWasRead};
+ghost use Rattle.replica_lines.specs.Requests.{IsRequestOf};
+
 use crate::request::{Request, request_of};
 use std::alloc::{AllocError, Global};
+use std::marker::Model;
 use streams::Feed;
 
-/// How many lines are read at most. What lies behind them is not read.
+/// How many lines are read at most. What lies behind them is not acted upon.
 pub const MOST_LINES: usize = 65_536;
 
 /// How long a line may be, in bytes, without its line feed.
@@ -17,20 +25,28 @@ const PIECE_LEN: usize = 4096;
 /// an empty rest behind the last line feed is no line. A line longer than 131,072 bytes is skipped, without being held
 /// whole, and is a bad line. A failed read ends the lines: those before it that have their line feed count, and a line
 /// that has none is dropped, since the failure may have cut it. An error is want of memory.
-pub fn read_requests<R: Feed>(alloc: Global, lines: &mut R) -> Result<Vec<Request>, AllocError> {
+pub fn read_requests<R: Feed>(alloc: Global, lines: &mut R) -> Result<Vec<Request>, AllocError>
+    // Of a feed that tells what it has left, if that is not more than can be counted.
+    ensures ok { IfOk result (λ requests. IfSome (R.rest lines.old) (λ text. length text < 2 ^ 64 - 1 →
+        IsWhatWasRead text (R.rest lines.new) (R.failed lines.old) (R.failed lines.new) requests.items)) }
+
+    // Of any feed.
+    ensures most { IfOk result (λ requests. length requests.items ≤ MOST_LINES) }
+    ensures counted { OnOk result ((R.failed lines.new ≡ R.failed lines.old) ⊎ (R.failed lines.new ≡ one_more (R.failed lines.old))) }
+    ensures err { OnErr result (R.failed lines.new ≡ R.failed lines.old) }
+{
     let mut intake = Intake::new(alloc);
     let mut buffer = [0; PIECE_LEN];
-    for _ in 0..u64::MAX {
+    'reads: for _ in 0..u64::MAX {
         let Ok(n) = lines.read(&mut buffer) else {
-            break;
+            return Ok(intake.requests);
         };
         if n == 0 {
-            intake.end(alloc)?;
-            break;
+            return intake.finish(alloc);
         }
         intake.take(alloc, &buffer[..n])?;
         if intake.is_full() {
-            break;
+            return Ok(intake.requests);
         }
     }
     Ok(intake.requests)
@@ -44,40 +60,62 @@ struct Intake {
 }
 
 impl Intake {
-    fn new(alloc: Global) -> Intake {
+    fn new(alloc: Global) -> Intake
+        ensures requests { result.requests.items ≡ [] }
+        ensures line { result.line ≡ held [] }
+    {
         Intake {
             requests: Vec::new(alloc),
             line: OpenLine::new(alloc),
         }
     }
 
-    fn is_full(&self) -> bool {
+    fn is_full(&self) -> bool
+        ensures { IsTrue result ↔ (length self.now.requests.items ≡ MOST_LINES) }
+    {
         self.requests.len() == MOST_LINES
     }
 
-    // Takes in what was read, up to the last line.
-    fn take(&mut self, alloc: Global, piece: &[u8]) -> Result<(), AllocError> {
+    // Takes in what was read next, up to the last line.
+    fn take(&mut self, alloc: Global, piece: &[u8]) -> Result<(), AllocError>
+        requires { length self.old.requests.items < MOST_LINES }
+        ensures ok { OnOk result ((text : List ℕ) → IsTakenIn text self.old.requests.items self.old.line →
+            IsTakenIn (text ++ piece.now) self.new.requests.items self.new.line) }
+        ensures most { length self.new.requests.items ≤ MOST_LINES }
+    {
         let mut rest = piece;
-        while let Some(at) = rest.iter().position(|byte| *byte == b'\n') {
-            self.line.add(&rest[..at])?;
+        while let Some((front, behind)) = cut(rest) {
+            self.line.add(front)?;
             self.end_line(alloc)?;
             if self.is_full() {
                 return Ok(());
             }
-            rest = &rest[at + 1..];
+            rest = behind;
         }
         self.line.add(rest)
     }
 
-    // Ends the last line, if there is one without a line feed.
-    fn end(&mut self, alloc: Global) -> Result<(), AllocError> {
-        if self.line.is_empty() {
-            return Ok(());
+    // The requests of the whole text, of which the last line may lack its line feed.
+    fn finish(self, alloc: Global) -> Result<Vec<Request>, AllocError>
+        requires { length self.requests.items < MOST_LINES }
+        ensures ok { IfOk result (λ requests. (text : List ℕ) → IsTakenIn text self.requests.items self.line →
+            AreOfText text requests.items) }
+        ensures most { IfOk result (λ requests. length requests.items ≤ MOST_LINES) }
+    {
+        let mut intake = self;
+        if !intake.line.is_empty() {
+            intake.end_line(alloc)?;
         }
-        self.end_line(alloc)
+        Ok(intake.requests)
     }
 
-    fn end_line(&mut self, alloc: Global) -> Result<(), AllocError> {
+    fn end_line(&mut self, alloc: Global) -> Result<(), AllocError>
+        ensures added { OnOk result ((line : List ℕ) → self.old.line ≡ held line →
+            AddsRequestOf line self.old.requests.items self.new.requests.items) }
+        ensures count { OnOk result (length self.new.requests.items ≡ length self.old.requests.items + 1) }
+        ensures kept { OnErr result (self.new.requests.items ≡ self.old.requests.items) }
+        ensures next { OnOk result (self.new.line ≡ held []) }
+    {
         let request = self.line.request(alloc)?;
         self.requests.push(request)?;
         self.line.clear();
@@ -85,28 +123,56 @@ impl Intake {
     }
 }
 
-// The first bytes of a line, and whether it has more than are held.
+// What stands before the first line feed, and what stands behind it.
+fn cut(text: &[u8]) -> Option<(&[u8], &[u8])>
+    ensures none { IfNone result (IsLine text.now) }
+    ensures some { IfSome result (λ parts. (text.now ≡ parts.0.now ++ 10 ∷ parts.1.now) × IsLine parts.0.now) }
+{
+    let at = text.iter().position(|byte| *byte == b'\n')?;
+    Some((&text[..at], &text[at + 1..]))
+}
+
+// A line that has not ended: its first bytes, and whether it has more than there is room for.
 #[derive(Drop)]
 struct OpenLine {
     bytes: Vec<u8>,
     is_too_long: bool,
 }
 
+impl Model for OpenLine {
+    ghost use Rattle.std.specs.Prelude.{◌≤◌, length};
+    ghost use Rattle.replica_lines.specs.Intakes.{HeldLine};
+
+    ghost Value = { HeldLine };
+
+    ghost view = { λ l. record { bytes = l.bytes.items; is_too_long = l.is_too_long } };
+
+    ghost invariant = { λ l. length l.bytes.items ≤ 131072 };
+}
+
 impl OpenLine {
-    fn new(alloc: Global) -> OpenLine {
+    #[tactic(auto, unfolding(crate::specs::Intakes::held))]
+    fn new(alloc: Global) -> OpenLine
+        ensures { result ≡ held [] }
+    {
         OpenLine {
             bytes: Vec::new(alloc),
             is_too_long: false,
         }
     }
 
-    fn is_empty(&self) -> bool {
+    #[tactic(auto, unfolding(crate::specs::Intakes::held))]
+    fn is_empty(&self) -> bool
+        ensures { (line : List ℕ) → self.now ≡ held line → IsTrue result ↔ (line ≡ []) }
+    {
         self.bytes.is_empty()
     }
 
     // Adds bytes at the end of the line, and holds those for which there is room.
-    fn add(&mut self, piece: &[u8]) -> Result<(), AllocError> {
-        let n = piece.len().min(LONGEST_LINE - self.bytes.len());
+    fn add(&mut self, piece: &[u8]) -> Result<(), AllocError>
+        ensures { OnOk result ((line : List ℕ) → self.old ≡ held line → self.new ≡ held (line ++ piece.now)) }
+    {
+        let n = (LONGEST_LINE - self.bytes.len()).min(piece.len());
         self.bytes.extend_from_slice(&piece[..n])?;
         if n < piece.len() {
             self.is_too_long = true;
@@ -114,14 +180,19 @@ impl OpenLine {
         Ok(())
     }
 
-    fn request(&self, alloc: Global) -> Result<Request, AllocError> {
+    fn request(&self, alloc: Global) -> Result<Request, AllocError>
+        ensures { IfOk result (λ request. (line : List ℕ) → self.now ≡ held line → IsRequestOf line request) }
+    {
         if self.is_too_long {
             return Ok(Request::BadLine);
         }
         request_of(alloc, &self.bytes)
     }
 
-    fn clear(&mut self) {
+    #[tactic(auto, unfolding(crate::specs::Intakes::held))]
+    fn clear(&mut self)
+        ensures { self.new ≡ held [] }
+    {
         self.bytes.clear();
         self.is_too_long = false;
     }

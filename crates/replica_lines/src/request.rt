@@ -1,5 +1,8 @@
 //! What a line asks for.
 
+ghost use Rattle.std.specs.Prelude.{◌≡◌, ◌≢◌, ◌<◌, ◌^◌, ◌++◌, ℕ, List, IfNone, IfOk, IfSome, MatchOption, decimal};
+ghost use Rattle.replica_lines.specs.Requests.{AsksFor, IsOfBlock, IsOfDigits};
+
 use blocks::{HEADER_LEN, Header, HeaderRefusal};
 use certificates::{Certificate, CertificateRefusal};
 use hex::FromHexError;
@@ -23,17 +26,31 @@ pub enum Request {
 }
 
 // What a line asks for, without its line feed.
-pub(crate) fn request_of(alloc: Global, line: &[u8]) -> Result<Request, AllocError> {
-    if let Some(digits) = line.strip_prefix(b"block ") {
+pub(crate) fn request_of(alloc: Global, line: &[u8]) -> Result<Request, AllocError>
+    ensures { IfOk result (λ request. AsksFor line.now request) }
+{
+    if let Some(digits) = behind(line, b"block ") {
         return block_request(alloc, digits);
     }
-    if let Some(digits) = line.strip_prefix(b"timeout ") {
-        return Ok(timeout_request(digits));
+    let Some(digits) = behind(line, b"timeout ") else {
+        return Ok(Request::BadLine);
+    };
+    match number_in(digits) {
+        Some(view) => Ok(Request::Timeout(view)),
+        None => Ok(Request::BadLine),
     }
-    Ok(Request::BadLine)
 }
 
-fn block_request(alloc: Global, digits: &[u8]) -> Result<Request, AllocError> {
+// What stands behind the word that the line begins with.
+fn behind<'a>(line: &'a [u8], word: &[u8]) -> Option<&'a [u8]>
+    ensures { MatchOption result ((rest : List ℕ) → line.now ≢ word.now ++ rest) (λ rest. line.now ≡ word.now ++ rest.now) }
+{
+    line.strip_prefix(word)
+}
+
+fn block_request(alloc: Global, digits: &[u8]) -> Result<Request, AllocError>
+    ensures { IfOk result (λ request. IsOfDigits digits.now request) }
+{
     match hex::decode(alloc, digits) {
         Ok(bytes) => block_in(alloc, &bytes),
         Err(FromHexError::OutOfMemory) => Err(AllocError),
@@ -42,30 +59,41 @@ fn block_request(alloc: Global, digits: &[u8]) -> Result<Request, AllocError> {
 }
 
 // The header and the certificate that the bytes spell, one behind the other.
-fn block_in(alloc: Global, bytes: &[u8]) -> Result<Request, AllocError> {
-    let (head, rest) = bytes.split_at(bytes.len().min(HEADER_LEN));
+fn block_in(alloc: Global, bytes: &[u8]) -> Result<Request, AllocError>
+    ensures { IfOk result (λ request. IsOfBlock bytes.now request) }
+{
+    let (head, rest) = bytes.split_at(HEADER_LEN.min(bytes.len()));
     let header = match Header::from_bytes(head) {
         Ok(header) => header,
         Err(refusal) => return Ok(Request::RefusedHeader(refusal)),
     };
     match Certificate::read(alloc, rest) {
         Ok(certificate) => Ok(Request::Block(header, certificate)),
-        Err(CertificateRefusal::Memory) => Err(AllocError),
-        Err(refusal) => Ok(Request::RefusedCertificate(refusal)),
+        Err(refusal) => refused_certificate(refusal),
     }
 }
 
-fn timeout_request(digits: &[u8]) -> Request {
-    match number_in(digits) {
-        Some(view) => Request::Timeout(view),
-        None => Request::BadLine,
+// The refusal, unless it is for want of memory.
+fn refused_certificate(refusal: CertificateRefusal) -> Result<Request, AllocError>
+    ensures { IfOk result (λ request. (request ≡ Request.RefusedCertificate refusal) × (refusal ≢ CertificateRefusal.Memory)) }
+{
+    match refusal {
+        CertificateRefusal::Memory => Err(AllocError),
+        _ => Ok(Request::RefusedCertificate(refusal)),
     }
 }
 
-// The number that is printed so.
-fn number_in(digits: &[u8]) -> Option<u64> {
-    let text = from_utf8(digits).ok()?;
-    let number = text.parse::<u64>().ok()?;
+// The number of 64 bits that is printed so.
+fn number_in(digits: &[u8]) -> Option<u64>
+    ensures some { IfSome result (λ number. digits.now ≡ decimal number) }
+    ensures none { IfNone result ((number : ℕ) → number < 2 ^ 64 → digits.now ≡ decimal number → ⊥) }
+{
+    let Ok(text) = from_utf8(digits) else {
+        return None;
+    };
+    let Ok(number) = text.parse::<u64>() else {
+        return None;
+    };
     if Buffer::new().format(number) != text {
         return None;
     }

@@ -1,0 +1,4 @@
+pub mod Requests
+pub mod LineReading
+pub mod Intakes
+pub mod OutcomeLines
