@@ -1,5 +1,5 @@
 -- Bytes that are added to a line that is held.
-use Rattle.std.proofs.Common.{◌≡◌, ◌+◌, ◌-◌, ◌<◌, ◌≤◌, ℕ, List, ◌++◌, [], ◌∷◌, Bool, true, length, take, min, nat_lt, refl, sym, ap, ◌∙◌, inl, inr, arith}
+use Rattle.std.proofs.Common.{◌≡◌, ◌+◌, ◌-◌, ◌<◌, ◌≤◌, ℕ, List, ◌++◌, [], ◌∷◌, Bool, true, length, take, min, nat_lt, refl, subst, sym, ap, ◌∙◌, inl, inr, arith}
 use Rattle.std.proofs.lemmas.Bool.{cases_lt}
 use Rattle.std.proofs.lemmas.Bool.Decides.{nat_tests}
 use Rattle.std.proofs.lemmas.List.{append-nil, length-append, length-take, take_all, take_min, take-append-le}
@@ -45,6 +45,30 @@ pub empty_if_none_held : (most : ℕ) (line : List ℕ) → 0 < most → length 
 empty_if_none_held most [] some none = refl
 empty_if_none_held most (x ∷ line) some none = absurd (omega (arith, length-take most (x ∷ line)))
 
-pub same_held : (bytes bytes' : List ℕ) (flag flag' : Bool) → bytes ≡ bytes' → flag ≡ flag'
+-- ---- what is held behind an addition, from what was held of the line
+
+-- of bytes some of which have no room
+pub held_past : (most : ℕ) (line piece bytes bytes' : List ℕ) (n : ℕ) → bytes ≡ take most line → n ≡ min (most - length bytes) (length piece)
+    → bytes' ≡ bytes ++ take n piece → n < length piece
+    → (bytes' ≡ take most (line ++ piece)) × (true ≡ nat_lt most (length (line ++ piece)))
+held_past most line piece bytes bytes' n held count added less =
+    let count' = count ∙ ap (λ (b : List ℕ). min (most - length b) (length piece)) held in
+    let some = subst (λ (k : ℕ). k < length piece) count' less in (
+      added ∙ ap (λ (b : List ℕ). b ++ take n piece) held ∙ ap (λ (k : ℕ). take most line ++ take k piece) count' ∙ room most line piece,
+      past most line piece some,
+    )
+
+-- of bytes that have room
+pub held_within : (most : ℕ) (line piece bytes bytes' : List ℕ) (flag : Bool) (n : ℕ) → bytes ≡ take most line → flag ≡ nat_lt most (length line)
+    → n ≡ min (most - length bytes) (length piece) → bytes' ≡ bytes ++ take n piece → length piece ≤ n
+    → (bytes' ≡ take most (line ++ piece)) × (flag ≡ nat_lt most (length (line ++ piece)))
+held_within most line piece bytes bytes' flag n held flags count added all =
+    let count' = count ∙ ap (λ (b : List ℕ). min (most - length b) (length piece)) held in
+    let each = subst (λ (k : ℕ). length piece ≤ k) count' all in (
+      added ∙ ap (λ (b : List ℕ). b ++ take n piece) held ∙ ap (λ (k : ℕ). take most line ++ take k piece) count' ∙ room most line piece,
+      flags ∙ within most line piece each,
+    )
+
+pub same_held : (bytes bytes' : List ℕ) (flag flag' : Bool) → (bytes ≡ bytes') × (flag ≡ flag')
     → record { bytes = bytes; is_too_long = flag } ≡ (let h : HeldLine = record { bytes = bytes'; is_too_long = flag' } in h)
-same_held bytes bytes' flag flag' a b = cc
+same_held bytes bytes' flag flag' (a, b) = cc

@@ -1,3 +1,4 @@
 pub mod Asking
 pub mod Holding
 pub mod Taking
+pub mod Giving

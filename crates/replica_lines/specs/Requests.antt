@@ -1,5 +1,5 @@
 -- What a line asks for.
-use Rattle.std.specs.Prelude.{◌≡◌, ◌<◌, ◌≤◌, ◌⊎◌, ◌^◌, ◌++◌, ℕ, List, Result, Ok, Err, codes, decimal, length, take, drop, MatchResult}
+use Rattle.std.specs.Prelude.{◌≡◌, ◌<◌, ◌≤◌, ◌⊎◌, ◌^◌, ◌++◌, ℕ, List, Ok, Err, codes, decimal, length, take, drop, MatchResult}
 use Rattle.hex.specs.Hex.{decode_of}
 use Rattle.blocks.specs.HeaderReading.{header_in}
 use Rattle.blocks.specs.Headers.{Header}

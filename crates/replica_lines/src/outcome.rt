@@ -64,9 +64,7 @@ fn write_desk_error<W: Sink>(out: &mut W, error: DeskError) -> Result<(), Fault>
     ensures counted { Counts (W.failed out.old) (W.failed out.new) result }
 {
     match error {
-        DeskError::Core(refusal) => {
-            write_numbered(out, b"refused core ", refusal.number())
-        }
+        DeskError::Core(refusal) => { write_numbered(out, b"refused core ", refusal.number()) }
         _ => write_numbered(out, b"desk ", error.number()),
     }
 }

@@ -103,9 +103,10 @@ impl Intake {
         ensures most { IfOk result (λ requests. length requests.items ≤ MOST_LINES) }
     {
         let mut intake = self;
-        if !intake.line.is_empty() {
-            intake.end_line(alloc)?;
+        if intake.line.is_empty() {
+            return Ok(intake.requests);
         }
+        intake.end_line(alloc)?;
         Ok(intake.requests)
     }
 

@@ -1,4 +1,4 @@
-use Rattle.std.proofs.Common.{◌++◌, codes, List, ℕ, subst}
+use Rattle.std.proofs.Common.{codes, List, ℕ, subst}
 use Rattle.streams.specs.Streams.{Wrote, WrotePart}
 use Rattle.streams.proofs.Writing.{wrote_both}
 use Rattle.hex.specs.Hex.{encode_lower}

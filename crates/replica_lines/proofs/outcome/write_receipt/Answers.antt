@@ -1,4 +1,4 @@
-use Rattle.std.proofs.Common.{◌≡◌, ◌∙◌, ◌++◌, List, ℕ, codes, decimal, rules, subst}
+use Rattle.std.proofs.Common.{◌≡◌, ◌++◌, List, ℕ, codes, decimal, rules, subst}
 use Rattle.streams.specs.Streams.{Wrote, WrotePart}
 use Rattle.hex.specs.Hex.{encode_lower}
 use Rattle.certificates.specs.Votes.{vote_text}

@@ -1,7 +1,7 @@
-use Rattle.std.proofs.Common.{◌≡◌, ◌<◌, ◌≤◌, ◌-◌, ◌∙◌, ◌++◌, List, ℕ, ap, arith, length, min, sym, take}
+use Rattle.std.proofs.Common.{◌≡◌, ◌-◌, ◌∙◌, ℕ, ap, arith, length, min}
 use Rattle.replica_lines.specs.Intakes.{HeldLine, held}
 use Rattle.replica_lines.specs.declared.reading.TheConstants.{LONGEST_LINE}
-use Rattle.replica_lines.proofs.Holding.{past, room, same_held, within}
+use Rattle.replica_lines.proofs.Holding.{held_past, held_within, same_held}
 use Rattle.replica_lines.proofs.reading.OpenLine.add.Goals as goal
 
 pub returns-then-n-piece : goal.returns-then-n-piece
@@ -9,13 +9,18 @@ unfolding held
 returns-then-n-piece c line is =
     let piece = c.args.piece.now in
     let bytes = ap (λ (h : HeldLine). h.bytes) (c.self.view_is ∙ is) in
-    let count : length c.self.inside.bytes.items ≡ length (take LONGEST_LINE line) = ap (λ (b : List ℕ). length b) bytes in
-    let n : c.min-n.result ≡ min (LONGEST_LINE - length (take LONGEST_LINE line)) (length piece) = ? in
-    let all : c.extend_from_slice.new.self.items ≡ take LONGEST_LINE line ++ take c.min-n.result piece = ? in
-    same_held _ _ _ _ (all ∙ ap (λ (k : ℕ). take LONGEST_LINE line ++ take k piece) n ∙ room LONGEST_LINE line piece)
-    (past LONGEST_LINE line piece ?)
+    let len : c.len.result ≡ length c.self.inside.bytes.items = grind arith in
+    let n = c.min-n.ensures ∙ ap (λ (k : ℕ). min (LONGEST_LINE - k) (length piece)) len in
+    same_held _ _ _ _ (held_past LONGEST_LINE line piece c.self.inside.bytes.items c.extend_from_slice.new.self.items c.min-n.result bytes n
+    c.in_ok-extend_from_slice.ensures.items c.if-n-piece.true)
 
 pub returns-else-n-piece : goal.returns-else-n-piece
 unfolding held
 returns-else-n-piece c line is =
-    ?
+    let piece = c.args.piece.now in
+    let bytes = ap (λ (h : HeldLine). h.bytes) (c.self.view_is ∙ is) in
+    let flag = ap (λ (h : HeldLine). h.is_too_long) (c.self.view_is ∙ is) in
+    let len : c.len.result ≡ length c.self.inside.bytes.items = grind arith in
+    let n = c.min-n.ensures ∙ ap (λ (k : ℕ). min (LONGEST_LINE - k) (length piece)) len in
+    same_held _ _ _ _ (held_within LONGEST_LINE line piece c.self.inside.bytes.items c.extend_from_slice.new.self.items c.self.inside.is_too_long c.min-n.result bytes flag n
+    c.in_ok-extend_from_slice.ensures.items c.if-n-piece.false)

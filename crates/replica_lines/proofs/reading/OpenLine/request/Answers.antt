@@ -1,4 +1,4 @@
-use Rattle.std.proofs.Common.{◌≡◌, ◌≤◌, ◌<◌, ◌∙◌, List, ℕ, ap, arith, inl, inr, length, nat_lt, refl, subst, sym, take, true, false}
+use Rattle.std.proofs.Common.{◌≡◌, ◌≤◌, ◌<◌, ◌∙◌, List, ℕ, ap, arith, inl, inr, length, nat_lt, refl, subst, sym, true, false}
 use Rattle.std.proofs.lemmas.Bool.Decides.{nat_tests}
 use Rattle.std.proofs.lemmas.List.{take_all}
 use Rattle.std.proofs.lemmas.Result.{IfOk-weaker}
@@ -18,7 +18,7 @@ pub returns : goal.returns
 unfolding held
 returns c =
     IfOk-weaker c.request_of.result _ _ (λ request asks line is.
-      let flag : false ≡ nat_lt LONGEST_LINE (length line) = sym c.if-self.false ∙ ap (λ (h : HeldLine). h.is_too_long) (c.self.view_is ∙ is) in
-      let short : length line ≤ LONGEST_LINE = grind (arith, nat_tests) in
-      let bytes = c.deref.ensures.value ∙ ap (λ (h : HeldLine). h.bytes) (c.self.view_is ∙ is) ∙ take_all LONGEST_LINE line short in
-      inl (short, subst (λ (l : List ℕ). AsksFor l request) bytes asks)) c.request_of.ensures
+    let flag : false ≡ nat_lt LONGEST_LINE (length line) = sym c.if-self.false ∙ ap (λ (h : HeldLine). h.is_too_long) (c.self.view_is ∙ is) in
+    let short : length line ≤ LONGEST_LINE = grind (arith, nat_tests) in
+    let bytes = c.deref.ensures.value ∙ ap (λ (h : HeldLine). h.bytes) (c.self.view_is ∙ is) ∙ take_all LONGEST_LINE line short in
+    inl (short, subst (λ (l : List ℕ). AsksFor l request) bytes asks)) c.request_of.ensures
