@@ -5,7 +5,7 @@ use replica_lines::{LONGEST_LINE, MOST_LINES, Request, read_requests};
 use std::alloc::{AllocError, Global};
 use std::process::Abort;
 use std::test::Fail;
-use streams::MemoryFeed;
+use streams::{Feed, MemoryFeed};
 
 // A request in a word or two.
 fn described(alloc: Global, request: &Request) -> Result<String, AllocError> {
@@ -76,6 +76,67 @@ fn each_form_of_a_line_is_told(rt: HostRuntime) -> Result<(), Fail> {
     ] {
         let is_so = asks(alloc, line, want)?;
         assert!(rt; is_so, "{line}");
+    }
+    Ok(())
+}
+
+// Zeros behind "block ", so that the line has this length.
+fn long_line(alloc: Global, length: usize) -> Result<Vec<u8>, AllocError> {
+    let mut line = b"block ".to_vec(alloc)?;
+    for _ in line.len()..length {
+        line.push(b'0')?;
+    }
+    Ok(line)
+}
+
+#[test]
+fn a_line_is_read_up_to_its_limit(rt: HostRuntime) -> Result<(), Fail> {
+    let alloc = rt.alloc();
+    for (length, want) in [
+        // No header begins with zeros.
+        (LONGEST_LINE, "header 2"),
+        (LONGEST_LINE + 1, "bad line"),
+        (LONGEST_LINE + 2, "bad line"),
+    ] {
+        let mut text = long_line(alloc, length)?;
+        text.extend_from_slice(b"\ntimeout 7")?;
+        let requests = read_requests(alloc, &mut MemoryFeed::new(text))?;
+        let [long, short] = requests.as_slice() else {
+            return Err("not two lines".into());
+        };
+        assert!(rt; described(alloc, long)?.as_str() == want, "{length}");
+        assert!(rt; described(alloc, short)?.as_str() == "timeout 7", "{length}");
+    }
+    Ok(())
+}
+
+#[test]
+fn lines_are_read_up_to_their_limit(rt: HostRuntime) -> Result<(), Fail> {
+    for (count, want) in [(MOST_LINES, MOST_LINES), (MOST_LINES + 1, MOST_LINES)] {
+        let text = vec![in rt.alloc(); b'\n'; count]?;
+        let requests = read_requests(rt.alloc(), &mut MemoryFeed::new(text))?;
+        assert!(rt; requests.len() == want, "{count}");
+    }
+    Ok(())
+}
+
+#[test]
+fn a_failed_read_drops_the_line_that_it_may_have_cut(rt: HostRuntime) -> Result<(), Fail> {
+    let alloc = rt.alloc();
+    let mut text = Vec::new(alloc);
+    for _ in 0..500 {
+        text.extend_from_slice(b"timeout 12\n")?;
+    }
+    let mut feed = MemoryFeed::new(text);
+    feed.fuse(1, false);
+    let before = read_requests(alloc, &mut feed)?;
+    let behind = read_requests(alloc, &mut feed)?;
+    // What is left of the cut line is no line of its own kind.
+    assert!(rt; feed.failures() == 1 && before.len() + behind.len() == 500);
+    let is_cut = matches!(behind.first(), Some(Request::BadLine));
+    assert!(rt; is_cut);
+    for request in &before {
+        assert!(rt; matches!(request, Request::Timeout(12)));
     }
     Ok(())
 }
