@@ -14,7 +14,7 @@ no_block line digits bytes e is not (digits', is', decoded) =
     let both = ap (λ (d : List ℕ). decode_of d) same in
     cc
 
-no_timeout : (line digits : List ℕ) (view : ℕ) → line ≡ codes "block " ++ digits → SpellsTimeout line view → ⊥
+pub no_timeout : (line digits : List ℕ) (view : ℕ) → line ≡ codes "block " ++ digits → SpellsTimeout line view → ⊥
 no_timeout line digits view is (_, is') =
     let firsts : 98 ≡ 116 = ap (λ (l : List ℕ). get_or l 0 0) (sym is ∙ is') in
     absurd (omega (arith, firsts))

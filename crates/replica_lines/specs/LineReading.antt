@@ -52,3 +52,9 @@ abbrev pub IsWhatWasRead : List ℕ → Option (List ℕ) → ℕ → ℕ → Li
 IsWhatWasRead text left failures failures' requests =
     ((failures' ≡ failures) × AreOfText text requests)
     ⊎ ((failures' ≡ one_more failures) × ((rest : List ℕ) × (left ≡ Some rest) × AreOfEndedLines text rest requests))
+
+-- ---- a law
+
+-- two lists of requests of one text are the same
+abbrev pub ATextHasOneReading : Type 0
+ATextHasOneReading = (text : List ℕ) (a b : List Request) → AreOfText text a → AreOfText text b → a ≡ b
