@@ -105,7 +105,10 @@ fn a_line_is_read_up_to_its_limit(rt: HostRuntime) -> Result<(), Fail> {
             return Err("not two lines".into());
         };
         assert!(rt; described(alloc, long)?.as_str() == want, "{length}");
-        assert!(rt; described(alloc, short)?.as_str() == "timeout 7", "{length}");
+        assert!(rt;
+            described(alloc, short)?.as_str() == "timeout 7",
+            "{length}"
+        );
     }
     Ok(())
 }
