@@ -1,0 +1,9 @@
+pub mod Fills
+pub mod Ends
+pub mod Places
+pub mod Completeness
+pub mod Decisions
+pub mod Takings
+pub mod Feeding
+pub mod Causes
+pub mod Gifts

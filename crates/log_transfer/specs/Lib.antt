@@ -1,0 +1,11 @@
+pub mod Connections
+pub mod Streams
+pub mod Places
+pub mod Counting
+pub mod Magics
+pub mod Turns
+pub mod Complete
+pub mod Pulls
+pub mod Pulled
+pub mod Scripts
+pub mod Refusals

@@ -1,0 +1,30 @@
+//! Fetching the log of a replica from a source that may break off: the frames of its stream one at a time or all at
+//! once, over a few connections, and how the last one ended. Needs Net for sockets alone.
+#![tactic(auto)]
+
+mod connector;
+mod error;
+mod fetching;
+mod filling;
+mod front;
+mod laws;
+mod memory_connector;
+mod payload;
+mod place;
+mod pull;
+mod puller;
+mod reading_on;
+mod steps;
+mod stream;
+mod taking;
+
+pub use connector::Connector;
+pub use error::FetchError;
+pub use faults::Fault;
+pub use fetching::{Fetched, fetch};
+pub use laws::{a_complete_source_gives_its_log, a_whole_export_is_complete};
+pub use memory_connector::MemoryConnector;
+pub use payload::Payload;
+pub use place::MOST_TRIES;
+pub use pull::{Pull, Step};
+pub use puller::Puller;

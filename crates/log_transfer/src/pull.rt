@@ -1,0 +1,114 @@
+//! Frames of a source, one at a time.
+
+ghost use Rattle.std.specs.Prelude.{◌≡◌, ◌<◌, ◌≤◌, ℕ, [], IfOk, Ok, OnErr, length, take};
+ghost use Rattle.log_transfer.specs.Connections.{GivesSome};
+ghost use Rattle.log_transfer.specs.Places.{IsCaused, IsEnd, IsPlace, MayTry};
+ghost use Rattle.log_transfer.specs.Pulls.{IsStep, first_place};
+
+use crate::connector::Connector;
+use crate::error::FetchError;
+use crate::place::Place;
+use crate::steps::advance;
+use log_format::Status;
+use std::marker::Model;
+use wire::LONGEST_PAYLOAD;
+
+/// What `Pull::next` gives.
+#[derive(Clone, Copy, Debug, PartialEq, Eq)]
+pub enum Step {
+    /// A frame, whose payload stands in the vector.
+    Frame,
+    /// No frame is left, and the last connection ended so.
+    End(Status),
+}
+
+// The next frame, in `out`.
+pub(crate) fn next_frame<C: Connector>(
+    connector: &mut C,
+    place: &mut Place,
+    out: &mut Vec<u8>,
+) -> Result<Step, FetchError>
+    requires place { IsPlace place.old }
+    ensures ok { IfOk result (IsStep (C.gives connector.old) (C.gives connector.new) (C.left connector.old) (C.left connector.new) place.old place.new out.new.items) }
+    ensures ended { IsEnd place.old → (result ≡ Ok (Step.End place.old.last)) × (connector.new ≡ connector.old) × (place.new ≡ place.old) × (out.new.items ≡ []) }
+    ensures cause { (before : ℕ) → IsCaused before (C.failed connector.old) place.old → IsCaused before (C.failed connector.new) place.new }
+    ensures place { IsPlace place.new }
+    ensures err { OnErr result ((connector.new ≡ connector.old) × (place.new ≡ place.old) × (out.new.items ≡ out.old.items)) }
+{
+    if place.is_end() {
+        out.clear();
+        return Ok(Step::End(place.last));
+    }
+    // All that memory can refuse comes before the first call of the connector.
+    out.resize(LONGEST_PAYLOAD, 0)?;
+    match advance(connector, place, out.as_mut_slice()) {
+        Some(len) => {
+            out.truncate(len);
+            Ok(Step::Frame)
+        }
+        None => {
+            out.clear();
+            Ok(Step::End(place.last))
+        }
+    }
+}
+
+/// The frames of a source, one at a time, over a few connections. Contracts see the connector and where the reader
+/// stands.
+#[derive(Drop)]
+pub struct Pull<C: Connector> {
+    connector: C,
+    place: Place,
+}
+
+impl<C: Connector> Model for Pull<C> {
+    ghost use Rattle.log_transfer.specs.Places.{IsPlace};
+    ghost use Rattle.log_transfer.specs.Pulls.{Pulling};
+
+    ghost Value = { Pulling C };
+
+    ghost view = { λ p. record { connector = p.connector; place = p.place } };
+
+    ghost invariant = { λ p. IsPlace p.place };
+}
+
+impl<C: Connector> Pull<C> {
+    /// Before the first of at most `tries` connections, which must be 1 to 3, and no more than the connector allows.
+    /// Nothing is connected yet.
+    pub fn new(connector: C, tries: u8) -> Pull<C>
+        requires { MayTry (C.allowed connector) tries }
+        ensures connector { result.connector ≡ connector }
+        ensures place { result.place ≡ first_place tries }
+    {
+        Pull {
+            connector,
+            place: Place::first(tries),
+        }
+    }
+
+    /// The next frame: its payload stands in the vector, of 1 to 65,536 bytes. At the end the vector is empty, and
+    /// each later call gives the same end without a call of the connector.
+    ///
+    /// A connection that ends as `Whole`, `Broken` or `TooLong` is the last. Behind `Cut` or `Failed` it connects
+    /// again while tries are left, for the frames behind those that came; a frame that came in part is dropped. The
+    /// status is that of the last connection, `Failed` only where a call of the connector failed.
+    ///
+    /// Where memory is refused nothing changed, and the next call goes on with the same frame.
+    pub fn next(&mut self, out: &mut Vec<u8>) -> Result<Step, FetchError>
+        ensures ok { IfOk result (IsStep (C.gives self.old.connector) (C.gives self.new.connector) (C.left self.old.connector) (C.left self.new.connector) self.old.place self.new.place out.new.items) }
+        ensures ended { IsEnd self.old.place → (result ≡ Ok (Step.End self.old.place.last)) × (self.new ≡ self.old) × (out.new.items ≡ []) }
+        ensures cause { (before : ℕ) → IsCaused before (C.failed self.old.connector) self.old.place → IsCaused before (C.failed self.new.connector) self.new.place }
+        ensures err { OnErr result ((self.new ≡ self.old) × (out.new.items ≡ out.old.items)) }
+    {
+        next_frame(&mut self.connector, &mut self.place, out)
+    }
+
+    /// How many calls of the connector answered a fault, up to 2^64 - 1.
+    pub fn failures(&self) -> u64
+        ensures count { result ≡ C.failed self.now.connector }
+        ensures some { GivesSome (C.left self.now.connector) }
+        ensures next { (k f m : ℕ) → GivesSome (C.gives self.now.connector k f m) }
+    {
+        self.connector.failures()
+    }
+}
