@@ -1,8 +1,9 @@
 -- What a source in memory gives.
 use Rattle.std.proofs.Common.{◌≡◌, ℕ, zero, suc, List, [], ◌∷◌, ◌++◌, Bool, true, false, Option, Some, None, All, sym, ap, subst, ◌∙◌, arith, append_assoc}
+use Rattle.std.specs.Prelude.{⊤}
 use Rattle.faults.specs.Fuse.{after_call}
 use Rattle.wire.specs.Pieces.{AreBytes}
-use Rattle.log_transfer.specs.Connections.{Connection, GivesFirst, GivesSome, behind}
+use Rattle.log_transfer.specs.Connections.{Connection, GivesFirst, GivesSome, behind, ended}
 use Rattle.log_transfer.specs.Scripts.{GivesOf, IsText, gives_all, stream_at}
 
 -- no bytes are bytes
@@ -41,3 +42,8 @@ module _ (bytes : List ℕ) (old new : Connection) (split : old.text ≡ bytes +
   gives_behind (Some (zero, true)) c g = first_behind c g
   gives_behind (Some (zero, false)) c g = subst (λ (d : Connection). GivesFirst old d) (sym (all_behind c g)) (gives_all (Some (0, true)) old)
   gives_behind (Some (suc pass, forever)) c g = first_behind c g
+
+-- ---- sources that tell nothing
+
+pub some_of_any : GivesSome (λ (c : Connection). ⊤)
+some_of_any = record { c = ended; is = tt; bytes = no_bytes }

@@ -8,4 +8,5 @@ pub mod Complete
 pub mod Pulls
 pub mod Pulled
 pub mod Scripts
+pub mod Sources
 pub mod Refusals

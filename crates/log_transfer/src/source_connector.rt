@@ -1,0 +1,64 @@
+//! A source that is a server or a file.
+
+ghost use Rattle.std.specs.Prelude.{◌≡◌, ⊤};
+ghost use Rattle.log_transfer.specs.Connections.{ended};
+ghost use Rattle.log_transfer.specs.Sources.{allowed_of, failures_of};
+
+use crate::connector::Connector;
+use crate::file_connector::FileConnector;
+use crate::tcp_connector::TcpConnector;
+use faults::Fault;
+use std::fs::{File, Files};
+use std::net::{Net, TcpStream};
+use std::time::Clock;
+
+/// A server, or a file. It tells nothing of what it gives.
+#[derive(Drop)]
+pub enum SourceConnector<'a, R: Net<Stream = TcpStream> + Clock + Files<File = File>> {
+    /// A server.
+    Tcp(TcpConnector<'a, R>),
+    /// A file.
+    File(FileConnector<'a, R>),
+}
+
+impl<'a, R: Net<Stream = TcpStream> + Clock + Files<File = File>> Connector
+    for SourceConnector<'a, R>
+{
+    ghost gives = { λ s k first most c. ⊤ };
+
+    ghost left = { λ s c. ⊤ };
+
+    ghost failed = { λ s. failures_of s };
+
+    ghost allowed = { λ s. allowed_of s };
+
+    fn connect(&mut self, first: u32, most: u32) -> Result<(), Fault> {
+        match self {
+            SourceConnector::Tcp(server) => server.connect(first, most),
+            SourceConnector::File(file) => file.connect(first, most),
+        }
+    }
+
+    fn read(&mut self, buffer: &mut [u8]) -> Result<usize, Fault> {
+        match self {
+            SourceConnector::Tcp(server) => server.read(buffer),
+            SourceConnector::File(file) => file.read(buffer),
+        }
+    }
+
+    fn most_tries(&self) -> u8 {
+        match self {
+            SourceConnector::Tcp(server) => server.most_tries(),
+            SourceConnector::File(file) => file.most_tries(),
+        }
+    }
+
+    fn failures(&self) -> u64 {
+        match self {
+            SourceConnector::Tcp(server) => server.failures(),
+            SourceConnector::File(file) => file.failures(),
+        }
+    }
+
+    ghost some = { λ s. (ended, tt) };
+}

@@ -1,0 +1,43 @@
+//! What connectors over files and sockets share.
+
+ghost use Rattle.std.specs.Prelude.{◌≡◌, ◌≤◌, IfOk, Ok, length};
+ghost use Rattle.faults.specs.Counting.{Counts};
+
+use faults::Fault;
+use std::io;
+use std::io::{ErrorKind, Read};
+
+// How often a read is tried that signals interrupt.
+const MOST_INTERRUPTIONS: u32 = 100;
+
+// What a call answers where no connection is open.
+pub(crate) fn no_connection() -> io::Error {
+    io::Error::from(ErrorKind::NotConnected)
+}
+
+// Fills the front of the buffer, and tries again where a signal came between.
+pub(crate) fn read_some<R: Read>(stream: &mut R, buffer: &mut [u8]) -> io::Result<usize>
+    ensures { IfOk result (λ n. n ≤ length buffer.new) }
+{
+    for _ in 0..MOST_INTERRUPTIONS {
+        match stream.read(buffer) {
+            Err(error) if error.kind() == ErrorKind::Interrupted => {}
+            outcome => return outcome,
+        }
+    }
+    Err(io::Error::from(ErrorKind::Interrupted))
+}
+
+// A failed call as a fault, counted.
+pub(crate) fn counted<T: Drop>(failures: &mut u64, outcome: io::Result<T>) -> Result<T, Fault>
+    ensures counts { Counts failures.old failures.new result }
+    ensures kept { IfOk result (λ value. outcome ≡ Ok value) }
+{
+    match outcome {
+        Ok(value) => Ok(value),
+        Err(_) => {
+            *failures = failures.saturating_add(1);
+            Err(Fault)
+        }
+    }
+}
