@@ -24,8 +24,8 @@ pub trait Connector: Drop {
     /// How many connections a reader may make: one, where a later part can't be asked for.
     ghost allowed: { Self → ℕ };
 
-    /// Opens the next connection, asks for the frames from `first` on, at most `most` of them, and closes the one
-    /// before. After a fault none is open.
+    /// Opens the next connection in place of the one before, and asks for the frames from `first` on, at most `most`
+    /// of them.
     fn connect(&mut self, first: u32, most: u32) -> Result<(), Fault>
         ensures ok { OnOk result ((c : Connection) → left self.new c → gives self.old 0 first most c) }
         ensures err { OnErr result (gives self.old 0 first most failing) }

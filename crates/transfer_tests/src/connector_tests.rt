@@ -29,7 +29,7 @@ fn a_file_is_read(rt: HostRuntime) -> Result<(), Fail> {
         ("missing.hsl", 0, Status::Failed),
         (".", 0, Status::Failed),
     ] {
-        let mut source = FileConnector::new(&rt, path);
+        let mut source = SourceConnector::File(FileConnector::new(&rt, path));
         assert!(rt; gives(rt.alloc(), &mut source, 1, count, status), "{path}");
         assert!(rt;
             (source.failures() == 0) == (status != Status::Failed),
