@@ -78,8 +78,8 @@ fn alone(alloc: Global, replica: u16, text: &'static [u8]) -> Result<Gathered<'s
 fn logs_gathered_apart_are_merged(rt: HostRuntime) -> Result<(), Fail> {
     let alloc = rt.alloc();
     let mut both = alone(alloc, 0, fork_logs::log_0())?;
-    let other = alone(alloc, 3, fork_logs::log_3())?;
-    assert!(rt; both.merge(alloc, other).is_ok());
+    let (_, headers, votes) = alone(alloc, 3, fork_logs::log_3())?.into_parts(alloc)?;
+    assert!(rt; both.merge(&headers, &votes).is_ok());
     let (_, headers, votes) = both.into_parts(alloc)?;
     let evidence = of_fork(alloc)?;
     assert!(rt; headers.as_slice() == evidence.headers());

@@ -63,7 +63,7 @@ only a b c = go c.0 c.1 c.2
 pub in_none : {A X : Type 0} (Has : A → X → Type 0) (x : X) → InSome Has [] x → ⊥
 in_none Has x w = let l = w.1.1 in absurd (omega arith)
 
-in_more : {A X : Type 0} (Has : A → X → Type 0) (xs : List A) (a : A) (x : X) → InSome Has (xs ++ a ∷ []) x ↔ (InSome Has xs x ⊎ Has a x)
+pub in_more : {A X : Type 0} (Has : A → X → Type 0) (xs : List A) (a : A) (x : X) → InSome Has (xs ++ a ∷ []) x ↔ (InSome Has xs x ⊎ Has a x)
 in_more {A} Has xs a x = (
   λ w. elim (Contains-append_cases xs (a ∷ []) w.0 w.1) [
     | inl i ↦ inl (w.0, i, w.2)
@@ -210,7 +210,7 @@ frame_has_none g replica frame none =
 
 -- ---- how many frames are entries
 
-have_one_more : (fs : List (List ℕ)) (f : List ℕ) (n : ℕ) → HaveEntries fs n → SpellsEntry f → HaveEntries (fs ++ f ∷ []) (n + 1)
+pub have_one_more : (fs : List (List ℕ)) (f : List ℕ) (n : ℕ) → HaveEntries fs n → SpellsEntry f → HaveEntries (fs ++ f ∷ []) (n + 1)
 have_one_more [] f n have is = inl (is, (n, refl, have))
 have_one_more (g ∷ fs) f n have is =
     elim have [
@@ -218,7 +218,7 @@ have_one_more (g ∷ fs) f n have is =
       | inr w ↦ inr (w.0, have_one_more fs f n w.1 is)
     ]
 
-have_no_more : (fs : List (List ℕ)) (f : List ℕ) (n : ℕ) → HaveEntries fs n → (SpellsEntry f → ⊥) → HaveEntries (fs ++ f ∷ []) n
+pub have_no_more : (fs : List (List ℕ)) (f : List ℕ) (n : ℕ) → HaveEntries fs n → (SpellsEntry f → ⊥) → HaveEntries (fs ++ f ∷ []) n
 have_no_more [] f n have none = inr (none, have)
 have_no_more (g ∷ fs) f n have none =
     elim have [

@@ -131,8 +131,9 @@ impl<'a> Gathered<'a> {
         Ok(())
     }
 
-    // Adds what a frame of a replica's log shows, if it is an entry. Answers whether it is.
-    fn add_frame(
+    /// Adds what a frame of a replica's log shows, if it is an entry. Answers whether it is. After a refusal a part of it
+    /// may have been added.
+    pub fn add_frame(
         &mut self,
         alloc: Global,
         replica: u16,
@@ -220,15 +221,18 @@ impl<'a> Gathered<'a> {
         Ok(())
     }
 
-    /// Adds the headers and the votes that were gathered apart. The votes are not checked again: they are good where the
-    /// other was gathered under the same committee. After a refusal a part of them may have been added.
-    pub fn merge(&mut self, alloc: Global, other: Gathered) -> Result<(), EvidenceRefusal>
-        ensures ok { OnOk result (Grows self.old self.new (Contains other.entry.headers) (Contains other.entry.votes)) }
-        ensures err { IfErr result (IsGatheringRefusal self.old (Contains other.entry.headers)) }
+    /// Adds headers and votes that were gathered apart. The votes are not checked again: they are good where they were
+    /// gathered under the same committee. After a refusal a part of them may have been added.
+    pub fn merge(
+        &mut self,
+        headers: &[NamedHeader],
+        votes: &[SignedVote],
+    ) -> Result<(), EvidenceRefusal>
+        ensures ok { OnOk result (Grows self.old self.new (Contains headers.now) (Contains votes.now)) }
+        ensures err { IfErr result (IsGatheringRefusal self.old (Contains headers.now)) }
     {
-        let (_, headers, votes) = other.into_parts(alloc)?;
-        self.absorb_headers(&headers)?;
-        self.absorb_votes(&votes)?;
+        self.absorb_headers(headers)?;
+        self.absorb_votes(votes)?;
         Ok(())
     }
 

@@ -98,6 +98,7 @@ impl<C: Connector> Pull<C> {
         ensures ok { IfOk result (IsStep (C.gives self.old.connector) (C.gives self.new.connector) (C.left self.old.connector) (C.left self.new.connector) self.old.place self.new.place out.new.items) }
         ensures ended { IsEnd self.old.place → (result ≡ Ok (Step.End self.old.place.last)) × (self.new ≡ self.old) × (out.new.items ≡ []) }
         ensures cause { (before : ℕ) → IsCaused before (C.failed self.old.connector) self.old.place → IsCaused before (C.failed self.new.connector) self.new.place }
+        ensures place { IsPlace self.new.place }
         ensures err { OnErr result ((self.new ≡ self.old) × (out.new.items ≡ out.old.items)) }
     {
         next_frame(&mut self.connector, &mut self.place, out)

@@ -22,8 +22,7 @@ pub enum SourceConnector<'a, R: Net<Stream = TcpStream> + Clock + Files<File = F
 }
 
 impl<'a, R: Net<Stream = TcpStream> + Clock + Files<File = File>> Connector
-    for SourceConnector<'a, R>
-{
+    for SourceConnector<'a, R> {
     ghost gives = { λ s k first most c. ⊤ };
 
     ghost left = { λ s c. ⊤ };

@@ -1,0 +1,137 @@
+-- What is gathered of a source that is read frame by frame.
+use Rattle.std.proofs.Common.{◌≡◌, ◌↔◌, ◌<◌, ◌+◌, ℕ, List, [], ◌∷◌, ◌++◌, false, inl, inr, refl, sym, subst, arith, Result, Ok, Err}
+use Rattle.std.specs.Prelude.{IsErrAnd}
+use Rattle.std.specs.List.{Contains}
+use Rattle.std.proofs.lemmas.List.{length_push}
+use Rattle.std.proofs.lemmas.List.Elements.{Contains-append_left}
+use Rattle.blocks.specs.Genesis.{genesis_of}
+use Rattle.blocks.specs.Headers.{Header}
+use Rattle.certificates.specs.declared.vote.SignedVote.{SignedVote}
+use Rattle.log_format.specs.declared.status.Status.{Status}
+use Rattle.log_transfer.specs.Connections.{Connection, GivesSome}
+use Rattle.log_transfer.specs.Places.{HasCause, IsCaused, IsEnd, Leads}
+use Rattle.log_transfer.specs.Pulls.{first_place}
+use Rattle.log_transfer.specs.declared.place.Place.{Place}
+use Rattle.log_transfer.proofs.Places.{leads_stay, leads_then, fetched_end, some_log}
+use Rattle.evidence.specs.Evidence.{IsEvidenceRefusal, IsReportOf}
+use Rattle.evidence.specs.Gathering.{Gathered, Grows, IsGatheringRefusal}
+use Rattle.evidence.specs.Logs.{ReceivedLog, FrameHasHeader, FrameHasVote, HaveEntries, LogHasHeader, LogHasVote}
+use Rattle.evidence.specs.Sets.{InSome}
+use Rattle.evidence.specs.declared.refusal.EvidenceRefusal.{EvidenceRefusal}
+use Rattle.evidence.specs.declared.refusal.EvidenceRefusal.TheVariants.{Memory}
+use Rattle.evidence.specs.declared.source.SourceReport.{SourceReport}
+use Rattle.evidence.proofs.Gatherings.{fault_as, fault_later, grown_as, grown_start, grown_then, in_more}
+use Rattle.parallel_verify.specs.Collections.{IsGathering, IsLogFrom}
+use Rattle.parallel_verify.specs.Parts.{IsGathered, PartHasHeader}
+use Rattle.parallel_verify.specs.declared.part.Part.{Part}
+
+abbrev Gives : Type 1
+Gives = ℕ → ℕ → ℕ → Connection → Type 0
+
+pub gathering_start : (gives : Gives) (left : Connection → Type 0) (p : Place) (g : Gathered) (replica : ℕ) → IsGathering gives gives left left p p g g replica 0 0
+gathering_start gives left p g replica =
+    record { given = []; leads = leads_stay gives left p; grown = grown_start g FrameHasHeader (FrameHasVote g.committee replica); have = refl; counted = refl }
+
+grown_add : (a b c : Gathered) (replica : ℕ) (given : List (List ℕ)) (x : List ℕ) → Grows a b (InSome FrameHasHeader given) (InSome (FrameHasVote a.committee replica) given)
+    → Grows b c (FrameHasHeader x) (FrameHasVote b.committee replica x) → Grows a c (InSome FrameHasHeader (given ++ x ∷ [])) (InSome (FrameHasVote a.committee replica) (given ++ x ∷ []))
+grown_add a b c replica given x g h =
+    grown_as a c _ _ _ _
+    (λ k. let all = in_more FrameHasHeader given x k in (all.1, all.0))
+    (λ v. let all = in_more (FrameHasVote a.committee replica) given x v in (all.1, all.0))
+    (grown_then a b c (InSome FrameHasHeader given) (FrameHasHeader x) (InSome (FrameHasVote a.committee replica) given) (λ (q : List ℕ). FrameHasVote q replica x) g h)
+
+module _ (old mid new : Gives) (old_left mid_left new_left : Connection → Type 0) (p q r : Place) (a b : Gathered) (replica frames entries : ℕ) (so_far : IsGathering old mid old_left mid_left p q a b replica frames entries) where
+  -- one frame more
+  pub gathering_more : (c : Gathered) (x : List ℕ) (n : ℕ) → Leads mid new mid_left new_left q r (x ∷ []) → Grows b c (FrameHasHeader x) (FrameHasVote b.committee replica x)
+      → ((fs : List (List ℕ)) → HaveEntries fs entries → HaveEntries (fs ++ x ∷ []) n) → IsGathering old new old_left new_left p r a c replica (frames + 1) n
+  gathering_more c x n leads step have = record {
+    given = so_far.given ++ x ∷ [];
+    leads = leads_then old mid new old_left mid_left new_left p q r so_far.given (x ∷ []) so_far.leads leads;
+    grown = grown_add a b c replica so_far.given x so_far.grown step;
+    have = have so_far.given so_far.have;
+    counted = omega (arith, so_far.counted, length_push so_far.given x);
+  }
+
+  -- all that came
+  pub gathering_end : (status : Status) (report : SourceReport) → p.is_open ≡ false → Leads mid new mid_left new_left q r [] → IsEnd r → status ≡ r.last
+      → report ≡ record { replica = replica; status = status; frames = frames; entries = entries }
+      → (l : ReceivedLog) × IsLogFrom old p replica l × Grows a b (LogHasHeader l) (LogHasVote a.committee l) × IsReportOf l report
+  gathering_end status report closed leads end is made =
+      let l : ReceivedLog = record { replica = replica; frames = so_far.given; status = status } in (
+        l,
+        record { of = refl; outcome = fetched_end old mid new old_left mid_left new_left p q r so_far.given status closed so_far.leads leads end is },
+        so_far.grown,
+        subst (λ (s : SourceReport). IsReportOf l s) (sym made) (record { replica = refl; status = refl; count = so_far.counted; entries = so_far.have }),
+      )
+
+  -- a fault at the next frame
+  pub gathering_fault : (x : List ℕ) (e : EvidenceRefusal) → p.is_open ≡ false → Leads mid new mid_left new_left q r (x ∷ []) → GivesSome new_left → ((k f m : ℕ) → GivesSome (new k f m))
+      → IsGatheringRefusal b (FrameHasHeader x) e → (l : ReceivedLog) × IsLogFrom old p replica l × IsGatheringRefusal a (LogHasHeader l) e
+  gathering_fault x e closed leads some next fault =
+      let given = so_far.given ++ x ∷ [] in
+      let came = some_log old new old_left new_left p r given closed (leads_then old mid new old_left mid_left new_left p q r so_far.given (x ∷ []) so_far.leads leads) some next in
+      let among : (h : Header) → InSome FrameHasHeader given h → InSome FrameHasHeader (given ++ came.more) h = λ h w. (w.0, Contains-append_left given came.more w.0 w.1, w.2) in (
+        record { replica = replica; frames = given ++ came.more; status = came.status },
+        record { of = refl; outcome = came.outcome },
+        fault_later a b (InSome FrameHasHeader so_far.given) (FrameHasHeader x) (InSome FrameHasHeader (given ++ came.more)) _ e so_far.grown
+            (λ h w. among h ((in_more FrameHasHeader so_far.given x h).1 (inl w))) (λ h w. among h ((in_more FrameHasHeader so_far.given x h).1 (inr w))) fault,
+      )
+
+-- nothing failed yet, and a try is left
+pub first_caused : (now : ℕ) (p : Place) → 0 < p.tries → IsCaused now now p
+first_caused now p tries = record { risen = omega arith; cause = λ closed none. absurd (omega (arith, tries, none)) }
+
+-- ---- the thread of a source
+
+-- something comes of every source
+pub some_log_of : (gives : Gives) (left : Connection → Type 0) (p : Place) (replica : ℕ) → p.is_open ≡ false → GivesSome left → ((k f m : ℕ) → GivesSome (gives k f m)) → (l : ReceivedLog) × IsLogFrom gives p replica l
+some_log_of gives left p replica closed some next =
+    let came = some_log gives gives left left p p [] closed (leads_stay gives left p) some next in (
+      record { replica = replica; frames = came.more; status = came.status },
+      record { of = refl; outcome = came.outcome },
+    )
+
+module _ {C : Type 0} (gives : C → Gives) (failed : C → ℕ) (connector : C) (tries replica : ℕ) (committee : List ℕ) where
+  -- memory was refused before anything was read
+  pub gathered_none : (r : Result Part EvidenceRefusal) → (l : ReceivedLog) × IsLogFrom (gives connector) (first_place tries) replica l → IsErrAnd r (λ e. e ≡ Memory) → IsGathered gives failed connector tries replica committee r
+  gathered_none (Ok p) some is = absurd is
+  gathered_none (Err e) some is = record {
+    log = some.0;
+    of = record { of = some.1.of; fetched = some.1.outcome };
+    result = subst (λ (x : EvidenceRefusal). IsEvidenceRefusal (PartHasHeader committee some.0) x) (sym is) tt;
+    cause = tt;
+  }
+
+  module _ (a : Gathered) (under : a.committee ≡ committee) (first : (h : Header) → Contains a.headers h ↔ (h ≡ genesis_of committee)) where
+    -- there was a fault in what came
+    pub gathered_fault : (r : Result Part EvidenceRefusal) (e : EvidenceRefusal) (l : ReceivedLog) → IsErrAnd r (λ x. x ≡ e) → IsLogFrom (gives connector) (first_place tries) replica l → IsGatheringRefusal a (LogHasHeader l) e → IsGathered gives failed connector tries replica committee r
+    gathered_fault (Ok p) e l is from fault = absurd is
+    gathered_fault (Err x) e l is from fault = record {
+      log = l;
+      of = record { of = from.of; fetched = from.outcome };
+      result = subst (λ (y : EvidenceRefusal). IsEvidenceRefusal (PartHasHeader committee l) y) (sym is) (fault_as _ _ e (λ h w. elim w [ inl o ↦ inl ((first h).0 o) | inr i ↦ inr i ]) fault);
+      cause = tt;
+    }
+
+    -- all came
+    pub gathered_all : (b : Gathered) (p : Part) (l : ReceivedLog) (after : C) → a.votes ≡ [] → IsLogFrom (gives connector) (first_place tries) replica l → Grows a b (LogHasHeader l) (LogHasVote a.committee l) → IsReportOf l p.report
+        → p.headers.items ≡ b.headers → p.votes.items ≡ b.votes → HasCause (failed connector) (failed after) p.report.status → IsGathered gives failed connector tries replica committee (Ok p)
+    gathered_all b p l after none from grows report headers votes cause = record {
+      log = l;
+      of = record { of = from.of; fetched = from.outcome };
+      result = record {
+        headers = λ h. (
+          λ c. elim ((grows.headers h).0 (subst (λ (hs : List Header). Contains hs h) headers c)) [ inl o ↦ inl ((first h).0 o) | inr i ↦ inr i ],
+          λ w. subst (λ (hs : List Header). Contains hs h) (sym headers) ((grows.headers h).1 (elim w [ inl g ↦ inl ((first h).1 g) | inr i ↦ inr i ])),
+        );
+        votes = λ v. (
+          λ c. subst (λ (k : List ℕ). LogHasVote k l v) under (elim ((grows.votes v).0 (subst (λ (vs : List SignedVote). Contains vs v) votes c)) [ inl o ↦ absurd (nothing v (subst (λ (vs : List SignedVote). Contains vs v) none o)) | inr i ↦ i ]),
+          λ i. subst (λ (vs : List SignedVote). Contains vs v) (sym votes) ((grows.votes v).1 (inr (subst (λ (k : List ℕ). LogHasVote k l v) (sym under) i))),
+        );
+        report = report;
+      };
+      cause = record { after = after; cause = cause };
+    }
+      where
+        nothing : (v : SignedVote) → Contains [] v → ⊥
+        nothing v c = let l = c.1 in absurd (omega arith)

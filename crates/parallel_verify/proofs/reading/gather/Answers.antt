@@ -1,0 +1,53 @@
+use Rattle.std.proofs.Common.{ap, subst, arith}
+use Rattle.log_transfer.specs.Places.{HasCause}
+use Rattle.log_transfer.specs.Pulls.{first_place}
+use Rattle.log_transfer.specs.declared.place.Place.{Place}
+use Rattle.evidence.specs.Evidence.{IsReportOf}
+use Rattle.evidence.specs.Gathering.{Grows, IsGatheringRefusal}
+use Rattle.evidence.specs.Logs.{ReceivedLog, LogHasHeader, LogHasVote}
+use Rattle.parallel_verify.specs.Collections.{IsLogFrom}
+use Rattle.parallel_verify.proofs.Collected.{some_log_of, gathered_none, gathered_fault, gathered_all}
+use Rattle.parallel_verify.proofs.reading.gather.Goals as goal
+
+pub returns-in_err-gathered : goal.returns-in_err-gathered
+returns-in_err-gathered g c =
+    let s = c.args.source in
+    let made = c.new-pull.ensures in
+    gathered_none g.C.Connector.gives g.C.Connector.failed s.connector s.tries s.replica c.args.committee.now c.from_residual.result
+    (subst (λ x. (l : ReceivedLog) × IsLogFrom (g.C.Connector.gives x) (first_place s.tries) s.replica l) made.connector
+    (subst (λ (p : Place). (l : ReceivedLog) × IsLogFrom (g.C.Connector.gives c.new-pull.result.connector) p s.replica l) made.place
+    (some_log_of (g.C.Connector.gives c.new-pull.result.connector) (g.C.Connector.left c.new-pull.result.connector) c.new-pull.result.place s.replica (ap (λ (p : Place). p.is_open) made.place) c.failures.ensures.some c.failures.ensures.next))) c.from_residual.ensures.1
+
+pub gather_frames-requires-clause-tries : goal.gather_frames-requires-clause-tries
+gather_frames-requires-clause-tries g c =
+    let some = c.requires.some in
+    let same = ap (λ (p : Place). p.tries) c.new-pull.ensures.place in
+    omega (arith, some, same)
+
+pub gather_frames-requires-clause-some : goal.gather_frames-requires-clause-some
+gather_frames-requires-clause-some g c =
+    let pull = c.new-pull.result in
+    some_log_of (g.C.Connector.gives pull.connector) (g.C.Connector.left pull.connector) pull.place _ (ap (λ (p : Place). p.is_open) c.new-pull.ensures.place) c.failures.ensures.some c.failures.ensures.next
+
+pub returns-in_err-report : goal.returns-in_err-report
+returns-in_err-report g c =
+    let s = c.args.source in
+    let a = c.in_ok-gathered.gathered in
+    let made = c.new-pull.ensures in
+    let e = c.in_err-report.field-0.0 in
+    let P : Place → Type 0 = λ p. (l : ReceivedLog) × IsLogFrom (g.C.Connector.gives s.connector) p s.replica l × IsGatheringRefusal a (LogHasHeader l) e in
+    let w = subst P made.place (subst (λ x. (l : ReceivedLog) × IsLogFrom (g.C.Connector.gives x) c.new-pull.result.place s.replica l × IsGatheringRefusal a (LogHasHeader l) e) made.connector c.in_err-report.ensures.err) in
+    gathered_fault g.C.Connector.gives g.C.Connector.failed s.connector s.tries s.replica c.args.committee.now a c.in_ok-gathered.ensures.committee c.in_ok-gathered.ensures.headers c.from_residual-in_err-report.result e w.0 c.from_residual-in_err-report.ensures.1 w.1 w.2
+
+pub returns : goal.returns
+returns g c =
+    let s = c.args.source in
+    let a = c.in_ok-gathered.gathered in
+    let b = c.gather_frames.new.gathered in
+    let made = c.new-pull.ensures in
+    let report = c.in_ok-report.report in
+    let after = c.gather_frames.new.pull.connector in
+    let P : Place → Type 0 = λ p. (l : ReceivedLog) × IsLogFrom (g.C.Connector.gives s.connector) p s.replica l × Grows a b (LogHasHeader l) (LogHasVote a.committee l) × IsReportOf l report in
+    let w = subst P made.place (subst (λ x. (l : ReceivedLog) × IsLogFrom (g.C.Connector.gives x) c.new-pull.result.place s.replica l × Grows a b (LogHasHeader l) (LogHasVote a.committee l) × IsReportOf l report) made.connector c.in_ok-report.ensures.ok) in
+    let cause = subst (λ x. HasCause (g.C.Connector.failed x) (g.C.Connector.failed after) report.status) made.connector c.in_ok-report.ensures.cause in
+    gathered_all g.C.Connector.gives g.C.Connector.failed s.connector s.tries s.replica c.args.committee.now a c.in_ok-gathered.ensures.committee c.in_ok-gathered.ensures.headers b _ w.0 after c.in_ok-gathered.ensures.votes w.1 w.2 w.3 c.in_ok-headers.ensures.headers c.in_ok-headers.ensures.votes cause

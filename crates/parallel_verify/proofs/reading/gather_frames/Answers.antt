@@ -1,0 +1,99 @@
+use Rattle.std.proofs.Common.{◌++◌, ◌∷◌, [], ◌∙◌, ℕ, List, refl, sym, subst, arith}
+use Rattle.std.proofs.lemmas.Bool.{false≢true}
+use Rattle.log_transfer.specs.Pulls.{IsStep}
+use Rattle.log_transfer.specs.declared.pull.Step.{Step}
+use Rattle.log_transfer.proofs.Causes.{end_caused}
+use Rattle.evidence.specs.Gathering.{Grows, IsGatheringRefusal}
+use Rattle.evidence.specs.Logs.{ReceivedLog, LogHasHeader, FrameHasHeader, FrameHasVote, HaveEntries, SpellsEntry}
+use Rattle.evidence.specs.declared.refusal.EvidenceRefusal.{EvidenceRefusal}
+use Rattle.evidence.proofs.Gatherings.{handed_on, have_one_more, have_no_more}
+use Rattle.parallel_verify.specs.Collections.{IsLogFrom}
+use Rattle.parallel_verify.proofs.Collected.{first_caused, gathering_start, gathering_more, gathering_end, gathering_fault}
+use Rattle.parallel_verify.proofs.reading.gather_frames.Goals.{then-branch, else-branch}
+use Rattle.parallel_verify.proofs.reading.gather_frames.Goals as goal
+
+pub loop-pull-init : goal.loop-pull-init
+loop-pull-init g c =
+    let pull = c.args.pull.now in
+    let first = c.requires.first in
+    let tries = c.requires.tries in
+    record {
+      most = omega (arith, first);
+      held = c.requires.first;
+      few = omega arith;
+      so_far = gathering_start (g.C.Connector.gives pull.connector) (g.C.Connector.left pull.connector) pull.place c.args.gathered.now c.args.replica;
+      caused = first_caused (g.C.Connector.failed pull.connector) pull.place tries;
+    }
+
+pub returns-in_err-add_frame-in-Ok-Frame-clause-err : goal.returns-in_err-add_frame-in-Ok-Frame-clause-err
+returns-in_err-add_frame-in-Ok-Frame-clause-err g c =
+    let gives = g.C.Connector.gives in
+    let left = g.C.Connector.left in
+    let start = c.args.pull.now in
+    let pull = c.loop-pull.pull in
+    let then = c.next.new.self in
+    let out = c.next.new.out.items in
+    let P : EvidenceRefusal → Type 0 = λ e. (l : ReceivedLog) × IsLogFrom (gives start.connector) start.place c.args.replica l × IsGatheringRefusal c.args.gathered.now (LogHasHeader l) e in
+    let step = subst (λ (s : Step). IsStep (gives pull.connector) (gives then.connector) (left pull.connector) (left then.connector) pull.place then.place out s) c.in-Ok-Frame.field-0-is c.in-Ok-Frame.ensures.ok in
+    let e = c.in_err-add_frame-in-Ok-Frame.field-0.0 in
+    let fault = subst (λ (t : List ℕ). IsGatheringRefusal c.loop-pull.gathered (FrameHasHeader t) e) c.deref.ensures.value c.in_err-add_frame-in-Ok-Frame.ensures.err in
+    handed_on c.from_residual.result P e c.from_residual.ensures.1
+    (gathering_fault (gives start.connector) (gives pull.connector) (gives then.connector) (left start.connector) (left pull.connector) (left then.connector) start.place pull.place then.place c.args.gathered.now c.loop-pull.gathered c.args.replica c.loop-pull.frames c.loop-pull.entries
+    c.loop-pull.invariant.so_far out e c.requires.closed step.2 c.failures.ensures.some c.failures.ensures.next fault)
+
+pub loop-pull-preserved : goal.loop-pull-preserved
+loop-pull-preserved g c =
+    let gives = g.C.Connector.gives in
+    let left = g.C.Connector.left in
+    let start = c.args.pull.now in
+    let pull = c.loop-pull.pull in
+    let then = c.next.new.self in
+    let out = c.next.new.out.items in
+    let a = c.args.gathered.now in
+    let b = c.loop-pull.gathered in
+    let d = c.add_frame.new.self in
+    let replica = c.args.replica in
+    let frames = c.loop-pull.frames in
+    let entries = c.loop-pull.entries in
+    let inv = c.loop-pull.invariant in
+    let few = inv.few in
+    let held = inv.held in
+    let place = c.next.ensures.place.few in
+    let step = subst (λ (s : Step). IsStep (gives pull.connector) (gives then.connector) (left pull.connector) (left then.connector) pull.place then.place out s) c.in-Ok-Frame.field-0-is c.in-Ok-Frame.ensures.ok in
+    let one = step.1 in
+    let deref = c.deref.ensures.value in
+    let grown = subst (λ (t : List ℕ). Grows b d (FrameHasHeader t) (FrameHasVote b.committee replica t)) deref c.in_ok-add_frame-in-Ok-Frame.ensures.ok in
+    let entry = c.in_ok-add_frame-in-Ok-Frame.ensures.entry in
+    let more = λ (n : ℕ) (have : (fs : List (List ℕ)) → HaveEntries fs entries → HaveEntries (fs ++ out ∷ []) n). gathering_more (gives start.connector) (gives pull.connector) (gives then.connector) (left start.connector) (left pull.connector) (left then.connector) start.place pull.place then.place a b replica frames entries inv.so_far d out n step.2 grown have in
+    record {
+      most = omega (arith, place);
+      held = one ∙ (let e = held in omega arith);
+      few = elim c.if-branch.branch [ then-branch w ↦ omega (arith, w.entries-is, few) | else-branch w ↦ omega (arith, w.entries-is, few) ];
+      so_far = more c.if-branch.entries (elim c.if-branch.branch [
+        | then-branch w ↦ λ fs have. subst (HaveEntries (fs ++ out ∷ [])) (sym w.entries-is) (have_one_more fs out entries have (subst SpellsEntry deref (entry.0 w.if-branch.true)))
+        | else-branch w ↦ λ fs have. subst (HaveEntries (fs ++ out ∷ [])) (sym w.entries-is) (have_no_more fs out entries have (λ is. false≢true (sym w.if-branch.false ∙ entry.1 (subst SpellsEntry (sym deref) is))))
+      ]);
+      caused = c.next.ensures.cause (g.C.Connector.failed start.connector) inv.caused;
+    }
+
+pub returns-in-Ok-End-clause-ok : goal.returns-in-Ok-End-clause-ok
+returns-in-Ok-End-clause-ok g c =
+    let gives = g.C.Connector.gives in
+    let left = g.C.Connector.left in
+    let start = c.args.pull.now in
+    let pull = c.loop-pull.pull in
+    let then = c.next.new.self in
+    let step = subst (λ (s : Step). IsStep (gives pull.connector) (gives then.connector) (left pull.connector) (left then.connector) pull.place then.place c.next.new.out.items s) c.in-Ok-End.field-0-is c.in-Ok-End.ensures.ok in
+    gathering_end (gives start.connector) (gives pull.connector) (gives then.connector) (left start.connector) (left pull.connector) (left then.connector) start.place pull.place then.place c.args.gathered.now c.loop-pull.gathered c.args.replica c.loop-pull.frames c.loop-pull.entries
+    c.loop-pull.invariant.so_far c.in-Ok-End.status _ c.requires.closed step.3.1 step.0 step.1 refl
+
+pub returns-in-Ok-End-clause-cause : goal.returns-in-Ok-End-clause-cause
+returns-in-Ok-End-clause-cause g c =
+    let gives = g.C.Connector.gives in
+    let left = g.C.Connector.left in
+    let failed = g.C.Connector.failed in
+    let start = c.args.pull.now in
+    let pull = c.loop-pull.pull in
+    let then = c.next.new.self in
+    let step = subst (λ (s : Step). IsStep (gives pull.connector) (gives then.connector) (left pull.connector) (left then.connector) pull.place then.place c.next.new.out.items s) c.in-Ok-End.field-0-is c.in-Ok-End.ensures.ok in
+    end_caused (failed start.connector) (failed then.connector) then.place c.in-Ok-End.status (c.next.ensures.cause (failed start.connector) c.loop-pull.invariant.caused) step.0 step.1

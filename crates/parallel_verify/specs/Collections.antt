@@ -1,0 +1,70 @@
+-- What comes of sources that are read frame by frame. docs/DEFINITIONS.md, "Evidence".
+use Rattle.std.specs.Prelude.{◌≡◌, ℕ, List, length, ⊤}
+use Rattle.std.specs.List.{AllZip}
+use Rattle.log_format.specs.declared.status.Status.{Status}
+use Rattle.log_transfer.specs.Connections.{Connection}
+use Rattle.log_transfer.specs.Places.{HasCause, IsFetched, IsOutcome, Leads, MayTry}
+use Rattle.log_transfer.specs.declared.place.Place.{Place}
+use Rattle.evidence.specs.Evidence.{Evidence, IsEvidenceOf, IsEvidenceRefusal, IsHeaderInEvidence}
+use Rattle.evidence.specs.Gathering.{Gathered, Grows}
+use Rattle.evidence.specs.Logs.{ReceivedLog, FrameHasHeader, FrameHasVote, HaveEntries}
+use Rattle.evidence.specs.Sets.{InSome}
+use Rattle.evidence.specs.declared.refusal.EvidenceRefusal.{EvidenceRefusal}
+use Rattle.evidence.specs.declared.refusal.EvidenceRefusal.TheVariants.{Memory, Collision}
+use Rattle.evidence.specs.declared.source.SourceReport.{SourceReport}
+use Rattle.parallel_verify.specs.declared.source.Source.{Source}
+
+-- ---- of all sources
+
+-- a log that a source of this replica may give in so many tries
+pub record IsLogOfSource (gives : ℕ → ℕ → ℕ → Connection → Type 0) (tries replica : ℕ) (l : ReceivedLog) : Type 0 where
+  pub of : l.replica ≡ replica
+  pub fetched : IsFetched gives tries l.frames l.status
+
+-- .. this source
+abbrev pub MayGive : {C : Type 0} → (C → ℕ → ℕ → ℕ → Connection → Type 0) → Source C → ReceivedLog → Type 0
+MayGive gives s l = IsLogOfSource (gives s.connector) s.tries s.replica l
+
+-- the connector was left in some state, and where the status is Failed, its failures rose up to there
+pub record IsCausedIn {C : Type 0} (failed : C → ℕ) (before : C) (status : Status) : Type 0 where
+  pub after : C
+  pub cause : HasCause (failed before) (failed after) status
+
+-- .. the connector of this source
+abbrev pub IsStatusCaused : {C : Type 0} → (C → ℕ) → Source C → SourceReport → Type 0
+IsStatusCaused failed s r = IsCausedIn failed s.connector r.status
+
+-- a reader may make so many connections to the source
+abbrev pub MayBeTried : {C : Type 0} → (C → ℕ) → Source C → Type 0
+MayBeTried allowed s = MayTry (allowed s.connector) s.tries
+
+-- it is the evidence of logs, one for each source
+pub record IsEvidenceOfSources {S : Type 0} (Gives : S → ReceivedLog → Type 0) (committee : List ℕ) (sources : List S) (e : Evidence) : Type 0 where
+  pub logs : List ReceivedLog
+  pub given : AllZip Gives sources logs
+  pub evidence : IsEvidenceOf committee logs e
+
+-- two different headers in logs, one for each source, have one id
+pub record HaveCollision {S : Type 0} (Gives : S → ReceivedLog → Type 0) (committee : List ℕ) (sources : List S) (refusal : EvidenceRefusal) : Type 0 where
+  pub logs : List ReceivedLog
+  pub given : AllZip Gives sources logs
+  pub collision : IsEvidenceRefusal (IsHeaderInEvidence committee logs) refusal
+
+abbrev pub IsRefusalOfSources : {S : Type 0} → (S → ReceivedLog → Type 0) → List ℕ → List S → EvidenceRefusal → Type 0
+IsRefusalOfSources Gives committee sources Memory = ⊤
+IsRefusalOfSources Gives committee sources (Collision h k) = HaveCollision Gives committee sources (Collision h k)
+
+-- ---- of one source, frame by frame
+
+-- the log that may come from a place on
+pub record IsLogFrom (gives : ℕ → ℕ → ℕ → Connection → Type 0) (p : Place) (replica : ℕ) (l : ReceivedLog) : Type 0 where
+  pub of : l.replica ≡ replica
+  pub outcome : IsOutcome gives 0 p.held p.tries p.last l.frames l.status
+
+-- frames that came so far, and what was gathered of them
+pub record IsGathering (old new : ℕ → ℕ → ℕ → Connection → Type 0) (old_left new_left : Connection → Type 0) (p q : Place) (a b : Gathered) (replica frames entries : ℕ) : Type 0 where
+  pub given : List (List ℕ)
+  pub leads : Leads old new old_left new_left p q given
+  pub grown : Grows a b (InSome FrameHasHeader given) (InSome (FrameHasVote a.committee replica) given)
+  pub have : HaveEntries given entries
+  pub counted : frames ≡ length given

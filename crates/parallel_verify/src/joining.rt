@@ -1,0 +1,65 @@
+//! One list of headers, and one of votes, from those of all sources.
+
+ghost use Rattle.std.specs.Prelude.{◌≡◌, ◌++◌, List, [], ◌∷◌, IfErr, IfOk, OnOk};
+ghost use Rattle.std.specs.List.{AllZip, Contains};
+ghost use Rattle.evidence.specs.Evidence.{IsEvidenceOf, IsEvidenceRefusal, IsHeaderInEvidence};
+ghost use Rattle.evidence.specs.Gathering.{Grows, IsGatheringRefusal};
+ghost use Rattle.evidence.specs.Logs.{ReceivedLog};
+ghost use Rattle.parallel_verify.specs.Parts.{HasReport, IsJoined, IsResultOn, PartHasHeader};
+
+use crate::part::Part;
+use blocks::CommitteeView;
+use evidence::{Evidence, EvidenceRefusal, Gathered, SourceReport};
+use std::alloc::{AllocError, Global};
+
+// Adds what one source shows.
+fn add_part(gathered: &mut Gathered, part: &Part) -> Result<SourceReport, EvidenceRefusal>
+    ensures ok { OnOk result (Grows gathered.old gathered.new (Contains part.now.headers.items) (Contains part.now.votes.items)) }
+    ensures report { IfOk result (λ r. r ≡ part.now.report) }
+    ensures err { IfErr result (IsGatheringRefusal gathered.old (Contains part.now.headers.items)) }
+{
+    gathered.merge(&part.headers, &part.votes)?;
+    Ok(part.report)
+}
+
+// Adds what came of one source.
+fn add_result(
+    gathered: &mut Gathered,
+    part: &Result<Part, EvidenceRefusal>,
+) -> Result<SourceReport, EvidenceRefusal>
+    ensures ok { IfOk result (λ r. (l : ReceivedLog) → IsResultOn gathered.old.committee l part.now → IsJoined gathered.old gathered.new l r) }
+    ensures report { IfOk result (HasReport part.now) }
+    ensures err { IfErr result (λ e. (l : ReceivedLog) → IsResultOn gathered.old.committee l part.now → IsGatheringRefusal gathered.old (PartHasHeader gathered.old.committee l) e) }
+{
+    match part {
+        Ok(part) => add_part(gathered, part),
+        Err(e) => Err(*e),
+    }
+}
+
+// Adds a report.
+fn put(reports: &mut Vec<SourceReport>, report: SourceReport) -> Result<(), AllocError>
+    ensures { OnOk result (reports.new.items ≡ reports.old.items ++ report ∷ []) }
+{
+    reports.push(report)?;
+    Ok(())
+}
+
+// What all of them show.
+pub(crate) fn join<'a>(
+    alloc: Global,
+    committee: &CommitteeView<'a>,
+    parts: &[Result<Part, EvidenceRefusal>],
+) -> Result<Evidence<'a>, EvidenceRefusal>
+    requires some { (logs : List ReceivedLog) × AllZip (IsResultOn committee.now) logs parts.now }
+    ensures ok { IfOk result (λ e. (logs : List ReceivedLog) → AllZip (IsResultOn committee.now) logs parts.now → IsEvidenceOf committee.now logs e) }
+    ensures reports { IfOk result (λ e. AllZip HasReport parts.now e.sources) }
+    ensures refused { IfErr result (λ e. (logs : List ReceivedLog) → AllZip (IsResultOn committee.now) logs parts.now → IsEvidenceRefusal (IsHeaderInEvidence committee.now logs) e) }
+{
+    let mut gathered = Gathered::new(alloc, committee)?;
+    let mut reports = Vec::new(alloc);
+    for part in parts {
+        put(&mut reports, add_result(&mut gathered, part)?)?;
+    }
+    Ok(Evidence::of(alloc, gathered, reports)?)
+}

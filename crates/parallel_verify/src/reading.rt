@@ -1,0 +1,86 @@
+//! One source, read frame by frame.
+
+ghost use Rattle.std.specs.Prelude.{◌≡◌, ◌<◌, IfErr, IfOk, false};
+ghost use Rattle.evidence.specs.Evidence.{IsReportOf};
+ghost use Rattle.evidence.specs.Gathering.{Grows, IsGatheringRefusal};
+ghost use Rattle.evidence.specs.Logs.{LogHasHeader, LogHasVote, ReceivedLog};
+ghost use Rattle.log_transfer.specs.Places.{HasCause, MayTry};
+ghost use Rattle.parallel_verify.specs.Collections.{IsLogFrom};
+ghost use Rattle.parallel_verify.specs.Parts.{IsGathered};
+
+use crate::part::Part;
+use crate::source::Source;
+use blocks::CommitteeView;
+use evidence::{EvidenceRefusal, Gathered, SourceReport};
+use log_transfer::{Connector, FetchError, Pull, Step};
+use std::alloc::Global;
+
+// Adds what the frames of a source show, each as it comes.
+fn gather_frames<C: Connector>(
+    alloc: Global,
+    pull: &mut Pull<C>,
+    replica: u16,
+    gathered: &mut Gathered,
+) -> Result<SourceReport, EvidenceRefusal>
+    requires closed { pull.old.place.is_open ≡ false }
+    requires first { pull.old.place.held ≡ 0 }
+    requires tries { 0 < pull.old.place.tries }
+    requires some { (l : ReceivedLog) × IsLogFrom (C.gives pull.old.connector) pull.old.place replica l }
+    ensures ok { IfOk result (λ r. (l : ReceivedLog) × IsLogFrom (C.gives pull.old.connector) pull.old.place replica l
+        × Grows gathered.old gathered.new (LogHasHeader l) (LogHasVote gathered.old.committee l) × IsReportOf l r) }
+    ensures cause { IfOk result (λ r. HasCause (C.failed pull.old.connector) (C.failed pull.new.connector) r.status) }
+    ensures err { IfErr result (λ e. (l : ReceivedLog) × IsLogFrom (C.gives pull.old.connector) pull.old.place replica l
+        × IsGatheringRefusal gathered.old (LogHasHeader l) e) }
+{
+    let mut frame = Vec::new(alloc);
+    let mut frames: usize = 0;
+    let mut entries: usize = 0;
+    loop {
+        match pull.next(&mut frame) {
+            Ok(Step::Frame) => {
+                // Behind what came, more may come.
+                let _ = pull.failures();
+                if gathered.add_frame(alloc, replica, &frame)? {
+                    entries += 1;
+                }
+                frames += 1;
+            }
+            Ok(Step::End(status)) => {
+                return Ok(SourceReport {
+                    replica,
+                    status,
+                    frames,
+                    entries,
+                });
+            }
+            Err(FetchError::Memory) => return Err(EvidenceRefusal::Memory),
+        }
+    }
+}
+
+// What one source shows. It holds one frame at a time, and each of its votes is checked here.
+pub(crate) fn gather<C: Connector>(
+    alloc: Global,
+    committee: &CommitteeView,
+    source: Source<C>,
+) -> Result<Part, EvidenceRefusal>
+    requires { MayTry (C.allowed source.connector) source.tries }
+    ensures { IsGathered C.gives C.failed source.connector source.tries source.replica committee.now result }
+{
+    let Source {
+        replica,
+        connector,
+        tries,
+    } = source;
+    let mut pull = Pull::new(connector, tries);
+    // Something may come of every source.
+    let _ = pull.failures();
+    let mut gathered = Gathered::new(alloc, committee)?;
+    let report = gather_frames(alloc, &mut pull, replica, &mut gathered)?;
+    let (_, headers, votes) = gathered.into_parts(alloc)?;
+    Ok(Part {
+        headers,
+        votes,
+        report,
+    })
+}

@@ -1,0 +1,2 @@
+pub mod RunErrors
+pub mod Runs

@@ -1,0 +1,75 @@
+-- What a run of the audit gives, from the sources to the lines. docs/DEFINITIONS.md, "Reports".
+use Rattle.std.specs.Prelude.{◌≡◌, ◌⊎◌, ◌≤◌, ◌+◌, ℕ, List, length, Err, ⊤}
+use Rattle.std.specs.List.{All, AllPairs, AllZip, Contains}
+use Rattle.blocks.specs.Chains.{Conflict, NoCollision}
+use Rattle.blocks.specs.CommitteeReading.{committee_in}
+use Rattle.blocks.specs.Committees.{IsCommittee, f_of}
+use Rattle.blocks.specs.Headers.{Header}
+use Rattle.blocks.specs.Weights.{committee_of}
+use Rattle.log_format.specs.declared.status.Status.TheVariants.{Failed}
+use Rattle.log_transfer.specs.Complete.{AreLogPayloads, IsCompleteFor}
+use Rattle.log_transfer.specs.Connections.{Connection}
+use Rattle.verdict_format.specs.Proofs.{IsProof}
+use Rattle.evidence.specs.Evidence.{Evidence, IsEvidenceOf}
+use Rattle.evidence.specs.Logs.{ReceivedLog}
+use Rattle.evidence.specs.declared.refusal.EvidenceRefusal.TheVariants.{Collision as Colliding}
+use Rattle.evidence.specs.declared.source.SourceReport.{SourceReport}
+use Rattle.parallel_verify.specs.Collections.{HaveCollision, IsEvidenceOfSources}
+use Rattle.parallel_verify.specs.declared.source.Source.{Source}
+use Rattle.accountability.specs.Commits.{IsProvedCommit}
+use Rattle.culprit_search.specs.Reports.{IsAudit, Report}
+use Rattle.culprit_search.specs.Verdicts.{IsOnLowerReplica}
+use Rattle.source_audit.specs.declared.run_error.RunError.{RunError}
+use Rattle.source_audit.specs.declared.run_error.RunError.TheVariants.{Memory, Committee, Collision, Sink}
+
+-- under a committee the evidence of logs that the sources give, each with a cause where it failed, and its audit
+pub record IsAuditRun {S : Type 0} (Gives : S → ReceivedLog → Type 0) (Caused : S → SourceReport → Type 0) (committee : List ℕ) (sources : List S) (e : Evidence) (r : Report) : Type 0 where
+  pub under : IsCommittee committee
+  pub evidence : IsEvidenceOfSources Gives committee sources e
+  pub caused : AllZip Caused sources e.sources
+  pub audit : IsAudit e r
+
+-- why there is no report: the bytes are refused as a committee, or two different headers in logs that the sources give
+-- have one id
+abbrev pub IsRunRefusal : {S : Type 0} → (S → ReceivedLog → Type 0) → List ℕ → List S → RunError → Type 0
+IsRunRefusal Gives committee sources Memory = ⊤
+IsRunRefusal Gives committee sources (Committee refusal) = committee_in committee ≡ Err refusal
+IsRunRefusal Gives committee sources (Collision h k) = IsCommittee committee × HaveCollision Gives committee sources (Colliding h k)
+IsRunRefusal Gives committee sources Sink = IsCommittee committee
+
+-- ---- what complete sources show
+
+-- the log of a replica, and its source keeps nothing of it back
+pub record IsCompleteSource {C : Type 0} (gives : C → ℕ → ℕ → ℕ → Connection → Type 0) (s : Source C) (l : ReceivedLog) : Type 0 where
+  pub of : l.replica ≡ s.replica
+  pub log : AreLogPayloads l.frames
+  pub complete : IsCompleteFor (gives s.connector) s.tries l.frames
+
+-- the evidence of these logs proves two commits that conflict, and no two different headers of it have one id
+pub record ProveAConflict (committee : List ℕ) (logs : List ReceivedLog) : Type 0 where
+  pub e : Evidence
+  pub of : IsEvidenceOf committee logs e
+  pub ids : NoCollision e.headers
+  pub first : Header
+  pub second : Header
+  pub first_proved : IsProvedCommit (committee_of committee) e first
+  pub second_proved : IsProvedCommit (committee_of committee) e second
+  pub conflict : Conflict e.headers (committee_of committee).genesis first second
+
+-- a source failed
+abbrev pub HaveFailed : List SourceReport → Type 0
+HaveFailed sources = (s : SourceReport) × Contains sources s × (s.status ≡ Failed)
+
+-- verdicts on more than f replicas, each of them a proof
+pub record AccuseMoreThanF (committee : List ℕ) (verdicts : List (List ℕ)) : Type 0 where
+  pub many : f_of committee + 1 ≤ length verdicts
+  pub apart : AllPairs IsOnLowerReplica verdicts
+  pub proofs : All (IsProof committee) verdicts
+
+-- a source failed, or more than f replicas are accused
+abbrev pub IsAccounted : List ℕ → Evidence → Report → Type 0
+IsAccounted committee e r = HaveFailed e.sources ⊎ AccuseMoreThanF committee r.verdicts
+
+-- memory was refused, or a write failed
+abbrev pub IsMemoryOrSink : RunError → Type 0
+IsMemoryOrSink e = (e ≡ Memory) ⊎ (e ≡ Sink)

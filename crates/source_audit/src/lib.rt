@@ -1,0 +1,8 @@
+//! An audit from the sources of logs to the lines of its report. Needs threads.
+#![tactic(auto)]
+
+mod run;
+mod run_error;
+
+pub use run::audit_run;
+pub use run_error::RunError;

@@ -1,0 +1,95 @@
+//! A run of the audit, from the sources to the lines.
+
+ghost use Rattle.std.specs.Prelude.{◌≡◌, ◌≢◌, ◌+◌, ◌≤◌, List, IfErr, IfOk, IsErrOf, IsSome, MatchResult, OnOk, length};
+ghost use Rattle.std.specs.List.{All, AllZip};
+ghost use Rattle.faults.specs.Counting.{one_more};
+ghost use Rattle.streams.specs.Streams.{Wrote, WrotePart};
+ghost use Rattle.blocks.specs.Committees.{IsCommittee, f_of};
+ghost use Rattle.verdict_format.specs.Proofs.{IsProof};
+ghost use Rattle.evidence.specs.Evidence.{Evidence as EvidenceValue};
+ghost use Rattle.evidence.specs.Logs.{ReceivedLog};
+ghost use Rattle.parallel_verify.specs.Collections.{IsEvidenceOfSources, IsStatusCaused, MayBeTried, MayGive};
+ghost use Rattle.culprit_search.specs.Reports.{IsAudit, Report as ReportValue};
+ghost use Rattle.culprit_search.specs.ReportText.{report_text};
+ghost use Rattle.source_audit.specs.Runs.{IsAccounted, IsAuditRun, IsCompleteSource, IsMemoryOrSink, IsRunRefusal, ProveAConflict};
+ghost use Rattle.source_audit.specs.declared.run_error.RunError.TheVariants.{Sink as NotWritten};
+
+use crate::run_error::RunError;
+use blocks::CommitteeView;
+use culprit_search::{Report, audit, write_report};
+use evidence::Evidence;
+use log_transfer::{Connector, a_complete_source_gives_its_log};
+use parallel_verify::{Source, collect};
+use std::alloc::Global;
+use std::thread::Threads;
+use streams::Sink;
+
+// What the sources show together.
+fn read_sources<'a, R: Threads + Sync, C: Connector + Send>(
+    rt: &R,
+    alloc: Global,
+    committee: &'a [u8],
+    sources: Vec<Source<C>>,
+) -> Result<Evidence<'a>, RunError>
+    requires tries { All (MayBeTried C.allowed) sources.items }
+    ensures ok { IfOk result (IsEvidenceOfSources (MayGive C.gives) committee.now sources.items) }
+    ensures cause { IfOk result (λ e. AllZip (IsStatusCaused C.failed) sources.items e.sources) }
+    ensures committee { OnOk result (IsCommittee committee.now) }
+    ensures refused { IfErr result (IsRunRefusal (MayGive C.gives) committee.now sources.items) }
+    ensures unwritten { IfErr result (λ e. e ≢ NotWritten) }
+{
+    let view = CommitteeView::parse(committee)?;
+    let evidence = collect(rt, alloc, &view, sources)?;
+    Ok(evidence)
+}
+
+// Audits evidence, and writes the report.
+fn report_on<W: Sink>(alloc: Global, evidence: &Evidence, sink: &mut W) -> Result<Report, RunError>
+    ensures audit { IfOk result (IsAudit evidence.now) }
+    ensures accepted { IfOk result (λ r. All (IsProof evidence.now.committee) r.verdicts) }
+    ensures more_than_f { IfOk result (λ r. IsSome r.conflict → f_of evidence.now.committee + 1 ≤ length r.verdicts) }
+    ensures wrote { IfOk result (λ r. Wrote (W.text sink.old) (W.text sink.new) (report_text evidence.now.sources r)) }
+    ensures no_failure { OnOk result (W.failed sink.new ≡ W.failed sink.old) }
+    ensures refused { IfErr result IsMemoryOrSink }
+    ensures memory { IsErrOf result RunError.Memory → sink.new ≡ sink.old }
+    ensures sink { IsErrOf result RunError.Sink → (r : ReportValue) × IsAudit evidence.now r × WrotePart (W.text sink.old) (W.text sink.new) (report_text evidence.now.sources r) }
+    ensures cause { IsErrOf result RunError.Sink → W.failed sink.new ≡ one_more (W.failed sink.old) }
+{
+    let report = audit(alloc, evidence)?;
+    write_report(alloc, evidence, &report, sink)?;
+    Ok(report)
+}
+
+/// Reads the sources, each in a thread of its own where one can be made, audits what they show together under the
+/// committee, and writes the lines of the report, as docs/FORMATS.md, "Report", lays them out. Each source has 1 to 3
+/// tries, and no more than its connector allows. Nothing is written before all else is done.
+///
+/// In this order: `Memory`, `Committee`, `Collision`, `Sink`. After `Sink` a first part of the lines was written, and
+/// after the others nothing was. A source that fails refuses nothing: its line says so.
+///
+/// Where each source keeps nothing of its log back, and the logs prove two commits that conflict, with no two different
+/// headers of one id, it answers `Memory` or `Sink`, or a source is reported as failed, or the report has verdicts on
+/// more than f replicas, each of which the checker accepts.
+pub fn audit_run<R: Threads + Sync, C: Connector + Send, W: Sink>(
+    rt: &R,
+    alloc: Global,
+    committee: &[u8],
+    sources: Vec<Source<C>>,
+    sink: &mut W,
+) -> Result<Report, RunError>
+    requires tries { All (MayBeTried C.allowed) sources.items }
+    ensures ok { IfOk result (λ r. (e : EvidenceValue) × IsAuditRun (MayGive C.gives) (IsStatusCaused C.failed) committee.now sources.items e r × Wrote (W.text sink.old) (W.text sink.new) (report_text e.sources r)) }
+    ensures accepted { IfOk result (λ r. All (IsProof committee.now) r.verdicts) }
+    ensures no_failure { OnOk result (W.failed sink.new ≡ W.failed sink.old) }
+    ensures refused { IfErr result (IsRunRefusal (MayGive C.gives) committee.now sources.items) }
+    ensures unwritten { IfErr result (λ e. e ≢ NotWritten → sink.new ≡ sink.old) }
+    ensures sink { IsErrOf result RunError.Sink → (e : EvidenceValue) × (r : ReportValue) × IsAuditRun (MayGive C.gives) (IsStatusCaused C.failed) committee.now sources.items e r × WrotePart (W.text sink.old) (W.text sink.new) (report_text e.sources r) }
+    ensures cause { IsErrOf result RunError.Sink → W.failed sink.new ≡ one_more (W.failed sink.old) }
+    ensures accountability { (logs : List ReceivedLog) → IsCommittee committee.now → AllZip (IsCompleteSource C.gives) sources.items logs → ProveAConflict committee.now logs
+        → MatchResult result (λ r. (e : EvidenceValue) × IsAuditRun (MayGive C.gives) (IsStatusCaused C.failed) committee.now sources.items e r
+        × Wrote (W.text sink.old) (W.text sink.new) (report_text e.sources r) × IsAccounted committee.now e r) IsMemoryOrSink }
+{
+    a_complete_source_gives_its_log::<C>();
+    let evidence = read_sources(rt, alloc, committee, sources)?;
+    report_on(alloc, &evidence, sink)
+}
