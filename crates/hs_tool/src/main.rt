@@ -21,5 +21,13 @@ fn main(rt: HostRuntime) -> ExitCode {
         Fault::Memory.tell(&mut faults);
         return ExitCode::from(FAULT);
     };
-    ExitCode::from(run_tool(&rt, rt.alloc(), &words, &mut lines, &mut out, &mut faults))
+    ExitCode::from(run_tool(
+        &rt,
+        &rt,
+        rt.alloc(),
+        &words,
+        &mut lines,
+        &mut out,
+        &mut faults,
+    ))
 }

@@ -5,9 +5,7 @@
 mod failing_files;
 mod file_commands;
 mod line;
-mod programs;
 mod script;
 
 pub use failing_files::{FailingFiles, Failure};
-pub use programs::Programs;
 pub use script::run_script;

@@ -2,7 +2,6 @@
 
 use crate::file_commands::answer;
 use crate::line::{Line, line_of};
-use crate::programs::Programs;
 use std::fs::{File, Files};
 use std::io::Write;
 use std::{fs, io};
@@ -16,10 +15,15 @@ use streams::MemorySink;
 /// commands about files: `same FILE FILE`, `absent FILE`, `length FILE`, `mode FILE`, `folder FOLDER` for a new one,
 /// `join FILE PART..` to make a file of others, one behind the other, `zeros COUNT FILE` to make one of digits 0, and
 /// `link FILE NAME` to make a link to a file.
-pub fn run_script<R: Files<File = File> + Input + Print + AllocGlobal, P: Programs>(
-    rt: &R,
-    programs: &P,
-) -> io::Result<()> {
+///
+/// `programs` runs the program of a name on words, with the bytes on its standard input, its output and its faults, and
+/// answers its exit status, or none where there is no such program.
+pub fn run_script<
+    R: Files<File = File> + Input + Print + AllocGlobal,
+    P: Fn(&str, &[String], &[u8], &mut MemorySink, &mut MemorySink) -> Option<u8>,
+>(rt: &R, programs: &P) -> io::Result<()>
+    requires { P.IsAlwaysCallable programs.now }
+{
     for line in rt.lines(rt.alloc()) {
         let line = line?;
         if line.is_empty() || line.starts_with('#') {
@@ -32,11 +36,12 @@ pub fn run_script<R: Files<File = File> + Input + Print + AllocGlobal, P: Progra
     Ok(())
 }
 
-fn run_line<R: Files<File = File> + Print + AllocGlobal, P: Programs>(
-    rt: &R,
-    programs: &P,
-    line: &str,
-) -> io::Result<()> {
+fn run_line<
+    R: Files<File = File> + Print + AllocGlobal,
+    P: Fn(&str, &[String], &[u8], &mut MemorySink, &mut MemorySink) -> Option<u8>,
+>(rt: &R, programs: &P, line: &str) -> io::Result<()>
+    requires { P.IsAlwaysCallable programs.now }
+{
     let words = line.split(' ').collect::<Vec<&str>>(rt.alloc())?;
     match answer(rt, &words) {
         Ok(Some(answer)) => println!(rt; "{answer}"),
@@ -45,11 +50,12 @@ fn run_line<R: Files<File = File> + Print + AllocGlobal, P: Programs>(
     }
 }
 
-fn run_program<R: Files<File = File> + Print + AllocGlobal, P: Programs>(
-    rt: &R,
-    programs: &P,
-    words: &[&str],
-) -> io::Result<()> {
+fn run_program<
+    R: Files<File = File> + Print + AllocGlobal,
+    P: Fn(&str, &[String], &[u8], &mut MemorySink, &mut MemorySink) -> Option<u8>,
+>(rt: &R, programs: &P, words: &[&str]) -> io::Result<()>
+    requires { P.IsAlwaysCallable programs.now }
+{
     let alloc = rt.alloc();
     let line = line_of(alloc, words)?;
     let Ok(input) = input_of(rt, &line) else {
@@ -60,7 +66,7 @@ fn run_program<R: Files<File = File> + Print + AllocGlobal, P: Programs>(
         out.fuse(0, true);
     }
     let mut faults = MemorySink::new(alloc);
-    let status = programs.run(line.name, &line.words, &input, &mut out, &mut faults);
+    let status = programs(line.name, &line.words, &input, &mut out, &mut faults);
     print_run(rt, out.bytes(), faults.bytes(), status)
 }
 

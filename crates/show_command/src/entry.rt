@@ -20,7 +20,7 @@ use log_format::{Entry, EntryRefusal};
 use std::alloc::{AllocError, Global};
 use wire::{append, u32_at};
 
-/// AddsText the line of payload `k` of a log, and the marks of its signatures. An error is want of memory.
+/// Adds the line of payload `k` of a log, and the marks of its signatures. An error is want of memory.
 pub(crate) fn put_payload(
     alloc: Global,
     text: &mut Vec<u8>,
@@ -37,7 +37,7 @@ pub(crate) fn put_payload(
     }
 }
 
-// AddsText the line of a payload that is no entry, unless that is want of memory.
+// Adds the line of a payload that is no entry, unless that is want of memory.
 fn put_refusal(text: &mut Vec<u8>, k: usize, refusal: EntryRefusal) -> Result<(), AllocError>
     ensures text { OnOk result (text.new.items ≡ text.old.items ++ refused_entry_line k (entry_refusal_number refusal) (entry_refusal_name refusal)) }
     ensures not_memory { OnOk result (refusal ≢ EntryRefusal.Memory) }
@@ -61,7 +61,7 @@ fn put_refused_entry(text: &mut Vec<u8>, k: usize, refusal: EntryRefusal) -> Res
     append(text, b"\n")
 }
 
-// AddsText the line of entry `k`.
+// Adds the line of entry `k`.
 fn put_entry(
     text: &mut Vec<u8>,
     marks: &mut Vec<Mark>,

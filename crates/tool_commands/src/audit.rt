@@ -4,19 +4,17 @@ ghost use Rattle.std.specs.Prelude.{◌≢◌, IfErr};
 ghost use Rattle.tool_commands.specs.Writes.{CountsWrites};
 
 use crate::fault::{Fault, Place};
+use crate::files::{read, read_committee};
 use crate::new_file::replace_file;
 use blocks::CommitteeView;
 use culprit_search::{ReportError, Verdict, audit, write_report};
-use file_input::read_file;
 use parallel_verify::{Evidence, EvidenceRefusal, SourceText, evidence_of};
 use std::alloc::Global;
 use std::fs;
 use std::fs::{File, Files};
 use streams::Sink;
+use tool_words::number;
 use wire::{LONGEST_PAYLOAD, MOST_ENTRIES};
-
-/// How much of a committee's file is read, in bytes. The greatest committee has 1,744.
-const MOST_OF_A_COMMITTEE: u64 = 16_384;
 
 /// How much of an export is read, in bytes: the magic, 4,096 frames of 65,536 bytes with their lengths, and the
 /// end mark.
@@ -44,14 +42,6 @@ impl<'a> Source<'a> {
     }
 }
 
-// A number below 65,536 in its one spelling: digits alone, and none of them a leading zero.
-fn number(word: &str) -> Option<u16> {
-    if word.starts_with('+') || (word.starts_with('0') && word != "0") {
-        return None;
-    }
-    word.parse::<u16>().ok()
-}
-
 /// Audits the exports that the words name, under the committee of the file. Prints the report, and then writes the
 /// verdict on each culprit to a file of `folder`, new or in place of what was there. Where `folder` is no folder, no
 /// source is read and nothing printed. Answers whether there are culprits.
@@ -66,7 +56,7 @@ pub fn audit_files<'a, F: Files<File = File>, W: Sink>(
     ensures { CountsWrites result (W.failed out.old) (W.failed out.new) }
 {
     let sources = sources_of(alloc, words)?;
-    let bytes = read(rt, alloc, committee, MOST_OF_A_COMMITTEE)?;
+    let bytes = read_committee(rt, alloc, committee)?;
     let committee = match CommitteeView::parse(&bytes) {
         Ok(committee) => committee,
         Err(refusal) => return Err(Fault::Committee(refusal)),
@@ -108,21 +98,6 @@ fn see_folder<'a, F: Files<File = File>>(rt: &F, folder: &'a str) -> Result<(), 
         Ok(found) if found.is_dir() => Ok(()),
         Ok(_) => Err(fault),
         Err(error) => Err(Fault::unless_memory(&error, fault)),
-    }
-}
-
-// The first bytes of a file.
-fn read<'a, F: Files<File = File>>(
-    rt: &F,
-    alloc: Global,
-    path: &'a str,
-    most: u64,
-) -> Result<Vec<u8>, Fault<'a>>
-    ensures { IfErr result (λ fault. fault ≢ Fault.Output) }
-{
-    match read_file(rt, alloc, path, most) {
-        Ok(bytes) => Ok(bytes),
-        Err(fault) => Err(Fault::of_input(fault, path)),
     }
 }
 

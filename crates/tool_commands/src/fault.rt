@@ -6,7 +6,7 @@ ghost use Rattle.faults.specs.Counting.{Counts};
 ghost use Rattle.streams.specs.Streams.{Wrote, WrotePart};
 ghost use Rattle.printed_lines.specs.Printed.{Told};
 ghost use Rattle.key_files.specs.KeyFiles.{file_name};
-ghost use Rattle.tool_commands.specs.FaultLines.{tool_fault_line, place_line, source_fault_line, verdict_behind};
+ghost use Rattle.tool_commands.specs.FaultLines.{tool_fault_line, place_line, source_fault_line, store_fault_line, verdict_behind};
 
 use blocks::CommitteeRefusal;
 use file_input::InputFault;
@@ -36,6 +36,10 @@ pub enum Fault<'a> {
     Collision,
     /// The lines could not be written, or not all.
     Output,
+    /// A replica's index store, log or desk is refused, under this number of its own table.
+    Store(u8),
+    /// The receipts of a desk are not those of its log.
+    Receipts,
 }
 
 /// The path of a file.
@@ -45,6 +49,8 @@ pub enum Place<'a> {
     Path(&'a str),
     /// A file of a replica's key, in a folder that a word gave.
     Key { folder: &'a str, file: KeyFile },
+    /// The lock of a replica, in a folder that a word gave.
+    Lock { folder: &'a str },
     /// The verdict on a replica, in a folder that a word gave.
     Verdict { folder: &'a str, replica: u16 },
 }
@@ -95,6 +101,8 @@ impl<'a> Fault<'a> {
             Fault::Source(i) => write_all(out, source_fault(*i).as_bytes()),
             Fault::Collision => write_all(out, b"fault collision\n"),
             Fault::Output => write_all(out, b"fault output\n"),
+            Fault::Store(number) => write_all(out, store_fault(*number).as_bytes()),
+            Fault::Receipts => write_all(out, b"fault receipts\n"),
         }
     }
 }
@@ -113,6 +121,7 @@ impl Place<'_> {
                 folder,
                 in_folder(*file).as_bytes(),
             ),
+            Place::Lock { folder } => write_file_fault(out, folder, b"/lock"),
             Place::Verdict { folder, replica } => {
                 write_file_fault(out, folder, verdict_name(*replica).as_bytes())
             }
@@ -147,6 +156,16 @@ fn source_fault(i: usize) -> Line
     let mut line = Line::new();
     line.push(b"fault source ");
     line.push(Buffer::new().format(i).as_bytes());
+    line.push(b"\n");
+    line
+}
+
+fn store_fault(number: u8) -> Line
+    ensures { result ≡ store_fault_line number }
+{
+    let mut line = Line::new();
+    line.push(b"fault store ");
+    line.push(Buffer::new().format(number).as_bytes());
     line.push(b"\n");
     line
 }

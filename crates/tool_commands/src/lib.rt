@@ -1,11 +1,13 @@
-//! The commands of the operator's tool, over handed-in words, files and streams. Needs no threads or network.
+//! The commands of the operator's tool, over handed-in words, files and streams. Needs no network.
 #![tactic(auto)]
 
 mod audit;
 mod committee;
 mod fault;
+mod files;
 mod keygen;
 mod new_file;
+mod replica;
 mod tool;
 
 pub use fault::{Fault, Place};

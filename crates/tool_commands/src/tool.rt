@@ -1,17 +1,18 @@
 //! The tool over handed-in words and streams, so that tests run it whole.
 
-ghost use Rattle.std.specs.Prelude.{◌≡◌, ◌≢◌, ◌⊎◌, IfOk};
-ghost use Rattle.printed_lines.specs.Printed.{Told};
-ghost use Rattle.tool_commands.specs.FaultLines.{tool_fault_line};
-ghost use Rattle.tool_commands.specs.Writes.{CountsOutput, CountsWrites};
-ghost use Rattle.tool_commands.specs.declared.fault.Fault.{Fault as FaultValue};
+ghost use Rattle.std.specs.Prelude.{◌≡◌, ◌≢◌, ◌⊎◌, ◌↔◌};
+ghost use Rattle.tool_commands.specs.Writes.{CountsWrites, TellsFault};
 
 use crate::audit::audit_files;
 use crate::committee::committee;
 use crate::fault::Fault;
 use crate::keygen::keygen;
+use crate::replica::replica;
+use replica_command::Ending;
 use std::alloc::Global;
 use std::fs::{File, Files};
+use std::sync::Wait;
+use std::thread::Threads;
 use streams::{Feed, Sink, write_all};
 use tool_words::{Command, WordsFault, read_words};
 
@@ -27,27 +28,30 @@ pub const CULPRITS: u8 = 3;
 /// How the tool is called: a line for each command.
 const USAGE: &[u8] = b"hs_tool keygen SEED DIR
 hs_tool committee F OUT KEY..
+hs_tool replica COMMITTEE R DIR
 hs_tool audit COMMITTEE OUTDIR SOURCE..
 ";
 
 /// Does what the words ask for, and answers the exit status: `DONE`, `CULPRITS` or `FAULT`. Facts go to `out`, and with
-/// `FAULT` a fault's line to `faults`, which is else left alone: `fault output` exactly where a write of facts failed. The
-/// words stand without the program's name; no command reads `lines` yet.
-pub fn run_tool<F: Files<File = File>, R: Feed, W: Sink, E: Sink>(
-    rt: &F,
+/// `FAULT` a fault's line to `faults`, which is else left alone: `fault output` exactly where a write of facts failed. Where
+/// a disk failed under a replica, the facts say it, and there is no fault's line with `FAULT`. The words stand without the
+/// program's name; only `replica` reads `lines`.
+pub fn run_tool<F: Files<File = File>, T: Threads + Wait + Sync, R: Feed, W: Sink, E: Sink>(
+    files: &F,
+    rt: &T,
     alloc: Global,
     words: &[String],
-    _lines: &mut R,
+    lines: &mut R,
     out: &mut W,
     faults: &mut E,
 ) -> u8
     ensures status { (result ≡ 0) ⊎ (result ≡ 2) ⊎ (result ≡ 3) }
     ensures done { result ≢ 2 → (faults.new ≡ faults.old) × (W.failed out.new ≡ W.failed out.old) }
-    ensures told { result ≡ 2 → (fault : FaultValue) × CountsOutput fault (W.failed out.old) (W.failed out.new)
-        × Told (E.text faults.old) (E.text faults.new) (E.failed faults.old) (E.failed faults.new) (tool_fault_line fault) }
+    ensures told { result ≡ 2 → ((faults.new ≡ faults.old) × (W.failed out.new ≡ W.failed out.old))
+        ⊎ TellsFault (E.text faults.old) (E.text faults.new) (E.failed faults.old) (E.failed faults.new) (W.failed out.old) (W.failed out.new) }
 {
-    match run(rt, alloc, words, out) {
-        Ok(status) => status,
+    match run(files, rt, alloc, words, lines, out) {
+        Ok(ended) => ended.status(),
         Err(fault) => {
             fault.tell(faults);
             FAULT
@@ -55,44 +59,90 @@ pub fn run_tool<F: Files<File = File>, R: Feed, W: Sink, E: Sink>(
     }
 }
 
-fn run<'a, F: Files<File = File>, W: Sink>(
-    rt: &F,
+// How a command ended.
+#[derive(Clone, Copy, Debug, PartialEq, Eq)]
+enum Ended {
+    Done,
+    Culprits,
+    Stopped,
+}
+
+impl Ended {
+    fn of(ending: Ending) -> Ended
+        ensures done { ending ≡ Ending.Done → result ≡ Ended.Done }
+        ensures stopped { ending ≡ Ending.Stopped → result ≡ Ended.Stopped }
+    {
+        match ending {
+            Ending::Done => Ended::Done,
+            Ending::Stopped => Ended::Stopped,
+        }
+    }
+
+    fn status(self) -> u8
+        ensures done { result ≡ 0 ↔ self ≡ Ended.Done }
+        ensures stopped { result ≡ 2 ↔ self ≡ Ended.Stopped }
+        ensures culprits { result ≡ 3 ↔ self ≡ Ended.Culprits }
+        ensures status { (result ≡ 0) ⊎ (result ≡ 2) ⊎ (result ≡ 3) }
+    {
+        match self {
+            Ended::Done => DONE,
+            Ended::Culprits => CULPRITS,
+            Ended::Stopped => FAULT,
+        }
+    }
+}
+
+fn run<'a, F: Files<File = File>, T: Threads + Wait + Sync, R: Feed, W: Sink>(
+    files: &F,
+    rt: &T,
     alloc: Global,
     words: &'a [String],
+    lines: &mut R,
     out: &mut W,
-) -> Result<u8, Fault<'a>>
-    ensures status { IfOk result (λ status. (status ≡ 0) ⊎ (status ≡ 3)) }
-    ensures writes { CountsWrites result (W.failed out.old) (W.failed out.new) }
+) -> Result<Ended, Fault<'a>>
+    ensures { CountsWrites result (W.failed out.old) (W.failed out.new) }
 {
     match read_words(alloc, words) {
-        Ok(command) => done(rt, alloc, &command, out),
+        Ok(command) => done(files, rt, alloc, &command, lines, out),
         Err(WordsFault::Usage) => Err(Fault::Usage),
         Err(WordsFault::Memory) => Err(Fault::Memory),
     }
 }
 
-fn done<'a, F: Files<File = File>, W: Sink>(
-    rt: &F,
+fn done<'a, F: Files<File = File>, T: Threads + Wait + Sync, R: Feed, W: Sink>(
+    files: &F,
+    rt: &T,
     alloc: Global,
     command: &Command<'a>,
+    lines: &mut R,
     out: &mut W,
-) -> Result<u8, Fault<'a>>
-    ensures status { IfOk result (λ status. (status ≡ 0) ⊎ (status ≡ 3)) }
-    ensures writes { CountsWrites result (W.failed out.old) (W.failed out.new) }
+) -> Result<Ended, Fault<'a>>
+    ensures { CountsWrites result (W.failed out.old) (W.failed out.new) }
 {
     match command {
         Command::Usage => write_all(out, USAGE).map_err(|_| Fault::Output)?,
-        Command::Keygen { seed, folder } => keygen(rt, alloc, seed, folder, out)?,
-        Command::Committee { f, out: path, keys } => committee(rt, alloc, *f, path, keys, out)?,
+        Command::Keygen { seed, folder } => keygen(files, alloc, seed, folder, out)?,
+        Command::Committee { f, out: path, keys } => committee(files, alloc, *f, path, keys, out)?,
+        Command::Replica {
+            committee,
+            replica: number,
+            folder,
+            workers,
+        } => {
+            let ending = replica(
+                files, rt, alloc, committee, *number, folder, *workers, lines, out,
+            )?;
+            return Ok(Ended::of(ending));
+        }
         Command::Audit {
             committee,
             folder,
             sources,
         } => {
-            if audit_files(rt, alloc, committee, folder, sources, out)? {
-                return Ok(CULPRITS);
+            if audit_files(files, alloc, committee, folder, sources, out)? {
+                return Ok(Ended::Culprits);
             }
         }
     }
-    Ok(DONE)
+    Ok(Ended::Done)
 }

@@ -1,5 +1,7 @@
 //! What the words of a command line ask for.
 
+ghost use Rattle.std.specs.Prelude.{◌≤◌};
+
 /// What the words ask for.
 #[derive(Debug, Drop)]
 pub enum Command<'a> {
@@ -16,10 +18,43 @@ pub enum Command<'a> {
         out: &'a str,
         keys: Vec<&'a str>,
     },
+    /// `replica COMMITTEE R DIR [--workers W]`
+    Replica {
+        committee: &'a str,
+        replica: u16,
+        folder: &'a str,
+        workers: Workers,
+    },
     /// `audit COMMITTEE OUTDIR SOURCE..`
     Audit {
         committee: &'a str,
         folder: &'a str,
         sources: Vec<&'a str>,
     },
+}
+
+/// How many workers a replica has: 1 to 8.
+#[derive(Clone, Copy, Debug)]
+pub struct Workers {
+    count: u8,
+    pub ghost least: { 1 ≤ count },
+    pub ghost most: { count ≤ 8 },
+}
+
+impl Workers {
+    /// So many workers, where they are 1 to 8.
+    pub fn of(count: u16) -> Option<Workers> {
+        if count < 1 || count > 8 {
+            return None;
+        }
+        Some(Workers { count: count as u8 })
+    }
+
+    /// How many they are.
+    pub fn count(self) -> u8
+        ensures least { 1 ≤ result }
+        ensures most { result ≤ 8 }
+    {
+        self.count
+    }
 }

@@ -7,6 +7,7 @@ use std::alloc::{AllocError, Global};
 pub(crate) fn parsed<'a>(alloc: Global, words: &'a [String]) -> Result<ArgMatches<'a>, Error> {
     let grammar = with_keygen(alloc, grammar(alloc))?;
     let grammar = with_committee(alloc, grammar)?;
+    let grammar = with_replica(alloc, grammar)?;
     let grammar = with_audit(alloc, grammar)?;
     grammar.try_get_matches_from(words)
 }
@@ -35,6 +36,15 @@ fn with_committee<'a>(alloc: Global, grammar: Grammar<'a>) -> Result<Grammar<'a>
         .arg(Arg::new(alloc, "OUT").required(true))?
         .arg(keys)?;
     grammar.subcommand(committee)
+}
+
+fn with_replica<'a>(alloc: Global, grammar: Grammar<'a>) -> Result<Grammar<'a>, AllocError> {
+    let replica = Grammar::new(alloc, "replica")
+        .arg(Arg::new(alloc, "COMMITTEE").required(true))?
+        .arg(Arg::new(alloc, "R").required(true))?
+        .arg(Arg::new(alloc, "DIR").required(true))?
+        .arg(Arg::new(alloc, "W").long("workers"))?;
+    grammar.subcommand(replica)
 }
 
 fn with_audit<'a>(alloc: Global, grammar: Grammar<'a>) -> Result<Grammar<'a>, AllocError> {

@@ -6,5 +6,5 @@ mod command;
 mod grammar;
 mod reading;
 
-pub use command::Command;
-pub use reading::{WordsFault, read_words};
+pub use command::{Command, Workers};
+pub use reading::{WordsFault, number, read_words};

@@ -1,6 +1,6 @@
 //! From words to what they ask for.
 
-use crate::command::Command;
+use crate::command::{Command, Workers};
 use crate::grammar::parsed;
 use clap::ArgMatches;
 use clap::error::ErrorKind;
@@ -42,6 +42,7 @@ fn command<'a>(alloc: Global, matches: &ArgMatches<'a>) -> Result<Command<'a>, W
     match matches.subcommand() {
         Some(("keygen", given)) => keygen(given),
         Some(("committee", given)) => committee(alloc, given),
+        Some(("replica", given)) => replica(given),
         Some(("audit", given)) => audit(alloc, given),
         _ => Err(WordsFault::Usage),
     }
@@ -76,6 +77,35 @@ fn committee<'a>(alloc: Global, given: &ArgMatches<'a>) -> Result<Command<'a>, W
     })
 }
 
+// R below 65,536, and one worker where none is asked for.
+fn replica<'a>(given: &ArgMatches<'a>) -> Result<Command<'a>, WordsFault> {
+    let (Some(committee), Some(replica), Some(folder)) = (
+        given.get_str("COMMITTEE"),
+        given.get_str("R"),
+        given.get_str("DIR"),
+    ) else {
+        return Err(WordsFault::Usage);
+    };
+    if committee.is_empty() || folder.is_empty() {
+        return Err(WordsFault::Usage);
+    }
+    let (Some(replica), Some(workers)) = (
+        number(replica),
+        number(given.get_str("W").unwrap_or("1")),
+    ) else {
+        return Err(WordsFault::Usage);
+    };
+    let Some(workers) = Workers::of(workers) else {
+        return Err(WordsFault::Usage);
+    };
+    Ok(Command::Replica {
+        committee,
+        replica,
+        folder,
+        workers,
+    })
+}
+
 // None or more sources. What each says is not judged here.
 fn audit<'a>(alloc: Global, given: &ArgMatches<'a>) -> Result<Command<'a>, WordsFault> {
     let (Some(committee), Some(folder)) = (given.get_str("COMMITTEE"), given.get_str("OUTDIR"))
@@ -100,11 +130,16 @@ fn has_empty(words: &[&str]) -> bool {
     words.iter().any(|word| word.is_empty())
 }
 
-// A number of 1 to 10, in its one spelling.
-fn faulty(word: &str) -> Option<u16> {
-    if word.starts_with('0') || word.starts_with('+') {
+/// A number below 65,536 in its one spelling: digits alone, and no leading zero.
+pub fn number(word: &str) -> Option<u16> {
+    if word.starts_with('+') || (word.starts_with('0') && word != "0") {
         return None;
     }
-    let f = word.parse::<u16>().ok()?;
+    word.parse::<u16>().ok()
+}
+
+// 1 to 10.
+fn faulty(word: &str) -> Option<u16> {
+    let f = number(word)?;
     (1 <= f && f <= 10).then_some(f)
 }

@@ -1,0 +1,64 @@
+//! Why a replica is not run to its end.
+
+ghost use Rattle.std.specs.Prelude.{◌≡◌, ◌≤◌, length};
+ghost use Rattle.replica_command.specs.Folders.{name_in_folder};
+
+use key_files::KeyFile;
+use std::alloc::{AllocError, AllocFailed};
+
+/// A file of a replica's folder.
+#[derive(Clone, Copy, Debug, PartialEq, Eq)]
+pub enum ReplicaFile {
+    /// The file that a running replica holds a lock on.
+    Lock,
+    /// A file of its key.
+    Key(KeyFile),
+}
+
+impl ReplicaFile {
+    /// Its name in the folder.
+    pub fn name(self) -> &'static str
+        ensures name { result.now ≡ name_in_folder self }
+        ensures short { length result.now ≤ 9 }
+    {
+        match self {
+            ReplicaFile::Lock => "lock",
+            ReplicaFile::Key(file) => file.name(),
+        }
+    }
+}
+
+/// Why a replica was not run to its end.
+#[derive(Clone, Copy, Debug, PartialEq, Eq)]
+pub enum ReplicaFault {
+    /// Memory was refused.
+    Memory,
+    /// This file of the folder can't be opened, locked or read, or is no seed of a key.
+    File(ReplicaFile),
+    /// The index store, the log or the desk is refused, under this number of its own table.
+    Store(u8),
+    /// The receipts are not those of the log.
+    Receipts,
+    /// The lines could not be written, or not all.
+    Output,
+}
+
+impl From<AllocError> for ReplicaFault {
+    ghost use Rattle.replica_command.specs.declared.fault.ReplicaFault.TheVariants.{Memory};
+
+    ghost from_gives = { λ _ fault. fault ≡ Memory };
+
+    fn from(_error: AllocError) -> Self {
+        ReplicaFault::Memory
+    }
+}
+
+impl<T: Drop> From<AllocFailed<T>> for ReplicaFault {
+    ghost use Rattle.replica_command.specs.declared.fault.ReplicaFault.TheVariants.{Memory};
+
+    ghost from_gives = { λ _ fault. fault ≡ Memory };
+
+    fn from(_error: AllocFailed<T>) -> Self {
+        ReplicaFault::Memory
+    }
+}
