@@ -27,10 +27,7 @@ pub fn source(
 }
 
 /// Adds a source.
-pub fn put<C: Connector>(
-    sources: &mut Vec<Source<C>>,
-    source: Source<C>,
-) -> Result<(), AllocError>
+pub fn put<C: Connector>(sources: &mut Vec<Source<C>>, source: Source<C>) -> Result<(), AllocError>
     requires all { All (MayBeTried C.allowed) sources.old.items }
     requires one { MayBeTried C.allowed source }
     ensures { OnOk result (All (MayBeTried C.allowed) sources.new.items) }
