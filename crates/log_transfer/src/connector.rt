@@ -53,6 +53,9 @@ pub trait Connector: Drop {
         ensures some { GivesSome (left self.now) }
         ensures next { (k f m : ℕ) → GivesSome (gives self.now k f m) };
 
+    /// Is told how many frames of the log are held, after each. For progress: nothing depends on it.
+    fn reached(&self, frames: u32) {}
+
     /// Something may still be given.
     ghost some: { (s : Self) → (c : Connection) × left s c };
 }

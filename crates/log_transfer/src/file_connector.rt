@@ -1,23 +1,42 @@
 //! A file as a source.
 
-ghost use Rattle.std.specs.Prelude.{◌≡◌, ◌≤◌, IfOk, length, ⊤};
+ghost use Rattle.std.specs.Prelude.{◌≡◌, ◌≤◌, ◌+◌, IfOk, length, ⊤};
 ghost use Rattle.log_transfer.specs.Connections.{ended};
 
+use crate::budget::Budget;
 use crate::connector::Connector;
-use crate::tries::{counted, no_connection, read_some};
+use crate::tries::{counted, no_connection};
 use faults::Fault;
 use std::fs::{File, Files};
 use std::io;
 
-/// A file that holds the whole export of a log. It is opened at `connect`, and has one try, since of a file no later
-/// part can be asked for: a connect for frames behind the first is a fault. Of what it holds nothing is told, since no
-/// contract speaks of a file.
+// An open file, and what it may still be read for.
 #[derive(Drop)]
-pub struct FileConnector<'a, F: Files<File = File>> {
+struct OpenFile {
+    file: File,
+    budget: Budget,
+}
+
+/// A file that holds the whole export of a log. It is opened at `connect`, and has one try, since of a file no later
+/// part can be asked for: a connect for frames behind the first is a fault, and so is a read past the most bytes that a
+/// connection is read for, `MOST_OF_A_STREAM`. `Pull` and `fetch` end a stream before it gets there. Of what it holds
+/// nothing is told, since no contract speaks of a file.
+#[derive(Drop)]
+pub struct FileConnector<'a, F> {
     files: &'a F,
     path: &'a str,
-    file: Option<File>,
+    open: Option<OpenFile>,
     failures: u64,
+}
+
+impl OpenFile {
+    // Reads, unless the budget is spent.
+    fn read(&mut self, buffer: &mut [u8]) -> io::Result<usize>
+        ensures within { IfOk result (λ n. n ≤ length buffer.new) }
+        ensures taken { IfOk result (λ n. self.new.budget ≡ self.old.budget + n) }
+    {
+        self.budget.read(&mut self.file, buffer)
+    }
 }
 
 impl<'a, F: Files<File = File>> FileConnector<'a, F> {
@@ -28,18 +47,22 @@ impl<'a, F: Files<File = File>> FileConnector<'a, F> {
         FileConnector {
             files,
             path,
-            file: None,
+            open: None,
             failures: 0,
         }
     }
 
     // Opens the file, if it is asked for from its start.
-    fn open(&self, first: u32) -> io::Result<File> {
-        if first == 0 {
-            File::open(self.files, self.path)
-        } else {
-            Err(no_connection())
+    fn open(&self, first: u32) -> io::Result<OpenFile>
+        ensures fresh { IfOk result (λ o. o.budget ≡ 0) }
+    {
+        if first != 0 {
+            return Err(no_connection());
         }
+        Ok(OpenFile {
+            file: File::open(self.files, self.path)?,
+            budget: Budget::new(),
+        })
     }
 }
 
@@ -53,17 +76,17 @@ impl<'a, F: Files<File = File>> Connector for FileConnector<'a, F> {
     ghost allowed = { λ s. 1 };
 
     fn connect(&mut self, first: u32, _most: u32) -> Result<(), Fault> {
-        self.file = None;
+        self.open = None;
         let opened = self.open(first);
-        self.file = Some(counted(&mut self.failures, opened)?);
+        self.open = Some(counted(&mut self.failures, opened)?);
         Ok(())
     }
 
     fn read(&mut self, buffer: &mut [u8]) -> Result<usize, Fault> {
-        let Some(file) = &mut self.file else {
+        let Some(open) = &mut self.open else {
             return counted(&mut self.failures, Err(no_connection()));
         };
-        let outcome = read_some(file, buffer);
+        let outcome = open.read(buffer);
         counted(&mut self.failures, outcome)
     }
 

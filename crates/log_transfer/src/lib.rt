@@ -2,6 +2,7 @@
 //! once, over a few connections, and how the last one ended. Needs Net for sockets alone.
 #![tactic(auto)]
 
+mod budget;
 mod connector;
 mod error;
 mod fetching;
@@ -21,7 +22,9 @@ mod stream;
 mod taking;
 mod tcp_connector;
 mod tries;
+mod watched;
 
+pub use budget::{Budget, MOST_OF_A_STREAM};
 pub use connector::Connector;
 pub use error::FetchError;
 pub use faults::Fault;
@@ -35,3 +38,4 @@ pub use pull::{Pull, Step};
 pub use puller::Puller;
 pub use source_connector::SourceConnector;
 pub use tcp_connector::{CONNECT_SECONDS, CONNECTION_SECONDS, TcpConnector, WAIT_SECONDS};
+pub use watched::{Watch, Watched};

@@ -44,6 +44,7 @@ pub(crate) fn next_frame<C: Connector>(
     match advance(connector, place, out.as_mut_slice()) {
         Some(len) => {
             out.truncate(len);
+            connector.reached(place.held);
             Ok(Step::Frame)
         }
         None => {

@@ -13,16 +13,20 @@ use std::net::{Net, TcpStream};
 use std::time::Clock;
 
 /// A server, or a file. It tells nothing of what it gives.
+///
+/// It may be sent to another thread where both handles are `Sync`, and what else they open may be sent too:
+/// `R: Net<Stream = TcpStream, Listener = TcpListener> + Clock + Sync`, and `F: Files<File = File> + Sync` with
+/// `F::Dir: Send`.
 #[derive(Drop)]
-pub enum SourceConnector<'a, R: Net<Stream = TcpStream> + Clock + Files<File = File>> {
+pub enum SourceConnector<'a, R, F> {
     /// A server.
     Tcp(TcpConnector<'a, R>),
     /// A file.
-    File(FileConnector<'a, R>),
+    File(FileConnector<'a, F>),
 }
 
-impl<'a, R: Net<Stream = TcpStream> + Clock + Files<File = File>> Connector
-    for SourceConnector<'a, R> {
+impl<'a, R: Net<Stream = TcpStream> + Clock, F: Files<File = File>> Connector
+    for SourceConnector<'a, R, F> {
     ghost gives = { λ s k first most c. ⊤ };
 
     ghost left = { λ s c. ⊤ };

@@ -1,12 +1,13 @@
 //! A server as a source.
 
-ghost use Rattle.std.specs.Prelude.{◌≡◌, ◌≤◌, IfOk, length, ⊤};
+ghost use Rattle.std.specs.Prelude.{◌≡◌, ◌≤◌, ◌+◌, IfOk, length, ⊤};
 ghost use Rattle.log_transfer.specs.Connections.{ended};
 ghost use Rattle.log_transfer.specs.declared.place.TheConstants.{MOST_TRIES};
 
+use crate::budget::Budget;
 use crate::connector::Connector;
 use crate::place::MOST_TRIES;
-use crate::tries::{counted, no_connection, read_some};
+use crate::tries::{counted, no_connection};
 use faults::Fault;
 use log_format::Request;
 use std::io;
@@ -26,21 +27,23 @@ pub const CONNECTION_SECONDS: u64 = 600;
 // How many of a host's addresses are tried.
 const MOST_ADDRESSES: usize = 4;
 
-// A connection, and when it was opened.
+// A connection, when it was opened, and what it may still be read for.
 #[derive(Drop)]
 struct Open {
     stream: TcpStream,
     since: Instant,
+    budget: Budget,
 }
 
 /// A server that answers the request for a part of a log by its export. Each connection sends one request and reads
 /// what comes. Of what a server gives nothing is told, since no contract speaks of a socket.
 ///
 /// A connect that takes over 10 seconds for each of the host's first four addresses is a fault, and so are a read or
-/// write that waits over 30 seconds and a read in a connection that is over 10 minutes old. How long the look-up of a
-/// host's name takes is not bounded here.
+/// write that waits over 30 seconds, a read in a connection that is over 10 minutes old and one past the most bytes that
+/// a connection is read for, `MOST_OF_A_STREAM`. `Pull` and `fetch` end a stream before it gets there. How long the
+/// look-up of a host's name takes is not bounded here.
 #[derive(Drop)]
-pub struct TcpConnector<'a, R: Net<Stream = TcpStream> + Clock> {
+pub struct TcpConnector<'a, R> {
     net: &'a R,
     address: &'a str,
     open: Option<Open>,
@@ -49,23 +52,30 @@ pub struct TcpConnector<'a, R: Net<Stream = TcpStream> + Clock> {
 
 impl Open {
     // Sends the request over a new connection.
-    fn ask<R: Clock>(clock: &R, stream: TcpStream, request: Request) -> io::Result<Open> {
+    fn ask<R: Clock>(clock: &R, stream: TcpStream, request: Request) -> io::Result<Open>
+        ensures fresh { IfOk result (λ o. o.budget ≡ 0) }
+    {
         let mut stream = stream;
         let since = Instant::now(clock)?;
         stream.set_read_timeout(Some(Duration::from_secs(WAIT_SECONDS)))?;
         stream.set_write_timeout(Some(Duration::from_secs(WAIT_SECONDS)))?;
         stream.write_all(&request.to_bytes())?;
-        Ok(Open { stream, since })
+        Ok(Open {
+            stream,
+            since,
+            budget: Budget::new(),
+        })
     }
 
-    // Reads, unless the connection is too old.
+    // Reads, unless the connection is too old or its budget is spent.
     fn read<R: Clock>(&mut self, clock: &R, buffer: &mut [u8]) -> io::Result<usize>
-        ensures { IfOk result (λ n. n ≤ length buffer.new) }
+        ensures within { IfOk result (λ n. n ≤ length buffer.new) }
+        ensures taken { IfOk result (λ n. self.new.budget ≡ self.old.budget + n) }
     {
         if self.since.elapsed(clock)?.as_secs() >= CONNECTION_SECONDS {
             return Err(io::Error::from(ErrorKind::TimedOut));
         }
-        read_some(&mut self.stream, buffer)
+        self.budget.read(&mut self.stream, buffer)
     }
 }
 
@@ -97,7 +107,9 @@ impl<'a, R: Net<Stream = TcpStream> + Clock> TcpConnector<'a, R> {
     }
 
     // Connects, and sends the request.
-    fn ask(&self, request: Request) -> io::Result<Open> {
+    fn ask(&self, request: Request) -> io::Result<Open>
+        ensures fresh { IfOk result (λ o. o.budget ≡ 0) }
+    {
         let stream = self.connect_to_one()?;
         Open::ask(self.net, stream, request)
     }

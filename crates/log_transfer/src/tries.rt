@@ -1,6 +1,7 @@
 //! What connectors over files and sockets share.
 
 ghost use Rattle.std.specs.Prelude.{◌≡◌, ◌≤◌, IfOk, Ok, length};
+ghost use Rattle.std.specs.Io.KnownBytes.{ReadConsumes};
 ghost use Rattle.faults.specs.Counting.{Counts};
 
 use faults::Fault;
@@ -17,7 +18,9 @@ pub(crate) fn no_connection() -> io::Error {
 
 // Fills the front of the buffer, and tries again where a signal came between.
 pub(crate) fn read_some<R: Read>(stream: &mut R, buffer: &mut [u8]) -> io::Result<usize>
-    ensures { IfOk result (λ n. n ≤ length buffer.new) }
+    ensures within { IfOk result (λ n. n ≤ length buffer.new) }
+    ensures length { length buffer.new ≡ length buffer.old }
+    ensures bytes { ReadConsumes (R.remaining stream.old) (R.remaining stream.new) result buffer.new }
 {
     for _ in 0..MOST_INTERRUPTIONS {
         match stream.read(buffer) {

@@ -1,11 +1,14 @@
 //! Files and a server on the loopback as sources, and a source that is read one frame at a time.
 
+ghost use Rattle.log_transfer.specs.Places.{MayTry};
+
 use crate::serve_tests::log_of_nine;
 use crate::sources::{cut_in_the_fifth, gives, has, source_of};
+use crate::watched_tests::{SOURCE, Steps};
 use fixtures::exports::nine_entries;
 use log_format::{REQUEST_LEN, Status};
 use log_serving::serve;
-use log_transfer::{Connector, FileConnector, Pull, SourceConnector, Step, TcpConnector};
+use log_transfer::{Connector, FileConnector, Pull, SourceConnector, Step, TcpConnector, Watched};
 use stable_log::MemoryDisk;
 use std::alloc::Global;
 use std::fs::{File, Files};
@@ -29,7 +32,9 @@ fn a_file_is_read(rt: HostRuntime) -> Result<(), Fail> {
         ("missing.hsl", 0, Status::Failed),
         (".", 0, Status::Failed),
     ] {
-        let mut source = SourceConnector::File(FileConnector::new(&rt, path));
+        let mut source: SourceConnector<HostRuntime, HostRuntime> = SourceConnector::File(
+            FileConnector::new(&rt, path),
+        );
         assert!(rt; gives(rt.alloc(), &mut source, 1, count, status), "{path}");
         assert!(rt;
             (source.failures() == 0) == (status != Status::Failed),
@@ -95,30 +100,64 @@ fn serve_two<R: Clock>(
     }
 }
 
-// A source in a thread of its own, and a server on the loopback.
-fn over_loopback<
-    R: Net<Listener = TcpListener, Stream = TcpStream>
-        + Files<File = File>
-        + Clock
-        + Threads
-        + Sync,
->(rt: &R, alloc: Global, log: &mut VoteLog<MemoryDisk>) -> io::Result<bool> {
-    let listener = TcpListener::bind(rt, "127.0.0.1:0")?;
-    listener.set_nonblocking(true)?;
-    let address = format!(in alloc; "{}", listener.local_addr()?)?;
-    let mut source = SourceConnector::Tcp(TcpConnector::new(rt, address.as_str()));
+// Whether a source that is read in a thread of its own gives all nine frames, while the listener serves two connections.
+fn comes_whole<
+    R: Net<Listener = TcpListener, Stream = TcpStream> + Clock + Threads + Sync,
+    C: Connector + Send,
+>(
+    rt: &R,
+    alloc: Global,
+    listener: &TcpListener,
+    log: &mut VoteLog<MemoryDisk>,
+    source: C,
+) -> io::Result<bool>
+    requires { MayTry (C.allowed source) 3 }
+{
+    let mut source = source;
     let (request, fetched) = join(
         rt,
-        || serve_two(rt, &listener, log),
+        || serve_two(rt, listener, log),
         move || gives(alloc, &mut source, 3, 9, Status::Whole) && source.failures() == 0,
     );
     Ok(fetched && request? == *b"HSL1\0\0\0\0\0\0\x10\x01")
 }
 
+// The same of a server on the loopback that is watched. Sockets and files have handles of their own.
+fn over_loopback<
+    R: Net<Listener = TcpListener, Stream = TcpStream> + Clock + Threads + Sync,
+    F: Files<File = File> + Sync,
+>(
+    rt: &R,
+    _files: &F,
+    alloc: Global,
+    log: &mut VoteLog<MemoryDisk>,
+    steps: &Steps,
+) -> io::Result<bool>
+where
+    F::Dir: Send,
+{
+    let listener = TcpListener::bind(rt, "127.0.0.1:0")?;
+    listener.set_nonblocking(true)?;
+    let address = format!(in alloc; "{}", listener.local_addr()?)?;
+    let source: SourceConnector<R, F> = SourceConnector::Tcp(TcpConnector::new(
+        rt,
+        address.as_str(),
+    ));
+    comes_whole(
+        rt,
+        alloc,
+        &listener,
+        log,
+        Watched::new(source, steps, SOURCE),
+    )
+}
+
 #[test]
 fn a_server_is_asked_twice(rt: HostRuntime) -> Result<(), Fail> {
     let mut log = log_of_nine(&rt);
-    assert!(rt; over_loopback(&rt, rt.alloc(), &mut log)?);
+    let steps = Steps::new();
+    assert!(rt; over_loopback(&rt, &rt, rt.alloc(), &mut log, &steps)?);
+    assert!(rt; steps.are(9));
     Ok(())
 }
 

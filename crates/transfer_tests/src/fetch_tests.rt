@@ -1,22 +1,13 @@
 //! Sources that break off. The stored export and the requests are an independent program's.
 
-use crate::sources::{FRAME, IN_THE_FIFTH, cut_in_the_fifth, gives, rest_from, source_of};
+use crate::sources::{IN_THE_FIFTH, cut_in_the_fifth, cut_source, gives, rest_from, source_of};
 use fixtures::exports::nine_entries;
 use log_format::Status;
-use log_transfer::{Connector, MemoryConnector};
-use std::alloc::Global;
+use log_transfer::Connector;
 use std::process::Abort;
 
 // The request for the whole log, and one frame more than a log may have.
 const ALL: &[u8; 12] = b"HSL1\0\0\0\0\0\0\x10\x01";
-
-// The source whose first connection gives the first `cut` bytes of the stored export, and the second the frames behind
-// the whole ones among them.
-fn cut_source<R: Abort + AllocGlobal>(rt: &R, cut: usize, fails: bool) -> MemoryConnector {
-    let first = nine_entries().get(..cut).expect(rt, "within the export");
-    let second = rest_from(rt.alloc(), cut.saturating_sub(4) / FRAME).expect(rt, "memory");
-    source_of(rt, &[(first, fails), (&second, false)])
-}
 
 #[test]
 fn transfer_resumes(rt: HostRuntime) {

@@ -3,6 +3,8 @@
 #![tactic(auto)]
 
 #[cfg(test)]
+mod budget_tests;
+#[cfg(test)]
 mod connector_tests;
 #[cfg(test)]
 mod fetch_tests;
@@ -16,3 +18,5 @@ mod serve_tests;
 mod served_source;
 #[cfg(test)]
 mod sources;
+#[cfg(test)]
+mod watched_tests;

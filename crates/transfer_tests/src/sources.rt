@@ -9,8 +9,8 @@ use log_transfer::{Connector, MemoryConnector, Payload, fetch};
 use std::alloc::{AllocError, Global};
 use std::process::Abort;
 
-/// The bytes of each frame of the stored export: a length of 4 bytes and a payload of 1,703.
-pub(crate) const FRAME: usize = 1707;
+// The bytes of each frame of the stored export: a length of 4 bytes and a payload of 1,703.
+const FRAME: usize = 1707;
 
 /// Where the fifth frame of the stored export is cut.
 pub(crate) const IN_THE_FIFTH: usize = 7536;
@@ -45,6 +45,18 @@ pub(crate) fn source_of<R: Abort + AllocGlobal>(
         source.add(bytes, *fails).expect(rt, "memory");
     }
     source
+}
+
+/// The source whose first connection gives the first `cut` bytes of the stored export, and then the end or with `fails`
+/// a failing read, and whose second gives the frames behind the whole ones among them.
+pub(crate) fn cut_source<R: Abort + AllocGlobal>(
+    rt: &R,
+    cut: usize,
+    fails: bool,
+) -> MemoryConnector {
+    let first = nine_entries().get(..cut).expect(rt, "within the export");
+    let second = rest_from(rt.alloc(), cut.saturating_sub(4) / FRAME).expect(rt, "memory");
+    source_of(rt, &[(first, fails), (&second, false)])
 }
 
 // Whether these are the first payloads of the stored export.
