@@ -1,0 +1,3 @@
+pub mod Answers
+pub mod Blame
+pub mod ServedLines

@@ -1,0 +1,68 @@
+//! One request that is answered, and its line.
+
+ghost use Rattle.std.specs.Prelude.{◌≡◌, ◌≤◌, ◌++◌, ℕ, OnOk, Result as ResultValue, codes, decimal, length};
+ghost use Rattle.faults.specs.Counting.{Counts};
+ghost use Rattle.stable_log.specs.Devices.{Untouched};
+ghost use Rattle.streams.specs.Streams.{Wrote};
+ghost use Rattle.log_serving.specs.Serving.{BlamesOne};
+ghost use Rattle.log_serving.specs.declared.error.ServeError.{ServeError as ServeErrorValue};
+ghost use Rattle.log_server.specs.Answers.{IsAnswer};
+ghost use Rattle.log_server.specs.ServedLines.{served_line};
+
+use itoa::Buffer;
+use log_serving::{ServeError, serve};
+use printed_lines::Line;
+use stable_log::Disk;
+use streams::{Fault, Feed, Sink, write_all};
+use vote_log::VoteLog;
+
+/// Answers one request of a feed by the export of the log that it asks for, which goes to `sink`, and then prints what
+/// came of it to `out`: `served FRAMES`, or `serve fault N`, N being the number of the `ServeError`. The log stays as it
+/// is.
+///
+/// A fault is one of `out`: the request was answered, and its line was printed in part or not at all.
+pub fn answer<D: Disk, R: Feed, W: Sink, O: Sink>(
+    log: &mut VoteLog<D>,
+    feed: &mut R,
+    sink: &mut W,
+    out: &mut O,
+) -> Result<(), Fault>
+    ensures told { OnOk result ((served : ResultValue ℕ ServeErrorValue) × Wrote (O.text out.old) (O.text out.new) (served_line served)
+        × IsAnswer log.old (R.rest feed.old) (D.bytes log.old.disk) (W.text sink.old) (W.text sink.new) served
+        × BlamesOne (R.failed feed.old) (R.failed feed.new) (D.failed log.old.disk) (D.failed log.new.disk)
+        (W.failed sink.old) (W.failed sink.new) served) }
+    ensures same { (log.new.entries ≡ log.old.entries) × (log.new.steps ≡ log.old.steps)
+        × (log.new.stopped ≡ log.old.stopped) × (log.new.genesis ≡ log.old.genesis)
+        × Untouched D.Disk log.old.disk log.new.disk }
+    ensures counted { Counts (O.failed out.old) (O.failed out.new) result }
+{
+    let served = serve(log, feed, sink);
+    print_answer(served, out)
+}
+
+/// Prints the line of an answer.
+pub(crate) fn print_answer<O: Sink>(
+    served: Result<u32, ServeError>,
+    out: &mut O,
+) -> Result<(), Fault>
+    ensures printed { OnOk result (Wrote (O.text out.old) (O.text out.new) (served_line served)) }
+    ensures counted { Counts (O.failed out.old) (O.failed out.new) result }
+{
+    match served {
+        Ok(frames) => print_number(b"served ", frames, out),
+        Err(error) => print_number(b"serve fault ", u32::from(error.number()), out),
+    }
+}
+
+// Prints a text and a number in a line.
+fn print_number<O: Sink>(text: &[u8], number: u32, out: &mut O) -> Result<(), Fault>
+    requires { length text.now ≤ 12 }
+    ensures printed { OnOk result (Wrote (O.text out.old) (O.text out.new) (text.now ++ decimal number ++ codes "\n")) }
+    ensures counted { Counts (O.failed out.old) (O.failed out.new) result }
+{
+    let mut line = Line::new();
+    line.push(text);
+    line.push(Buffer::new().format(number).as_bytes());
+    line.push(b"\n");
+    write_all(out, line.as_bytes())
+}
