@@ -2,9 +2,10 @@
 #![tactic(auto)]
 
 use std::env;
+use std::io::IsTerminal;
 use std::process::ExitCode;
 use streams::{StdFeed, StdSink};
-use tool_commands::{FAULT, Fault, run_tool};
+use tool_commands::{FAULT, Fault, Host, run_tool};
 
 fn main(rt: HostRuntime) -> ExitCode {
     let mut lines = StdFeed::new(rt.stdin());
@@ -21,13 +22,12 @@ fn main(rt: HostRuntime) -> ExitCode {
         Fault::Memory.tell(&mut faults);
         return ExitCode::from(FAULT);
     };
-    ExitCode::from(run_tool(
-        &rt,
-        &rt,
-        rt.alloc(),
-        &words,
-        &mut lines,
-        &mut out,
-        &mut faults,
-    ))
+    let console = rt.stderr();
+    let host = Host {
+        files: &rt,
+        rt: &rt,
+        alloc: rt.alloc(),
+        console: console.is_terminal().then_some(console),
+    };
+    ExitCode::from(run_tool(&host, &words, &mut lines, &mut out, &mut faults))
 }

@@ -1,3 +1,5 @@
 pub mod Folders
 pub mod Blame
+pub mod StayAnswers
+pub mod Dealing
 pub mod StayText

@@ -1,8 +1,16 @@
 -- What a stay prints.
-use Rattle.std.specs.Prelude.{ℕ, List, ◌++◌, codes, decimal}
-use Rattle.std.specs.List.{flat_map}
+use Rattle.std.specs.Prelude.{◌≡◌, ◌<◌, ◌-◌, ◌^◌, ℕ, List, ◌++◌, Option, Some, IfSome, codes, decimal, length}
+use Rattle.std.specs.List.{All, AllZip, flat_map, slice_get}
+use Rattle.streams.specs.Streams.{Wrote}
+use Rattle.vote_desk.specs.declared.reply.Receipt.{Receipt}
+use Rattle.replica_lines.specs.LineReading.{IsWhatWasRead}
 use Rattle.replica_lines.specs.OutcomeLines.{outcome_line}
 use Rattle.replica_lines.specs.declared.outcome.Outcome.{Outcome}
+use Rattle.replica_lines.specs.declared.request.Request.{Request}
+use Rattle.replica_command.specs.Dealing.{IsOutcomeAt}
+use Rattle.replica_command.specs.StayAnswers.{HasReceipt, IsAnswerTo, ending_of_all}
+use Rattle.replica_command.specs.declared.staying.Ending.{Ending}
+use Rattle.replica_command.specs.declared.worker.Answered.{Answered}
 
 -- a line for each outcome
 abbrev pub answers : List Outcome → List ℕ
@@ -11,3 +19,25 @@ answers outcomes = flat_map outcome_line outcomes
 -- "closed N"
 abbrev pub closed_line : ℕ → List ℕ
 closed_line count = codes "closed " ++ decimal count ++ codes "\n"
+
+-- as many outcomes as this were printed: at each place the one that a worker has under the number of the place
+pub record IsPrinted (before after : Option (List ℕ)) (all : List (List Answered)) (count : ℕ) (ending : Ending) : Type 0 where
+  pub outcomes : List Outcome
+  pub many : length outcomes ≡ count
+  pub found : (k : ℕ) (outcome : Outcome) → slice_get outcomes k ≡ Some outcome → IsOutcomeAt all k outcome
+  pub ends : ending ≡ ending_of_all outcomes
+  pub wrote : Wrote before after (answers outcomes)
+
+-- of a whole stay there were printed one outcome of each request, in order, and the number of the log's entries: each
+-- vote's receipt is among those of the desk, and the stay was stopped where one of the outcomes says so
+pub record IsStayPrinted (before after : Option (List ℕ)) (committee : List ℕ) (replica : ℕ) (requests : List Request) (receipts : List Receipt) (closed : ℕ) (ending : Ending) : Type 0 where
+  pub outcomes : List Outcome
+  pub each : AllZip (IsAnswerTo committee replica) requests outcomes
+  pub backed : All (HasReceipt receipts) outcomes
+  pub ends : ending ≡ ending_of_all outcomes
+  pub wrote : Wrote before after (answers outcomes ++ closed_line closed)
+
+-- these were read of a feed that tells what it has left, if that is not more than can be counted
+abbrev pub AreRequestsRead : Option (List ℕ) → Option (List ℕ) → ℕ → ℕ → List Request → Type 0
+AreRequestsRead before after failures failures' requests =
+    IfSome before (λ text. length text < 2 ^ 64 - 1 → IsWhatWasRead text after failures failures' requests)

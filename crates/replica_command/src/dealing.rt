@@ -1,6 +1,10 @@
 //! Requests dealt to workers in turn, and their outcomes in the order of the requests.
 
-use crate::worker::{Done, Work};
+ghost use Rattle.std.specs.Prelude.{IfOk, IfSome, map};
+ghost use Rattle.std.specs.List.{All};
+ghost use Rattle.replica_command.specs.Dealing.{IsOutcomeAt, IsRequestIn};
+
+use crate::worker::{Asked, Done, Work};
 use replica_lines::{Outcome, Request};
 use std::alloc::{AllocError, Global};
 use vote_desk::{Naming, Session};
@@ -10,23 +14,31 @@ pub(crate) fn deal<N: Naming>(
     alloc: Global,
     sessions: Vec<Session<N>>,
     requests: Vec<Request>,
-) -> Result<Vec<Work<N>>, AllocError> {
+) -> Result<Vec<Work<N>>, AllocError>
+    ensures { IfOk result (λ all. All (λ work. All (IsRequestIn requests.items) work.requests.items) all.items) }
+{
     let mut all = Vec::new(alloc);
     for session in sessions {
         all.push(Work::new(alloc, session))?;
     }
-    for (i, request) in requests.into_iter().enumerate() {
-        let turn = i.checked_rem(all.len()).unwrap_or(0);
+    for (number, request) in requests.into_iter().enumerate() {
+        let turn = number.checked_rem(all.len()).unwrap_or(0);
         if let Some(work) = all.get_mut(turn) {
-            work.requests.push(request)?;
+            work.requests.push(Asked { number, request })?;
         }
     }
     Ok(all)
 }
 
-/// The outcome of the request that was dealt as this one, counted from 0.
-pub(crate) fn outcome_at<N: Naming>(all: &[Done<N>], i: usize) -> Option<&Outcome> {
-    let turn = i.checked_rem(all.len())?;
-    let round = i.checked_div(all.len())?;
-    all.get(turn)?.outcomes.get(round)
+/// What came of the request of this number, where it was dealt to a worker in turn.
+pub(crate) fn outcome_at<N: Naming>(all: &[Done<N>], number: usize) -> Option<&Outcome>
+    ensures { IfSome result (λ outcome. IsOutcomeAt (map (λ done. done.outcomes.items) all.now) number outcome.now) }
+{
+    let turn = number.checked_rem(all.len())?;
+    let round = number.checked_div(all.len())?;
+    let answered = all.get(turn)?.outcomes.get(round)?;
+    if answered.number != number {
+        return None;
+    }
+    Some(&answered.outcome)
 }

@@ -37,7 +37,7 @@ pub enum ReplicaFault {
     File(ReplicaFile),
     /// The index store, the log or the desk is refused, under this number of its own table.
     Store(u8),
-    /// The receipts are not those of the log.
+    /// The receipts are not those of the log, or an answer is missing.
     Receipts,
     /// The lines could not be written, or not all.
     Output,

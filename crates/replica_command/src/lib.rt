@@ -10,5 +10,5 @@ mod staying;
 mod worker;
 
 pub use fault::{ReplicaFault, ReplicaFile};
-pub use program::run_replica;
+pub use program::{ReplicaEnd, run_replica};
 pub use staying::{Ending, StayEnd, stay};

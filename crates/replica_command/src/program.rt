@@ -1,11 +1,14 @@
 //! A replica from its folder to its last line.
 
-ghost use Rattle.std.specs.Prelude.{◌≡◌, ◌≤◌};
+ghost use Rattle.std.specs.Prelude.{◌≡◌, ◌≤◌, ℕ, List, IfOk, length};
+ghost use Rattle.vote_desk.specs.Receipts.{AreReceipts};
+ghost use Rattle.replica_lines.specs.declared.request.Request.{Request as RequestValue};
 ghost use Rattle.replica_command.specs.Blame.{BlamesOutput};
+ghost use Rattle.replica_command.specs.StayText.{AreRequestsRead, IsStayPrinted};
 
 use crate::fault::ReplicaFault;
 use crate::folder::Folder;
-use crate::staying::{Ending, StayEnd, stay};
+use crate::staying::{StayEnd, stay};
 use blocks::CommitteeView;
 use replica_lines::{Request, read_requests};
 use stable_log::FileDisk;
@@ -17,6 +20,14 @@ use std::sync::ledger::Blank;
 use std::thread::Threads;
 use streams::{Feed, Sink};
 use vote_desk::Parts;
+
+/// A replica after its run: what its stay left, and the lock of its folder, which is held as long as this lives.
+#[derive(Drop)]
+pub struct ReplicaEnd {
+    /// What its stay at the desk left.
+    pub end: StayEnd<FileDisk>,
+    lock: File,
+}
 
 /// Runs replica `replica` of the committee on the folder at `path`: takes the folder's lock, opens what is stored, reads
 /// all lines, and answers them by so many workers.
@@ -30,17 +41,26 @@ pub fn run_replica<F: Files<File = File>, T: Threads + Wait + Sync, R: Feed, W: 
     workers: u8,
     lines: &mut R,
     out: &mut W,
-) -> Result<Ending, ReplicaFault>
+) -> Result<ReplicaEnd, ReplicaFault>
     requires { (1 ≤ workers) × (workers ≤ 64) }
-    ensures { BlamesOutput result (W.failed out.old) (W.failed out.new) }
+
+    // What came of the lines was printed, one outcome of each, in order.
+    ensures printed { IfOk result (λ r. (requests : List RequestValue)
+        × AreRequestsRead (R.rest lines.old) (R.rest lines.new) (R.failed lines.old) (R.failed lines.new) requests
+        × IsStayPrinted (W.text out.old) (W.text out.new) committee.now replica
+        requests r.end.closed.receipts.items (length r.end.closed.parts.log.steps) r.end.ending) }
+
+    // The receipts are those of the votes behind the list that the log had when it was opened.
+    ensures receipts { IfOk result (λ r. (opened : ℕ)
+        × AreReceipts opened r.end.closed.parts.log.steps r.end.closed.receipts.items) }
+    ensures blame { BlamesOutput result (W.failed out.old) (W.failed out.new) }
 {
     let folder = Folder { files, alloc, path };
     let lock = folder.lock()?;
     let parts = folder.open_parts(committee.genesis())?;
     let requests = read_requests(alloc, lines)?;
-    let stay = stay_once(rt, alloc, committee, replica, parts, workers, requests, out)?;
-    drop(lock);
-    Ok(stay.ending)
+    let end = stay_once(rt, alloc, committee, replica, parts, workers, requests, out)?;
+    Ok(ReplicaEnd { end, lock })
 }
 
 // One stay at a desk of its own.
@@ -55,7 +75,11 @@ fn stay_once<T: Threads + Wait + Sync, W: Sink>(
     out: &mut W,
 ) -> Result<StayEnd<FileDisk>, ReplicaFault>
     requires { (1 ≤ workers) × (workers ≤ 64) }
-    ensures { BlamesOutput result (W.failed out.old) (W.failed out.new) }
+    ensures printed { IfOk result (λ end. IsStayPrinted (W.text out.old) (W.text out.new) committee.now replica
+        requests.items end.closed.receipts.items (length end.closed.parts.log.steps) end.ending) }
+    ensures receipts { IfOk result (λ end.
+        AreReceipts (length parts.log.steps) end.closed.parts.log.steps end.closed.receipts.items) }
+    ensures blame { BlamesOutput result (W.failed out.old) (W.failed out.new) }
 {
     stay::<Brand, T, FileDisk, W>(
         rt,

@@ -1,10 +1,15 @@
 //! One stay of a replica at its desk: opened, worked at in threads, and closed.
 
-ghost use Rattle.std.specs.Prelude.{◌≡◌, ◌≢◌, ◌≤◌, ◌++◌, List, IfErr, IfOk, OnOk, length};
+ghost use Rattle.std.specs.Prelude.{◌≡◌, ◌≢◌, ◌≤◌, IfErr, IfOk, OnOk, length, map, vec_len};
+ghost use Rattle.std.specs.List.{AllZip};
+ghost use Rattle.std.specs.List.Sorted.{IsPermutation};
 ghost use Rattle.streams.specs.Streams.{Wrote};
+ghost use Rattle.vote_desk.specs.Receipts.{AreReceipts, receipts_of};
 ghost use Rattle.replica_lines.specs.OutcomeLines.{outcome_line};
 ghost use Rattle.replica_lines.specs.declared.outcome.Outcome.{Outcome as OutcomeValue};
-ghost use Rattle.replica_command.specs.StayText.{answers, closed_line};
+ghost use Rattle.replica_command.specs.StayAnswers.{both_endings, ending_of};
+ghost use Rattle.replica_command.specs.Dealing.{AreWorked, IsOutcomeAt};
+ghost use Rattle.replica_command.specs.StayText.{IsPrinted, IsStayPrinted, closed_line};
 ghost use Rattle.replica_command.specs.Blame.{BlamesOutput};
 
 use crate::dealing::{deal, outcome_at};
@@ -39,6 +44,28 @@ pub enum Ending {
     Stopped,
 }
 
+impl Ending {
+    // How a stay with this outcome alone ends.
+    fn of(outcome: &Outcome) -> Ending
+        ensures { result ≡ ending_of outcome.now }
+    {
+        match outcome {
+            Outcome::RefusedByDesk(DeskError::Device | DeskError::Stopped) => Ending::Stopped,
+            _ => Ending::Done,
+        }
+    }
+
+    // How a stay ends whose first part ended so, and whose second part ended as `then`.
+    fn and(self, then: Ending) -> Ending
+        ensures { result ≡ both_endings self then }
+    {
+        match self {
+            Ending::Stopped => Ending::Stopped,
+            Ending::Done => then,
+        }
+    }
+}
+
 /// Opens a desk on these parts with as many sessions as workers, deals the requests to them in turn, and prints what came
 /// of each, in the order of the requests. Then the desk is closed, and `closed` and the number of the log's entries are
 /// printed.
@@ -59,8 +86,10 @@ pub fn stay<N: Naming + Send + Sync, T: Threads + Wait + Sync, D: Disk + Send, W
     requires committee { committee.now ≡ N.committee }
     requires replica { replica ≡ N.replica }
     requires opening { parts.log.steps ≡ N.opening }
-    ensures printed { IfOk result (λ end. (outcomes : List OutcomeValue) × Wrote (W.text out.old) (W.text out.new)
-        (answers outcomes ++ closed_line (length end.closed.parts.log.steps))) }
+    ensures printed { IfOk result (λ end. IsStayPrinted (W.text out.old) (W.text out.new) N.committee N.replica
+        requests.items end.closed.receipts.items (length end.closed.parts.log.steps) end.ending) }
+    ensures receipts { IfOk result (λ end.
+        AreReceipts (length N.opening) end.closed.parts.log.steps end.closed.receipts.items) }
     ensures blame { BlamesOutput result (W.failed out.old) (W.failed out.new) }
 {
     let (desk, sessions) = match Desk::<N, D>::start(
@@ -73,17 +102,10 @@ pub fn stay<N: Naming + Send + Sync, T: Threads + Wait + Sync, D: Disk + Send, W
     let count = requests.len();
     let work = deal(alloc, sessions, requests)?;
     let done = work_all(rt, alloc, &desk, committee, work)?;
-    let is_stopped = print_outcomes(&done, count, out)?;
+    let ending = print_outcomes(&done, count, out)?;
     let closed = close(alloc, desk, done)?;
     print_count(closed.parts.log.count(), out)?;
-    Ok(StayEnd {
-        closed,
-        ending: if is_stopped {
-            Ending::Stopped
-        } else {
-            Ending::Done
-        },
-    })
+    Ok(StayEnd { closed, ending })
 }
 
 // Each worker's requests in a thread of its own, where one can be made. Where memory is refused the sessions are gone.
@@ -95,6 +117,8 @@ fn work_all<N: Naming + Send + Sync, T: Threads + Wait + Sync, D: Disk + Send>(
     work: Vec<Work<N>>,
 ) -> Result<Vec<Done<N>>, AllocError>
     requires { committee.now ≡ N.committee }
+    ensures { IfOk result (λ all. AllZip (λ w d.
+        AreWorked N.committee N.replica w.requests.items d.session.receipts.items d.outcomes.items) work.items all.items) }
 {
     let done = thread::map_vec(
         rt,
@@ -108,38 +132,38 @@ fn work_all<N: Naming + Send + Sync, T: Threads + Wait + Sync, D: Disk + Send>(
     Ok(all)
 }
 
-// Prints what came of each request, and answers whether a disk failed.
-#[tactic(auto, using(crate::proofs::Printing::answered_none, crate::proofs::Printing::answered_both))]
+// Prints what came of each request, and answers how the stay ends.
 fn print_outcomes<N: Naming, W: Sink>(
     done: &[Done<N>],
     count: usize,
     out: &mut W,
-) -> Result<bool, ReplicaFault>
-    ensures printed { OnOk result ((outcomes : List OutcomeValue) × Wrote (W.text out.old) (W.text out.new) (answers outcomes)) }
+) -> Result<Ending, ReplicaFault>
+    ensures printed { IfOk result (IsPrinted (W.text out.old) (W.text out.new) (map (λ d. d.outcomes.items) done.now) count) }
     ensures blame { BlamesOutput result (W.failed out.old) (W.failed out.new) }
 {
-    let mut is_stopped = false;
-    for i in 0..count {
-        is_stopped |= print_turn(done, i, out)?;
+    let mut ending = Ending::Done;
+    for number in 0..count {
+        ending = ending.and(print_turn(done, number, out)?);
     }
-    Ok(is_stopped)
+    Ok(ending)
 }
 
-// Prints what came of the request that was dealt as this one, and answers whether a disk failed in it.
-#[tactic(auto, using(crate::proofs::Printing::answered_none, crate::proofs::Printing::answered_one))]
+// Prints what came of the request of this number, and answers how a stay ends in which that came. It is a bug of this
+// program where nothing did.
 fn print_turn<N: Naming, W: Sink>(
     done: &[Done<N>],
-    i: usize,
+    number: usize,
     out: &mut W,
-) -> Result<bool, ReplicaFault>
-    ensures printed { OnOk result ((outcomes : List OutcomeValue) × Wrote (W.text out.old) (W.text out.new) (answers outcomes)) }
+) -> Result<Ending, ReplicaFault>
+    ensures printed { IfOk result (λ ending. (outcome : OutcomeValue) × IsOutcomeAt (map (λ d. d.outcomes.items) done.now) number outcome
+        × (ending ≡ ending_of outcome) × Wrote (W.text out.old) (W.text out.new) (outcome_line outcome)) }
     ensures blame { BlamesOutput result (W.failed out.old) (W.failed out.new) }
 {
-    let Some(outcome) = outcome_at(done, i) else {
-        return Ok(false);
+    let Some(outcome) = outcome_at(done, number) else {
+        return Err(ReplicaFault::Receipts);
     };
     print_outcome(outcome, out)?;
-    Ok(tells_stop(outcome))
+    Ok(Ending::of(outcome))
 }
 
 fn print_outcome<W: Sink>(outcome: &Outcome, out: &mut W) -> Result<(), ReplicaFault>
@@ -152,20 +176,16 @@ fn print_outcome<W: Sink>(outcome: &Outcome, out: &mut W) -> Result<(), ReplicaF
     }
 }
 
-fn tells_stop(outcome: &Outcome) -> bool {
-    matches!(
-        outcome,
-        Outcome::RefusedByDesk(DeskError::Device | DeskError::Stopped)
-    )
-}
-
 // Hands all sessions back to the desk.
 fn close<N: Naming, D: Disk>(
     alloc: Global,
     desk: Desk<N, D>,
     done: Vec<Done<N>>,
 ) -> Result<Closed<D>, ReplicaFault>
-    ensures { IfErr result (λ fault. fault ≢ ReplicaFault.Output) }
+    ensures receipts { IfOk result (λ closed. IsPermutation
+        (receipts_of (map (λ d. d.session.receipts.items) done.items)) closed.receipts.items) }
+    ensures ok { IfOk result (λ closed. AreReceipts (length N.opening) closed.parts.log.steps closed.receipts.items) }
+    ensures fault { IfErr result (λ fault. fault ≢ ReplicaFault.Output) }
 {
     let mut sessions = Vec::with_capacity(alloc, done.len())?;
     for one in done {

@@ -1,6 +1,8 @@
 //! What one worker does.
 
-ghost use Rattle.std.specs.Prelude.{◌≡◌};
+ghost use Rattle.std.specs.Prelude.{◌≡◌, [], IfOk, OnErr};
+ghost use Rattle.replica_command.specs.StayAnswers.{IsAnswerTo, IsAnswerToBlock, receipts_after};
+ghost use Rattle.replica_command.specs.Dealing.{AreWorked};
 
 use blocks::{CommitteeView, Header};
 use certificates::{Certificate, LmsVerifier, check_block};
@@ -10,23 +12,39 @@ use std::alloc::{AllocError, Global};
 use std::sync::Wait;
 use vote_desk::{Desk, DeskError, Naming, Session};
 
+/// A request, and its number from 0 in the order of the lines.
+#[derive(Drop)]
+pub(crate) struct Asked {
+    pub number: usize,
+    pub request: Request,
+}
+
+/// What came of the request of this number.
+#[derive(Clone, Copy)]
+pub(crate) struct Answered {
+    pub number: usize,
+    pub outcome: Outcome,
+}
+
 /// A worker's session, and the requests that were dealt to it.
 #[derive(Drop)]
 pub(crate) struct Work<N: Naming> {
     pub session: Session<N>,
-    pub requests: Vec<Request>,
+    pub requests: Vec<Asked>,
 }
 
 /// A worker's session after its work, and what came of its requests, in their order.
 #[derive(Drop)]
 pub(crate) struct Done<N: Naming> {
     pub session: Session<N>,
-    pub outcomes: Vec<Outcome>,
+    pub outcomes: Vec<Answered>,
 }
 
 impl<N: Naming> Work<N> {
     /// No requests yet.
-    pub fn new(alloc: Global, session: Session<N>) -> Work<N> {
+    pub fn new(alloc: Global, session: Session<N>) -> Work<N>
+        ensures { result.requests.items ≡ [] }
+    {
         Work {
             session,
             requests: Vec::new(alloc),
@@ -43,14 +61,17 @@ impl<N: Naming> Work<N> {
         committee: &CommitteeView,
     ) -> Result<Done<N>, AllocError>
         requires { committee.now ≡ N.committee }
+        ensures { IfOk result (λ done.
+            AreWorked N.committee N.replica self.requests.items done.session.receipts.items done.outcomes.items) }
     {
         let Work {
             mut session,
             requests,
         } = self;
         let mut outcomes = Vec::with_capacity(alloc, requests.len())?;
-        for request in requests {
-            outcomes.push(answer(rt, desk, committee, &mut session, request)?)?;
+        for Asked { number, request } in requests {
+            let outcome = answer(rt, desk, committee, &mut session, request)?;
+            outcomes.push(Answered { number, outcome })?;
         }
         Ok(Done { session, outcomes })
     }
@@ -65,6 +86,9 @@ fn answer<N: Naming, T: Wait, D: Disk>(
     request: Request,
 ) -> Result<Outcome, AllocError>
     requires { committee.now ≡ N.committee }
+    ensures answer { IfOk result (IsAnswerTo N.committee N.replica request) }
+    ensures receipts { IfOk result (λ outcome.
+        session.new.receipts.items ≡ receipts_after session.old.receipts.items outcome) }
 {
     match request {
         Request::Block(header, certificate) => {
@@ -90,6 +114,9 @@ fn deliver<N: Naming, T: Wait, D: Disk>(
     certificate: Certificate,
 ) -> Result<Outcome, AllocError>
     requires { committee.now ≡ N.committee }
+    ensures answer { IfOk result (IsAnswerToBlock N.committee N.replica header certificate) }
+    ensures receipts { IfOk result (λ outcome.
+        session.new.receipts.items ≡ receipts_after session.old.receipts.items outcome) }
 {
     let block = match check_block(committee, &LmsVerifier, header, certificate) {
         Ok(block) => block,

@@ -25,12 +25,14 @@ fn a_second_replica_of_a_folder_is_refused(rt: HostRuntime) -> Result<(), Fail> 
     let refused = run_replica(
         &rt, &rt, alloc, &committee, 0, "held", 1, &mut lines, &mut out,
     );
-    assert!(rt; refused == Err(ReplicaFault::File(ReplicaFile::Lock)));
+    let fault = refused.err();
+    assert!(rt; fault == Some(ReplicaFault::File(ReplicaFile::Lock)));
     drop(held);
     let refused = run_replica(
         &rt, &rt, alloc, &committee, 0, "held", 1, &mut lines, &mut out,
     );
-    assert!(rt; refused == Err(ReplicaFault::File(ReplicaFile::Key(KeyFile::Seed))));
+    let fault = refused.err();
+    assert!(rt; fault == Some(ReplicaFault::File(ReplicaFile::Key(KeyFile::Seed))));
     let mut rest = [0; 16];
     let read = lines.read(&mut rest).ok();
     assert!(rt; read == Some(10) && out.bytes().is_empty());

@@ -5,7 +5,7 @@ use Rattle.printed_lines.specs.Printed.{file_line, committee_line}
 use Rattle.tool_commands.specs.declared.fault.Place.{Place as PlaceValue}
 use Rattle.tool_commands.specs.declared.fault.Place.TheVariants.{Path, Key, Lock, Verdict}
 use Rattle.tool_commands.specs.declared.fault.Fault.{Fault as FaultValue}
-use Rattle.tool_commands.specs.declared.fault.Fault.TheVariants.{Usage, Memory, Hex, File, Committee, Source, Collision, Output, Store, Receipts}
+use Rattle.tool_commands.specs.declared.fault.Fault.TheVariants.{Usage, Memory, Hex, File, Committee, Source, Collision, Output, Store, Receipts, Listen}
 
 -- the name of the verdict on a replica, behind its folder
 abbrev pub verdict_behind : ℕ → List ℕ
@@ -37,3 +37,4 @@ tool_fault_line Collision = codes "fault collision\n"
 tool_fault_line Output = codes "fault output\n"
 tool_fault_line (Store number) = store_fault_line number
 tool_fault_line Receipts = codes "fault receipts\n"
+tool_fault_line Listen = codes "fault listen\n"

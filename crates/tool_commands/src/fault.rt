@@ -1,18 +1,22 @@
 //! Why the tool gives up, and the line that it prints then.
 
 ghost use Rattle.std.specs.IoError.{error_kind};
-ghost use Rattle.std.specs.Prelude.{◌≡◌, ◌≢◌, ◌++◌, codes, OnOk, OnErr};
+ghost use Rattle.std.specs.Prelude.{◌≡◌, ◌≢◌, ◌↔◌, ◌++◌, codes, OnOk, OnErr};
 ghost use Rattle.faults.specs.Counting.{Counts};
 ghost use Rattle.streams.specs.Streams.{Wrote, WrotePart};
 ghost use Rattle.printed_lines.specs.Printed.{Told};
 ghost use Rattle.key_files.specs.KeyFiles.{file_name};
+ghost use Rattle.blocks.specs.Headers.{Header as HeaderValue};
+ghost use Rattle.blocks.specs.declared.committee.CommitteeRefusal.{CommitteeRefusal as CommitteeRefusalValue};
 ghost use Rattle.tool_commands.specs.FaultLines.{tool_fault_line, place_line, source_fault_line, store_fault_line, verdict_behind};
 
 use blocks::CommitteeRefusal;
 use file_input::InputFault;
 use itoa::Buffer;
 use key_files::KeyFile;
+use log_server::ServiceFault;
 use printed_lines::{Line, committee_fault, write_file_fault};
+use source_audit::RunError;
 use std::alloc::{AllocError, AllocFailed};
 use std::io::{Error, ErrorKind};
 use streams::{Sink, write_all};
@@ -38,8 +42,10 @@ pub enum Fault<'a> {
     Output,
     /// A replica's index store, log or desk is refused, under this number of its own table.
     Store(u8),
-    /// The receipts of a desk are not those of its log.
+    /// The receipts of a desk are not those of its log, or an answer is missing.
     Receipts,
+    /// The address can't be listened on.
+    Listen,
 }
 
 /// The path of a file.
@@ -78,6 +84,32 @@ impl<'a> Fault<'a> {
         }
     }
 
+    /// Why an audit gave no report.
+    pub fn of_run(error: RunError) -> Fault<'a>
+        ensures memory { error ≡ RunError.Memory → result ≡ Fault.Memory }
+        ensures committee { (refusal : CommitteeRefusalValue) → error ≡ RunError.Committee refusal → result ≡ Fault.Committee refusal }
+        ensures collision { (h : HeaderValue) (k : HeaderValue) → error ≡ RunError.Collision h k → result ≡ Fault.Collision }
+        ensures output { error ≡ RunError.Sink ↔ result ≡ Fault.Output }
+    {
+        match error {
+            RunError::Memory => Fault::Memory,
+            RunError::Committee(refusal) => Fault::Committee(refusal),
+            RunError::Collision(_, _) => Fault::Collision,
+            RunError::Sink => Fault::Output,
+        }
+    }
+
+    /// Why a replica's log was not handed out, or not as often as asked for.
+    pub fn of_service(fault: ServiceFault) -> Fault<'a>
+        ensures listen { fault ≡ ServiceFault.Listen → result ≡ Fault.Listen }
+        ensures output { fault ≡ ServiceFault.Output ↔ result ≡ Fault.Output }
+    {
+        match fault {
+            ServiceFault::Listen => Fault::Listen,
+            ServiceFault::Output => Fault::Output,
+        }
+    }
+
     /// Writes the fault's line. What a failing sink does not take is lost: there is nowhere else to say it.
     pub fn tell<E: Sink>(&self, faults: &mut E)
         ensures { Told (E.text faults.old) (E.text faults.new) (E.failed faults.old) (E.failed faults.new) (tool_fault_line self.now) }
@@ -103,6 +135,7 @@ impl<'a> Fault<'a> {
             Fault::Output => write_all(out, b"fault output\n"),
             Fault::Store(number) => write_all(out, store_fault(*number).as_bytes()),
             Fault::Receipts => write_all(out, b"fault receipts\n"),
+            Fault::Listen => write_all(out, b"fault listen\n"),
         }
     }
 }

@@ -1,44 +1,81 @@
-//! `hs_tool replica COMMITTEE R DIR [--workers W]`: a replica over lines of input.
+//! `hs_tool replica COMMITTEE R DIR [--workers W] [--serve ADDRESS] [--requests N]`: a replica over lines of input.
 
-ghost use Rattle.std.specs.Prelude.{◌≡◌, ◌↔◌, ℕ};
+ghost use Rattle.std.specs.Prelude.{◌≡◌, ◌↔◌, ℕ, IfOk};
 ghost use Rattle.key_files.specs.declared.files.KeyFile.{KeyFile as KeyFileValue};
+ghost use Rattle.tool_commands.specs.Stops.{IsStopPrinted};
 ghost use Rattle.tool_commands.specs.Writes.{CountsWrites};
 
 use crate::fault::{Fault, Place};
 use crate::files::read_committee;
+use crate::host::Host;
 use blocks::CommitteeView;
-use replica_command::{Ending, ReplicaFault, ReplicaFile, run_replica};
-use std::alloc::Global;
+use log_server::serve_requests;
+use replica_command::{Ending, ReplicaEnd, ReplicaFault, ReplicaFile, run_replica};
 use std::fs::{File, Files};
+use std::net::{Net, TcpListener, TcpStream};
 use std::sync::Wait;
 use std::thread::Threads;
+use std::time::Clock;
 use streams::{Feed, Sink};
-use tool_words::Workers;
+use tool_words::{Service, Workers};
 
-/// Runs a replica of the committee of the file on the folder at `path`, as `run_replica` does. Answers how it
-/// ended.
-pub fn replica<'a, F: Files<File = File>, T: Threads + Wait + Sync, R: Feed, W: Sink>(
-    files: &F,
-    rt: &T,
-    alloc: Global,
+/// Runs a replica of the committee of the file on the folder at `path`, as `run_replica` does. Then, where a service is
+/// asked for and no disk failed, hands out the log as `serve_requests` does, still under the folder's lock. Answers how
+/// the replica ended.
+pub fn replica<
+    'a,
+    F: Files<File = File>,
+    T: Threads + Wait + Clock + Net<Listener = TcpListener, Stream = TcpStream> + Sync,
+    R: Feed,
+    W: Sink,
+>(
+    host: &Host<'_, F, T>,
+    committee: &'a str,
+    number: u16,
+    path: &'a str,
+    workers: Workers,
+    service: Option<Service<'a>>,
+    lines: &mut R,
+    out: &mut W,
+) -> Result<Ending, Fault<'a>>
+    ensures stopped { IfOk result (λ ending. ending ≡ Ending.Stopped → IsStopPrinted (W.text out.old) (W.text out.new)) }
+    ensures counted { CountsWrites result (W.failed out.old) (W.failed out.new) }
+{
+    let mut end = run(host, committee, number, path, workers, lines, out)?;
+    match (end.end.ending, service) {
+        (Ending::Done, Some(service)) => {
+            let log = &mut end.end.closed.parts.log;
+            match serve_requests(host.rt, service.address, service.requests, log, out) {
+                Ok(()) => Ok(Ending::Done),
+                Err(fault) => Err(Fault::of_service(fault)),
+            }
+        }
+        (ending, _) => Ok(ending),
+    }
+}
+
+// From the folder's lock to `closed`.
+fn run<'a, F: Files<File = File>, T: Threads + Wait + Sync, R: Feed, W: Sink>(
+    host: &Host<'_, F, T>,
     committee: &'a str,
     number: u16,
     path: &'a str,
     workers: Workers,
     lines: &mut R,
     out: &mut W,
-) -> Result<Ending, Fault<'a>>
-    ensures { CountsWrites result (W.failed out.old) (W.failed out.new) }
+) -> Result<ReplicaEnd, Fault<'a>>
+    ensures stopped { IfOk result (λ r. r.end.ending ≡ Ending.Stopped → IsStopPrinted (W.text out.old) (W.text out.new)) }
+    ensures counted { CountsWrites result (W.failed out.old) (W.failed out.new) }
 {
-    let bytes = read_committee(files, alloc, committee)?;
+    let bytes = read_committee(host.files, host.alloc, committee)?;
     let committee = match CommitteeView::parse(&bytes) {
         Ok(committee) => committee,
         Err(refusal) => return Err(Fault::Committee(refusal)),
     };
     match run_replica(
-        files,
-        rt,
-        alloc,
+        host.files,
+        host.rt,
+        host.alloc,
         &committee,
         number,
         path,
@@ -46,7 +83,7 @@ pub fn replica<'a, F: Files<File = File>, T: Threads + Wait + Sync, R: Feed, W: 
         lines,
         out,
     ) {
-        Ok(ending) => Ok(ending),
+        Ok(end) => Ok(end),
         Err(fault) => Err(in_folder(path, fault)),
     }
 }

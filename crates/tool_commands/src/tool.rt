@@ -1,18 +1,22 @@
 //! The tool over handed-in words and streams, so that tests run it whole.
 
-ghost use Rattle.std.specs.Prelude.{◌≡◌, ◌≢◌, ◌⊎◌, ◌↔◌};
+ghost use Rattle.std.specs.Prelude.{◌≡◌, ◌≢◌, ◌⊎◌, ◌↔◌, IfOk};
+ghost use Rattle.tool_commands.specs.Audits.{AreCulpritsPrinted};
+ghost use Rattle.tool_commands.specs.Stops.{IsStopPrinted};
 ghost use Rattle.tool_commands.specs.Writes.{CountsWrites, TellsFault};
 
-use crate::audit::audit_files;
+use crate::audit::audit_sources;
 use crate::committee::committee;
 use crate::fault::Fault;
+use crate::host::Host;
 use crate::keygen::keygen;
 use crate::replica::replica;
 use replica_command::Ending;
-use std::alloc::Global;
 use std::fs::{File, Files};
+use std::net::{Net, TcpListener, TcpStream};
 use std::sync::Wait;
 use std::thread::Threads;
+use std::time::Clock;
 use streams::{Feed, Sink, write_all};
 use tool_words::{Command, WordsFault, read_words};
 
@@ -36,21 +40,22 @@ hs_tool audit COMMITTEE OUTDIR SOURCE..
 /// `FAULT` a fault's line to `faults`, which is else left alone: `fault output` exactly where a write of facts failed. Where
 /// a disk failed under a replica, the facts say it, and there is no fault's line with `FAULT`. The words stand without the
 /// program's name; only `replica` reads `lines`.
-pub fn run_tool<F: Files<File = File>, T: Threads + Wait + Sync, R: Feed, W: Sink, E: Sink>(
-    files: &F,
-    rt: &T,
-    alloc: Global,
-    words: &[String],
-    lines: &mut R,
-    out: &mut W,
-    faults: &mut E,
-) -> u8
+pub fn run_tool<
+    F: Files<File = File> + Sync,
+    T: Threads + Wait + Clock + Net<Listener = TcpListener, Stream = TcpStream> + Sync,
+    R: Feed,
+    W: Sink,
+    E: Sink,
+>(host: &Host<F, T>, words: &[String], lines: &mut R, out: &mut W, faults: &mut E) -> u8
+where
+    F::Dir: Send,
     ensures status { (result ≡ 0) ⊎ (result ≡ 2) ⊎ (result ≡ 3) }
+    ensures culprits { result ≡ 3 → AreCulpritsPrinted (W.text out.old) (W.text out.new) }
     ensures done { result ≢ 2 → (faults.new ≡ faults.old) × (W.failed out.new ≡ W.failed out.old) }
-    ensures told { result ≡ 2 → ((faults.new ≡ faults.old) × (W.failed out.new ≡ W.failed out.old))
+    ensures told { result ≡ 2 → ((faults.new ≡ faults.old) × (W.failed out.new ≡ W.failed out.old) × IsStopPrinted (W.text out.old) (W.text out.new))
         ⊎ TellsFault (E.text faults.old) (E.text faults.new) (E.failed faults.old) (E.failed faults.new) (W.failed out.old) (W.failed out.new) }
 {
-    match run(files, rt, alloc, words, lines, out) {
+    match run(host, words, lines, out) {
         Ok(ended) => ended.status(),
         Err(fault) => {
             fault.tell(faults);
@@ -92,33 +97,50 @@ impl Ended {
     }
 }
 
-fn run<'a, F: Files<File = File>, T: Threads + Wait + Sync, R: Feed, W: Sink>(
-    files: &F,
-    rt: &T,
-    alloc: Global,
+fn run<
+    'a,
+    F: Files<File = File> + Sync,
+    T: Threads + Wait + Clock + Net<Listener = TcpListener, Stream = TcpStream> + Sync,
+    R: Feed,
+    W: Sink,
+>(
+    host: &Host<'a, F, T>,
     words: &'a [String],
     lines: &mut R,
     out: &mut W,
 ) -> Result<Ended, Fault<'a>>
-    ensures { CountsWrites result (W.failed out.old) (W.failed out.new) }
+where
+    F::Dir: Send,
+    ensures culprits { IfOk result (λ ended. ended ≡ Ended.Culprits → AreCulpritsPrinted (W.text out.old) (W.text out.new)) }
+    ensures stopped { IfOk result (λ ended. ended ≡ Ended.Stopped → IsStopPrinted (W.text out.old) (W.text out.new)) }
+    ensures counted { CountsWrites result (W.failed out.old) (W.failed out.new) }
 {
-    match read_words(alloc, words) {
-        Ok(command) => done(files, rt, alloc, &command, lines, out),
+    match read_words(host.alloc, words) {
+        Ok(command) => done(host, &command, lines, out),
         Err(WordsFault::Usage) => Err(Fault::Usage),
         Err(WordsFault::Memory) => Err(Fault::Memory),
     }
 }
 
-fn done<'a, F: Files<File = File>, T: Threads + Wait + Sync, R: Feed, W: Sink>(
-    files: &F,
-    rt: &T,
-    alloc: Global,
+fn done<
+    'a,
+    F: Files<File = File> + Sync,
+    T: Threads + Wait + Clock + Net<Listener = TcpListener, Stream = TcpStream> + Sync,
+    R: Feed,
+    W: Sink,
+>(
+    host: &Host<'a, F, T>,
     command: &Command<'a>,
     lines: &mut R,
     out: &mut W,
 ) -> Result<Ended, Fault<'a>>
-    ensures { CountsWrites result (W.failed out.old) (W.failed out.new) }
+where
+    F::Dir: Send,
+    ensures culprits { IfOk result (λ ended. ended ≡ Ended.Culprits → AreCulpritsPrinted (W.text out.old) (W.text out.new)) }
+    ensures stopped { IfOk result (λ ended. ended ≡ Ended.Stopped → IsStopPrinted (W.text out.old) (W.text out.new)) }
+    ensures counted { CountsWrites result (W.failed out.old) (W.failed out.new) }
 {
+    let (files, alloc) = (host.files, host.alloc);
     match command {
         Command::Usage => write_all(out, USAGE).map_err(|_| Fault::Output)?,
         Command::Keygen { seed, folder } => keygen(files, alloc, seed, folder, out)?,
@@ -128,9 +150,10 @@ fn done<'a, F: Files<File = File>, T: Threads + Wait + Sync, R: Feed, W: Sink>(
             replica: number,
             folder,
             workers,
+            service,
         } => {
             let ending = replica(
-                files, rt, alloc, committee, *number, folder, *workers, lines, out,
+                host, committee, *number, folder, *workers, *service, lines, out,
             )?;
             return Ok(Ended::of(ending));
         }
@@ -138,8 +161,9 @@ fn done<'a, F: Files<File = File>, T: Threads + Wait + Sync, R: Feed, W: Sink>(
             committee,
             folder,
             sources,
+            tries,
         } => {
-            if audit_files(files, alloc, committee, folder, sources, out)? {
+            if audit_sources(host, committee, folder, sources, *tries, out)? {
                 return Ok(Ended::Culprits);
             }
         }

@@ -9,20 +9,33 @@ use script_runs::{FailingFiles, Failure, run_script};
 use std::alloc::Global;
 use std::fs::{File, Files};
 use std::io;
+use std::net::{Net, TcpListener, TcpStream};
 use std::sync::Wait;
 use std::thread::Threads;
+use std::time::Clock;
 use streams::{MemoryFeed, MemorySink};
-use tool_commands::run_tool;
+use tool_commands::{Host, run_tool};
 
 // The operator's tool, also where memory is refused or the disk is full, the checker, and a maker of long exports.
-fn run_named<R: Files<File = File> + Threads + Wait + Sync + AllocGlobal>(
+fn run_named<
+    R: Files<File = File>
+        + Threads
+        + Wait
+        + Clock
+        + Net<Listener = TcpListener, Stream = TcpStream>
+        + Sync
+        + AllocGlobal,
+>(
     rt: &R,
     name: &str,
     words: &[String],
     input: &[u8],
     out: &mut MemorySink,
     faults: &mut MemorySink,
-) -> Option<u8> {
+) -> Option<u8>
+where
+    R::Dir: Send,
+{
     let alloc = rt.alloc();
     match name {
         "hs_tool" => Some(tool(rt, rt, alloc, words, out, faults)),
@@ -46,16 +59,28 @@ fn run_named<R: Files<File = File> + Threads + Wait + Sync + AllocGlobal>(
     }
 }
 
-fn tool<F: Files<File = File>, T: Threads + Wait + Sync>(
+fn tool<
+    F: Files<File = File> + Sync,
+    T: Threads + Wait + Clock + Net<Listener = TcpListener, Stream = TcpStream> + Sync,
+>(
     files: &F,
     rt: &T,
     alloc: Global,
     words: &[String],
     out: &mut MemorySink,
     faults: &mut MemorySink,
-) -> u8 {
+) -> u8
+where
+    F::Dir: Send,
+{
+    let host = Host {
+        files,
+        rt,
+        alloc,
+        console: None,
+    };
     let mut lines = MemoryFeed::new(Vec::new(alloc));
-    run_tool(files, rt, alloc, words, &mut lines, out, faults)
+    run_tool(&host, words, &mut lines, out, faults)
 }
 
 fn main(rt: HostRuntime) -> io::Result<()> {

@@ -18,19 +18,30 @@ pub enum Command<'a> {
         out: &'a str,
         keys: Vec<&'a str>,
     },
-    /// `replica COMMITTEE R DIR [--workers W]`
+    /// `replica COMMITTEE R DIR [--workers W] [--serve ADDRESS] [--requests N]`
     Replica {
         committee: &'a str,
         replica: u16,
         folder: &'a str,
         workers: Workers,
+        service: Option<Service<'a>>,
     },
-    /// `audit COMMITTEE OUTDIR SOURCE..`
+    /// `audit COMMITTEE OUTDIR SOURCE.. [--tries T]`
     Audit {
         committee: &'a str,
         folder: &'a str,
         sources: Vec<&'a str>,
+        tries: Tries,
     },
+}
+
+/// Where a replica hands out its log when its work is done, and how often.
+#[derive(Clone, Copy, Debug)]
+pub struct Service<'a> {
+    /// The address to listen on.
+    pub address: &'a str,
+    /// How many requests are served: 1 to 1,000.
+    pub requests: u16,
 }
 
 /// How many workers a replica has: 1 to 8.
@@ -54,6 +65,32 @@ impl Workers {
     pub fn count(self) -> u8
         ensures least { 1 ≤ result }
         ensures most { result ≤ 8 }
+    {
+        self.count
+    }
+}
+
+/// How many connections a source of an audit may take: 1 to 3.
+#[derive(Clone, Copy, Debug)]
+pub struct Tries {
+    count: u8,
+    pub ghost least: { 1 ≤ count },
+    pub ghost most: { count ≤ 3 },
+}
+
+impl Tries {
+    /// So many tries, where they are 1 to 3.
+    pub fn of(count: u16) -> Option<Tries> {
+        if count < 1 || count > 3 {
+            return None;
+        }
+        Some(Tries { count: count as u8 })
+    }
+
+    /// How many they are.
+    pub fn count(self) -> u8
+        ensures least { 1 ≤ result }
+        ensures most { result ≤ 3 }
     {
         self.count
     }

@@ -43,7 +43,9 @@ fn with_replica<'a>(alloc: Global, grammar: Grammar<'a>) -> Result<Grammar<'a>, 
         .arg(Arg::new(alloc, "COMMITTEE").required(true))?
         .arg(Arg::new(alloc, "R").required(true))?
         .arg(Arg::new(alloc, "DIR").required(true))?
-        .arg(Arg::new(alloc, "W").long("workers"))?;
+        .arg(Arg::new(alloc, "W").long("workers"))?
+        .arg(Arg::new(alloc, "ADDRESS").long("serve"))?
+        .arg(Arg::new(alloc, "N").long("requests"))?;
     grammar.subcommand(replica)
 }
 
@@ -54,6 +56,7 @@ fn with_audit<'a>(alloc: Global, grammar: Grammar<'a>) -> Result<Grammar<'a>, Al
     let audit = Grammar::new(alloc, "audit")
         .arg(Arg::new(alloc, "COMMITTEE").required(true))?
         .arg(Arg::new(alloc, "OUTDIR").required(true))?
-        .arg(sources)?;
+        .arg(sources)?
+        .arg(Arg::new(alloc, "T").long("tries"))?;
     grammar.subcommand(audit)
 }

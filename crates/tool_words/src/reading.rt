@@ -1,6 +1,6 @@
 //! From words to what they ask for.
 
-use crate::command::{Command, Workers};
+use crate::command::{Command, Service, Tries, Workers};
 use crate::grammar::parsed;
 use clap::ArgMatches;
 use clap::error::ErrorKind;
@@ -77,7 +77,7 @@ fn committee<'a>(alloc: Global, given: &ArgMatches<'a>) -> Result<Command<'a>, W
     })
 }
 
-// R below 65,536, and one worker where none is asked for.
+// R below 65,536; one worker, and one request, where no number is said.
 fn replica<'a>(given: &ArgMatches<'a>) -> Result<Command<'a>, WordsFault> {
     let (Some(committee), Some(replica), Some(folder)) = (
         given.get_str("COMMITTEE"),
@@ -89,13 +89,11 @@ fn replica<'a>(given: &ArgMatches<'a>) -> Result<Command<'a>, WordsFault> {
     if committee.is_empty() || folder.is_empty() {
         return Err(WordsFault::Usage);
     }
-    let (Some(replica), Some(workers)) = (
+    let (Some(replica), Some(workers), Some(requests)) = (
         number(replica),
-        number(given.get_str("W").unwrap_or("1")),
+        workers(given.get_str("W").unwrap_or("1")),
+        requests(given.get_str("N").unwrap_or("1")),
     ) else {
-        return Err(WordsFault::Usage);
-    };
-    let Some(workers) = Workers::of(workers) else {
         return Err(WordsFault::Usage);
     };
     Ok(Command::Replica {
@@ -103,10 +101,20 @@ fn replica<'a>(given: &ArgMatches<'a>) -> Result<Command<'a>, WordsFault> {
         replica,
         folder,
         workers,
+        service: service(given.get_str("ADDRESS"), requests)?,
     })
 }
 
-// None or more sources. What each says is not judged here.
+// Where no address is said, nothing is served, whatever the number of requests.
+fn service<'a>(address: Option<&'a str>, requests: u16) -> Result<Option<Service<'a>>, WordsFault> {
+    match address {
+        Some("") => Err(WordsFault::Usage),
+        Some(address) => Ok(Some(Service { address, requests })),
+        None => Ok(None),
+    }
+}
+
+// None or more sources, and three tries where no number is said. What a source's word says is not judged here.
 fn audit<'a>(alloc: Global, given: &ArgMatches<'a>) -> Result<Command<'a>, WordsFault> {
     let (Some(committee), Some(folder)) = (given.get_str("COMMITTEE"), given.get_str("OUTDIR"))
     else {
@@ -115,6 +123,9 @@ fn audit<'a>(alloc: Global, given: &ArgMatches<'a>) -> Result<Command<'a>, Words
     if committee.is_empty() || folder.is_empty() {
         return Err(WordsFault::Usage);
     }
+    let Some(tries) = tries(given.get_str("T").unwrap_or("3")) else {
+        return Err(WordsFault::Usage);
+    };
     let sources = match given.get_strs("SOURCE") {
         Some(sources) => sources.to_vec(alloc)?,
         None => Vec::new(alloc),
@@ -123,6 +134,7 @@ fn audit<'a>(alloc: Global, given: &ArgMatches<'a>) -> Result<Command<'a>, Words
         committee,
         folder,
         sources,
+        tries,
     })
 }
 
@@ -142,4 +154,18 @@ pub fn number(word: &str) -> Option<u16> {
 fn faulty(word: &str) -> Option<u16> {
     let f = number(word)?;
     (1 <= f && f <= 10).then_some(f)
+}
+
+fn workers(word: &str) -> Option<Workers> {
+    Workers::of(number(word)?)
+}
+
+fn tries(word: &str) -> Option<Tries> {
+    Tries::of(number(word)?)
+}
+
+// 1 to 1,000.
+fn requests(word: &str) -> Option<u16> {
+    let requests = number(word)?;
+    (1 <= requests && requests <= 1000).then_some(requests)
 }

@@ -1,9 +1,11 @@
 use Rattle.std.proofs.Common.{◌∙◌}
-use Rattle.replica_command.proofs.Printing.{answered_both}
+use Rattle.replica_command.proofs.Printing.{printed_one_more}
 use Rattle.replica_command.proofs.staying.print_outcomes.Goals as goal
 
-pub loop-i-preserved : goal.loop-i-preserved
-loop-i-preserved g c =
-    let both = answered_both (g.W.Sink.text c.args.out.now) (g.W.Sink.text c.loop-i.out) (g.W.Sink.text c.print_turn.new.out)
-    (c.loop-i.invariant.1, c.loop-i.invariant.2) c.in_ok-is_stopped.ensures.printed in
-    (c.in_ok-is_stopped.ensures.blame ∙ c.loop-i.invariant.0, both.0, both.1)
+pub loop-number-preserved : goal.loop-number-preserved
+loop-number-preserved g c =
+    let turn = c.in_ok-print_turn.ensures.printed in (
+      c.in_ok-print_turn.ensures.blame ∙ c.loop-number.invariant.0,
+      printed_one_more _ _ _ _ c.loop-number.number c.loop-number.ending c.in_ok-print_turn.field-0 c.and-ending.result turn.0
+          c.loop-number.invariant.1 turn.1 turn.2 c.and-ending.ensures turn.3,
+    )

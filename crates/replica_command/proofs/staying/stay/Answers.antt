@@ -1,16 +1,26 @@
-use Rattle.std.proofs.Common.{subst, ℕ}
+use Rattle.std.proofs.Common.{◌≡◌, ℕ, List, length, rules, subst}
+use Rattle.std.specs.Prelude.{map}
 use Rattle.streams.specs.Streams.{Wrote}
-use Rattle.streams.proofs.Writing.{wrote_both}
-use Rattle.replica_command.specs.StayText.{answers, closed_line}
+use Rattle.replica_command.specs.StayText.{IsPrinted, closed_line}
+use Rattle.replica_command.specs.declared.worker.Done.{Done}
+use Rattle.replica_command.specs.declared.worker.Work.{Work}
+use Rattle.replica_command.proofs.Gathering.{stay_printed}
 use Rattle.replica_command.proofs.staying.stay.Goals as goal
 
 pub returns-clause-printed : goal.returns-clause-printed
 returns-clause-printed g c =
-    let answered = c.in_ok-is_stopped.ensures.printed in
+    let asked_of = λ (w : Work g.row.N.Denot g.N.Naming). w.requests.items in
+    let answered_of = λ (d : Done g.row.N.Denot g.N.Naming). d.outcomes.items in
+    let receipts_in = λ (d : Done g.row.N.Denot g.N.Naming). d.session.receipts.items in
     let before = g.W.Sink.text c.args.out.now in
     let mid = g.W.Sink.text c.print_outcomes.new.out in
     let after = g.W.Sink.text c.print_count.new.out in
-    let closed = subst (λ (n : ℕ). Wrote mid after (closed_line n)) c.count.ensures.value c.in_ok-print_count.ensures.printed in (
-      answered.0,
-      wrote_both before mid after (answers answered.0) (closed_line _) answered.1 closed,
-    )
+    let done = c.in_ok-done.done.items in
+    let count = c.len-count.result in
+    let closed = c.in_ok-closed.closed in
+    let ending = c.in_ok-ending.ending in
+    let many : count ≡ length c.args.requests.items = search rules in
+    stay_printed g.N.Naming.committee g.N.Naming.replica c.args.requests.items closed.receipts.items asked_of answered_of receipts_in before mid after c.in_ok-work.work.items
+    done count (length closed.parts.log.steps) ending many c.in_ok-work.ensures c.in_ok-done.ensures
+    (subst (λ (ds : List (Done g.row.N.Denot g.N.Naming)). IsPrinted before mid (map answered_of ds) count ending) c.deref.ensures.value c.in_ok-ending.ensures.printed)
+    c.in_ok-closed.ensures.receipts (subst (λ (n : ℕ). Wrote mid after (closed_line n)) c.count.ensures.value c.in_ok-print_count.ensures.printed)

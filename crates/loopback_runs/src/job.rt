@@ -1,0 +1,151 @@
+//! A run of the tool.
+
+use std::alloc::Global;
+use std::fs::{File, Files};
+use std::net::{Net, TcpListener, TcpStream};
+use std::sync::Wait;
+use std::thread::Threads;
+use std::time::{Clock, Duration};
+use std::{fs, io, thread};
+use streams::{MemoryFeed, MemorySink};
+use tool_commands::{Host, run_tool};
+
+/// How often a connection is tried until a replica listens.
+const MOST_KNOCKS: u32 = 600;
+
+/// How long is waited between two of these, in milliseconds.
+const KNOCK_MILLISECONDS: u64 = 100;
+
+/// How many hex digits a vote has.
+const VOTE_DIGITS: usize = 2_988;
+
+/// A run of the tool.
+#[derive(Clone, Copy)]
+pub(crate) enum Job<'a> {
+    /// A replica over the lines of a file, which then hands out its log twice.
+    Replica {
+        number: u16,
+        lines: &'a str,
+        address: &'a str,
+    },
+    /// An audit of all replicas, once each was knocked at: a connection that asks for nothing.
+    Audit {
+        addresses: &'a [String],
+    },
+}
+
+/// What a run said.
+#[derive(Drop)]
+pub(crate) struct Transcript {
+    text: String,
+}
+
+impl Transcript {
+    pub fn text(&self) -> &str {
+        &self.text
+    }
+}
+
+impl Job<'_> {
+    pub fn run<
+        R: Files<File = File>
+            + Threads
+            + Wait
+            + Clock
+            + Net<Listener = TcpListener, Stream = TcpStream>
+            + Sync
+            + AllocGlobal,
+    >(self, rt: &R) -> io::Result<Transcript>
+    where
+        R::Dir: Send,
+    {
+        let alloc = rt.alloc();
+        let (words, input) = match self {
+            Job::Replica {
+                number,
+                lines,
+                address,
+            } => (
+                format!(in alloc;
+                    "replica committee.hsc {number} replica_{number} --serve {address} --requests 2"
+                )?,
+                fs::read(rt, lines)?,
+            ),
+            Job::Audit { addresses } => {
+                fs::create_dir(rt, "verdicts")?;
+                (audit_words(rt, alloc, addresses)?, Vec::new(alloc))
+            }
+        };
+        let words = strings(alloc, &words)?;
+        let host = Host {
+            files: rt,
+            rt,
+            alloc,
+            console: None,
+        };
+        let mut out = MemorySink::new(alloc);
+        let mut faults = MemorySink::new(alloc);
+        let status = run_tool(
+            &host,
+            &words,
+            &mut MemoryFeed::new(input),
+            &mut out,
+            &mut faults,
+        );
+        let text = told(alloc, out.bytes(), faults.bytes(), status)?;
+        Ok(Transcript { text })
+    }
+}
+
+fn audit_words<R: Net<Stream = TcpStream> + Clock>(
+    rt: &R,
+    alloc: Global,
+    addresses: &[String],
+) -> io::Result<String> {
+    let mut words = "audit committee.hsc verdicts".to_string(alloc)?;
+    for (number, address) in addresses.iter().enumerate() {
+        knock(rt, address)?;
+        words.push_str(&format!(in alloc; " {number}=tcp:{address}")?)?;
+    }
+    Ok(words)
+}
+
+// Waits until someone listens at the address.
+fn knock<R: Net<Stream = TcpStream> + Clock>(rt: &R, address: &str) -> io::Result<()> {
+    for _ in 0..MOST_KNOCKS {
+        match TcpStream::connect(rt, address) {
+            Ok(_) => return Ok(()),
+            Err(_) => thread::sleep(rt, Duration::from_millis(KNOCK_MILLISECONDS)),
+        }
+    }
+    Err(io::Error::from(io::ErrorKind::TimedOut))
+}
+
+fn strings(alloc: Global, words: &str) -> io::Result<Vec<String>> {
+    let mut all = Vec::new(alloc);
+    for word in words.split(' ') {
+        all.push(word.to_string(alloc)?)?;
+    }
+    Ok(all)
+}
+
+// The lines of output and of faults, and the status. A vote is not spelled out.
+fn told(alloc: Global, out: &[u8], faults: &[u8], status: u8) -> io::Result<String> {
+    let mut text = String::new(alloc);
+    for line in String::from_utf8_lossy(alloc, out)?.lines() {
+        for (i, word) in line.split(' ').enumerate() {
+            text.push_str(if i == 0 { "" } else { " " })?;
+            text.push_str(if word.len() == VOTE_DIGITS {
+                "VOTE"
+            } else {
+                word
+            })?;
+        }
+        text.push_str("\n")?;
+    }
+    for line in String::from_utf8_lossy(alloc, faults)?.lines() {
+        text.push_str(&format!(in alloc; "! {line}\n")?)?;
+    }
+    text.push_str(&format!(in alloc; "status {status}")?)?;
+    Ok(text)
+}

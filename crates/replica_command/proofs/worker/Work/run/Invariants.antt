@@ -1,0 +1,8 @@
+use Rattle.std.proofs.Common.{◌≡◌, ◌++◌}
+use Rattle.replica_command.specs.Dealing.{AreWorked}
+use Rattle.replica_command.proofs.worker.Work.run.Given as goal
+
+abbrev pub invariant-loop-number : goal.invariant-loop-number
+invariant-loop-number g l =
+    (l.yielded ++ l.number-iterator.rest.items ≡ l.fn.self.requests.items)
+    × AreWorked g.N.Naming.committee g.N.Naming.replica l.yielded l.session.receipts.items l.outcomes.items

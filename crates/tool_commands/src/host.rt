@@ -1,0 +1,17 @@
+//! What the commands are lent.
+
+use std::alloc::Global;
+use std::io::Stderr;
+
+/// What the commands work with.
+#[derive(Clone, Copy)]
+pub struct Host<'a, F, T> {
+    /// Files.
+    pub files: &'a F,
+    /// Threads, locks, a clock and sockets.
+    pub rt: &'a T,
+    /// Memory.
+    pub alloc: Global,
+    /// Where an audit shows how far it has come, if someone looks.
+    pub console: Option<Stderr>,
+}
