@@ -5,11 +5,15 @@ use std::io::{ErrorKind, Read, Write};
 use std::net::{TcpListener, TcpStream};
 use std::time::{Clock, Duration, Instant};
 
-/// How many seconds one read or write may wait.
+/// How many seconds one read may wait: a client sends its request at once.
+pub const REQUEST_SECONDS: u64 = 10;
+
+/// How many seconds one write may wait.
 pub const WAIT_SECONDS: u64 = 30;
 
-/// How many seconds one connection may last. It bounds a client that sends or takes a few bytes at a time.
-pub const CONNECTION_SECONDS: u64 = 600;
+/// How many seconds one connection may last. It bounds a client that sends or takes a few bytes at a time; an auditor that
+/// checks each frame before it takes the next needs minutes.
+pub const CONNECTION_SECONDS: u64 = 3600;
 
 // How often a read or a write is tried that signals interrupt.
 const MOST_INTERRUPTIONS: u32 = 100;
@@ -17,7 +21,8 @@ const MOST_INTERRUPTIONS: u32 = 100;
 /// A connection of a client. What it reads and what becomes of what it writes is not told, since no contract speaks of a
 /// socket.
 ///
-/// A read or a write that waits over 30 seconds is an error, and so is one in a connection that is over 10 minutes old.
+/// A read that waits over 10 seconds is an error, a write that waits over 30, and either in a connection that is over an hour
+/// old.
 #[derive(Drop)]
 pub(crate) struct Connection<'a, R: Clock> {
     clock: &'a R,
@@ -30,7 +35,7 @@ impl<'a, R: Clock> Connection<'a, R> {
     pub(crate) fn accept(clock: &'a R, listener: &TcpListener) -> io::Result<Connection<'a, R>> {
         let (stream, _) = listener.accept()?;
         let since = Instant::now(clock)?;
-        stream.set_read_timeout(Some(Duration::from_secs(WAIT_SECONDS)))?;
+        stream.set_read_timeout(Some(Duration::from_secs(REQUEST_SECONDS)))?;
         stream.set_write_timeout(Some(Duration::from_secs(WAIT_SECONDS)))?;
         Ok(Connection {
             clock,

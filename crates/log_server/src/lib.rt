@@ -8,6 +8,6 @@ mod fault;
 mod service;
 
 pub use answering::answer;
-pub use connection::{CONNECTION_SECONDS, WAIT_SECONDS};
+pub use connection::{CONNECTION_SECONDS, REQUEST_SECONDS, WAIT_SECONDS};
 pub use fault::ServiceFault;
 pub use service::serve_requests;

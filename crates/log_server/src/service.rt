@@ -23,8 +23,8 @@ use vote_log::VoteLog;
 /// the other, with one request each. Each prints `served FRAMES`, or `serve fault N`, N being the number of the
 /// `ServeError`. The log stays as it is.
 ///
-/// A read or a write that waits over 30 seconds fails, and none begins in a connection that is over 10 minutes old. A
-/// connection that can't be accepted, or given these limits, counts as one whose request can't be read: `serve fault 4`.
+/// A read that waits over 10 seconds fails, a write that waits over 30, and none begins in a connection that is over an
+/// hour old. A connection that can't be accepted, or given these limits, counts as one whose request can't be read: `serve fault 4`.
 /// How long it takes until the next client connects is not bounded. Once the call returns nothing listens any more.
 pub fn serve_requests<R: Net<Listener = TcpListener, Stream = TcpStream> + Clock, D: Disk, W: Sink>(
     rt: &R,

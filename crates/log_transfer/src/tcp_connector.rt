@@ -18,20 +18,21 @@ use std::time::{Clock, Duration, Instant};
 /// How many seconds a connect to one address may take.
 pub const CONNECT_SECONDS: u64 = 10;
 
-/// How many seconds one read or write may wait.
-pub const WAIT_SECONDS: u64 = 30;
+/// How many seconds one read or write may wait. A server that serves others first may take some.
+pub const WAIT_SECONDS: u64 = 60;
 
-/// How many seconds one connection may last. It bounds a server that sends a few bytes at a time.
+/// How many seconds all reads of one connection may wait together. It bounds a server that sends a few bytes at a time;
+/// what the reader does between its reads does not count.
 pub const CONNECTION_SECONDS: u64 = 600;
 
 // How many of a host's addresses are tried.
 const MOST_ADDRESSES: usize = 4;
 
-// A connection, when it was opened, and what it may still be read for.
+// A connection, how long its reads have waited, and what it may still be read for.
 #[derive(Drop)]
 struct Open {
     stream: TcpStream,
-    since: Instant,
+    waited: Duration,
     budget: Budget,
 }
 
@@ -39,8 +40,8 @@ struct Open {
 /// what comes. Of what a server gives nothing is told, since no contract speaks of a socket.
 ///
 /// A connect that takes over 10 seconds for each of the host's first four addresses is a fault, and so are a read or
-/// write that waits over 30 seconds, a read in a connection that is over 10 minutes old and one past the most bytes that
-/// a connection is read for, `MOST_OF_A_STREAM`. `Pull` and `fetch` end a stream before it gets there. How long the
+/// write that waits over 60 seconds, a read in a connection whose reads have waited over 10 minutes and one past the most
+/// bytes that a connection is read for, `MOST_OF_A_STREAM`. `Pull` and `fetch` end a stream before it gets there. How long the
 /// look-up of a host's name takes is not bounded here.
 #[derive(Drop)]
 pub struct TcpConnector<'a, R> {
@@ -52,30 +53,32 @@ pub struct TcpConnector<'a, R> {
 
 impl Open {
     // Sends the request over a new connection.
-    fn ask<R: Clock>(clock: &R, stream: TcpStream, request: Request) -> io::Result<Open>
+    fn ask(stream: TcpStream, request: Request) -> io::Result<Open>
         ensures fresh { IfOk result (λ o. o.budget ≡ 0) }
     {
         let mut stream = stream;
-        let since = Instant::now(clock)?;
         stream.set_read_timeout(Some(Duration::from_secs(WAIT_SECONDS)))?;
         stream.set_write_timeout(Some(Duration::from_secs(WAIT_SECONDS)))?;
         stream.write_all(&request.to_bytes())?;
         Ok(Open {
             stream,
-            since,
+            waited: Duration::from_secs(0),
             budget: Budget::new(),
         })
     }
 
-    // Reads, unless the connection is too old or its budget is spent.
+    // Reads, unless its reads have waited too long or its budget is spent.
     fn read<R: Clock>(&mut self, clock: &R, buffer: &mut [u8]) -> io::Result<usize>
         ensures within { IfOk result (λ n. n ≤ length buffer.new) }
         ensures taken { IfOk result (λ n. self.new.budget ≡ self.old.budget + n) }
     {
-        if self.since.elapsed(clock)?.as_secs() >= CONNECTION_SECONDS {
+        if self.waited.as_secs() >= CONNECTION_SECONDS {
             return Err(io::Error::from(ErrorKind::TimedOut));
         }
-        self.budget.read(&mut self.stream, buffer)
+        let since = Instant::now(clock)?;
+        let n = self.budget.read(&mut self.stream, buffer)?;
+        self.waited = self.waited.saturating_add(since.elapsed(clock)?);
+        Ok(n)
     }
 }
 
@@ -111,7 +114,7 @@ impl<'a, R: Net<Stream = TcpStream> + Clock> TcpConnector<'a, R> {
         ensures fresh { IfOk result (λ o. o.budget ≡ 0) }
     {
         let stream = self.connect_to_one()?;
-        Open::ask(self.net, stream, request)
+        Open::ask(stream, request)
     }
 }
 

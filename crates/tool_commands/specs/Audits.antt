@@ -9,8 +9,7 @@ use Rattle.culprit_search.specs.Reports.{IsAudit, Report}
 use Rattle.culprit_search.specs.ReportText.{report_text}
 
 -- the lines of the audit of some evidence under a committee, with these verdicts, each a proof under it
-pub record IsAuditPrinted (before after : Option (List ℕ)) (verdicts : List (List ℕ)) : Type 0 where
-  pub committee : List ℕ
+pub record IsAuditPrinted (committee : List ℕ) (before after : Option (List ℕ)) (verdicts : List (List ℕ)) : Type 0 where
   pub evidence : Evidence
   pub report : Report
   pub under : IsCommittee committee
@@ -22,8 +21,8 @@ pub record IsAuditPrinted (before after : Option (List ℕ)) (verdicts : List (L
 
 -- .. with some verdicts
 abbrev pub AreCulpritsPrinted : Option (List ℕ) → Option (List ℕ) → Type 0
-AreCulpritsPrinted before after = (verdicts : List (List ℕ)) × (verdicts ≢ []) × IsAuditPrinted before after verdicts
+AreCulpritsPrinted before after = (committee : List ℕ) × (verdicts : List (List ℕ)) × (verdicts ≢ []) × IsAuditPrinted committee before after verdicts
 
 -- .. or with none
 abbrev pub IsNoCulpritPrinted : Option (List ℕ) → Option (List ℕ) → Type 0
-IsNoCulpritPrinted before after = IsAuditPrinted before after []
+IsNoCulpritPrinted before after = (committee : List ℕ) × IsAuditPrinted committee before after []

@@ -70,7 +70,7 @@ fn print_report<'a, T: Threads + Sync, C: Connector + Send, W: Sink>(
     out: &mut W,
 ) -> Result<Report, Fault<'a>>
     requires tries { All (MayBeTried C.allowed) sources.items }
-    ensures printed { IfOk result (λ report. IsAuditPrinted (W.text out.old) (W.text out.new) report.verdicts) }
+    ensures printed { IfOk result (λ report. IsAuditPrinted committee.now (W.text out.old) (W.text out.new) report.verdicts) }
     ensures counted { CountsWrites result (W.failed out.old) (W.failed out.new) }
 {
     match audit_run(rt, alloc, committee, sources, out) {

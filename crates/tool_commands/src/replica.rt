@@ -2,7 +2,7 @@
 
 ghost use Rattle.std.specs.Prelude.{◌≡◌, ◌↔◌, ℕ, IfOk};
 ghost use Rattle.key_files.specs.declared.files.KeyFile.{KeyFile as KeyFileValue};
-ghost use Rattle.tool_commands.specs.Stops.{IsStopPrinted};
+ghost use Rattle.tool_commands.specs.Stays.{IsDonePrinted, IsRunPrinted, IsStopPrinted};
 ghost use Rattle.tool_commands.specs.Writes.{CountsWrites};
 
 use crate::fault::{Fault, Place};
@@ -39,6 +39,7 @@ pub fn replica<
     out: &mut W,
 ) -> Result<Ending, Fault<'a>>
     ensures stopped { IfOk result (λ ending. ending ≡ Ending.Stopped → IsStopPrinted (W.text out.old) (W.text out.new)) }
+    ensures done { IfOk result (λ ending. ending ≡ Ending.Done → IsDonePrinted (W.text out.old) (W.text out.new)) }
     ensures counted { CountsWrites result (W.failed out.old) (W.failed out.new) }
 {
     let mut end = run(host, committee, number, path, workers, lines, out)?;
@@ -64,7 +65,7 @@ fn run<'a, F: Files<File = File>, T: Threads + Wait + Sync, R: Feed, W: Sink>(
     lines: &mut R,
     out: &mut W,
 ) -> Result<ReplicaEnd, Fault<'a>>
-    ensures stopped { IfOk result (λ r. r.end.ending ≡ Ending.Stopped → IsStopPrinted (W.text out.old) (W.text out.new)) }
+    ensures printed { IfOk result (λ r. IsRunPrinted (W.text out.old) (W.text out.new) r.end.ending) }
     ensures counted { CountsWrites result (W.failed out.old) (W.failed out.new) }
 {
     let bytes = read_committee(host.files, host.alloc, committee)?;

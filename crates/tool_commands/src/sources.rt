@@ -1,9 +1,8 @@
 //! The words that name the sources of an audit.
 
-ghost use Rattle.std.specs.Prelude.{◌≢◌, IfErr, IfOk};
+ghost use Rattle.std.specs.Prelude.{◌≡◌, ◌≢◌, IfErr, IfOk, length};
 ghost use Rattle.std.specs.List.{All};
-ghost use Rattle.log_transfer.specs.Places.{MayTry};
-ghost use Rattle.log_transfer.specs.Sources.{allowed_of};
+ghost use Rattle.tool_commands.specs.SourceTries.{IsTriedAs};
 
 use crate::fault::Fault;
 use crate::host::Host;
@@ -75,7 +74,7 @@ fn tries_of<T: Net<Stream = TcpStream> + Clock, F: Files<File = File>>(
     connector: &SourceConnector<T, F>,
     tries: Tries,
 ) -> u8
-    ensures { MayTry (allowed_of connector.now) result }
+    ensures { IsTriedAs tries.count connector.now result }
 {
     match connector {
         SourceConnector::Tcp(_) => tries.count(),
@@ -83,7 +82,29 @@ fn tries_of<T: Net<Stream = TcpStream> + Clock, F: Files<File = File>>(
     }
 }
 
-/// The sources, each watched, and each with so many tries, but no more than it allows.
+// The source of a word, the one of this number.
+fn source_of<'a, 'p, F: Files<File = File>, T: Net<Stream = TcpStream> + Clock, P: Watch>(
+    host: &Host<'a, F, T>,
+    word: &SourceWord<'a>,
+    tries: Tries,
+    watch: &'p P,
+    number: usize,
+) -> Source<Watched<'p, SourceConnector<'a, T, F>, P>>
+    ensures tries { IsTriedAs tries.count result.connector.connector result.tries }
+    ensures replica { result.replica ≡ word.now.replica }
+{
+    let connector = match word.origin {
+        Origin::File(path) => SourceConnector::File(FileConnector::new(host.files, path)),
+        Origin::Tcp(address) => SourceConnector::Tcp(TcpConnector::new(host.rt, address)),
+    };
+    Source {
+        replica: word.replica,
+        tries: tries_of(&connector, tries),
+        connector: Watched::new(connector, watch, number),
+    }
+}
+
+/// The sources, each watched, and each with so many tries, but a file with one.
 pub(crate) fn open_sources<
     'a,
     'p,
@@ -96,19 +117,12 @@ pub(crate) fn open_sources<
     tries: Tries,
     watch: &'p P,
 ) -> Result<Vec<Source<Watched<'p, SourceConnector<'a, T, F>, P>>>, AllocError>
-    ensures { IfOk result (λ sources. All (λ s. MayTry (allowed_of s.connector.connector) s.tries) sources.items) }
+    ensures tries { IfOk result (λ sources. All (λ s. IsTriedAs tries.count s.connector.connector s.tries) sources.items) }
+    ensures many { IfOk result (λ sources. length sources.items ≡ length words.now) }
 {
     let mut sources = Vec::with_capacity(host.alloc, words.len())?;
     for (i, word) in words.iter().enumerate() {
-        let connector = match word.origin {
-            Origin::File(path) => SourceConnector::File(FileConnector::new(host.files, path)),
-            Origin::Tcp(address) => SourceConnector::Tcp(TcpConnector::new(host.rt, address)),
-        };
-        sources.push(Source {
-            replica: word.replica,
-            tries: tries_of(&connector, tries),
-            connector: Watched::new(connector, watch, i),
-        })?;
+        sources.push(source_of(host, word, tries, watch, i))?;
     }
     Ok(sources)
 }

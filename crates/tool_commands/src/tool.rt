@@ -2,7 +2,7 @@
 
 ghost use Rattle.std.specs.Prelude.{◌≡◌, ◌≢◌, ◌⊎◌, ◌↔◌, IfOk};
 ghost use Rattle.tool_commands.specs.Audits.{AreCulpritsPrinted};
-ghost use Rattle.tool_commands.specs.Stops.{IsStopPrinted};
+ghost use Rattle.tool_commands.specs.Stays.{IsStopPrinted};
 ghost use Rattle.tool_commands.specs.Writes.{CountsWrites, TellsFault};
 
 use crate::audit::audit_sources;

@@ -1,6 +1,6 @@
 //! What the words of a command line ask for.
 
-ghost use Rattle.std.specs.Prelude.{◌≤◌};
+ghost use Rattle.std.specs.Prelude.{◌≡◌, ◌≤◌};
 
 /// What the words ask for.
 #[derive(Debug, Drop)]
@@ -89,6 +89,7 @@ impl Tries {
 
     /// How many they are.
     pub fn count(self) -> u8
+        ensures value { result ≡ self.count }
         ensures least { 1 ≤ result }
         ensures most { result ≤ 3 }
     {
