@@ -1,5 +1,5 @@
 -- Ids of known headers: each names one header, and where ids rise a search finds it.
-use Rattle.std.proofs.Common.{◌≡◌, ◌≢◌, ◌↔◌, Bool, inl, inr, ℕ, ◌+◌, ◌<◌, List, length, get_or, Option, Some, None, sym, ap, subst, ◌∙◌, arith}
+use Rattle.std.proofs.Common.{◌≡◌, ◌≢◌, ◌↔◌, Bool, inl, inr, ℕ, ◌+◌, ◌<◌, ◌≤◌, List, length, get_or, Option, Some, None, sym, ap, subst, ◌∙◌, arith}
 use Rattle.std.specs.Prelude.{MatchOption, IsTrue, nat_eq}
 use lib.Pointwise.{pointwise}
 use Rattle.std.proofs.lemmas.Slice.Eq.{bytes_eq-Decides}
@@ -11,8 +11,8 @@ use Rattle.std.specs.FinMap.{slice_cmp-IsAntisymmetric, nat_cmp-IsAntisymmetric}
 use Rattle.std.specs.declared.cmp.Ordering.{Ordering}
 use Rattle.std.specs.declared.cmp.Ordering.TheVariants.{Less, Equal, Greater}
 use Rattle.std.proofs.lemmas.Bool.{cases_lt}
-use Rattle.std.proofs.lemmas.List.{get_or_default}
-use Rattle.std.proofs.lemmas.List.Elements.{All-contains}
+use Rattle.std.proofs.lemmas.List.{get_or_default, get_or_past}
+use Rattle.std.proofs.lemmas.List.Elements.{All-contains, Contains-get_or}
 use Rattle.std.proofs.lemmas.List.Sorted.{searchable_from_sorted}
 use Rattle.std.proofs.lemmas.Cmp.{nat_list_cmp_total, tied_itself}
 use Rattle.blocks.specs.Headers.{Header, header_id}
@@ -20,6 +20,7 @@ use Rattle.blocks.specs.Chains.{NoCollision}
 use Rattle.blocks.proofs.Members.{Has-from_Contains, Contains-from_Has, Contains-first, Contains-later}
 use Rattle.blocks.specs.Headers.{HasLowerId}
 use Rattle.ancestry.specs.Known.{Known, IsKnown, all_of}
+use Rattle.ancestry.specs.Links.{header_at}
 
 abbrev pub ranked : List ℕ → List ℕ → Ordering
 ranked x y = slice_cmp nat_cmp x y
@@ -75,10 +76,8 @@ rises hs id rising =
     searchable_from_sorted nat_list_cmp_total header_id hs id (λ k d _ less.
     ap is_lt (nat_list_cmp_total.antisymm (header_id (get_or hs (k + 1) d)) (header_id (get_or hs k d)) ∙ ap ordering_reverse (rising k (k + 1) d (omega arith) less)))
 
-pub header_found : (hs : List Header) (id : List ℕ) (k : ℕ) (h : Header) → k < length hs → h ≡ get_or hs k h → HoldsAt (λ x. ranked (header_id x) id ≡ Equal) hs k
-    → Contains hs h × (header_id h ≡ id)
-header_found hs id k h there is found =
-    ((k, there, sym is), ap (λ (x : Header). header_id x) is ∙ same_text (header_id (get_or hs k h)) id (found h))
+pub header_found : (hs : List Header) (id : List ℕ) (k : ℕ) → HoldsAt (λ x. ranked (header_id x) id ≡ Equal) hs k → HoldsAt (λ x. header_id x ≡ id) hs k
+header_found hs id k found d = same_text (header_id (get_or hs k d)) id (found d)
 
 pub header_missing : (hs : List Header) (id : List ℕ) (place : ℕ) → AllPairs HasLowerId hs
     → (IsNonDecreasingBy (λ h. ordering_index (ranked (header_id h) id)) hs → IsPartitionPoint (λ h. ranked (header_id h) id ≡ Less) (λ h. ranked (header_id h) id ≡ Greater) hs place)
@@ -98,15 +97,27 @@ pub genesis_known : (known : Known) → Contains (all_of known) known.genesis
 genesis_known known = Contains-first known.genesis known.headers
 
 -- what a search among the headers finds where it is not the id of genesis
-pub known_header : (known : Known) (id : List ℕ) (o : Option Header) → header_id known.genesis ≢ id
-    → MatchOption o (All (λ h. header_id h ≢ id) known.headers) (λ h. Contains known.headers h × (header_id h ≡ id))
-    → MatchOption o ((h : Header) → Contains (all_of known) h → header_id h ≢ id) (λ h. Contains (all_of known) h × (header_id h ≡ id))
-known_header known id None other none = λ h there same.
+pub known_position : (known : Known) (id : List ℕ) (o : Option ℕ) → header_id known.genesis ≢ id
+    → MatchOption o (All (λ h. header_id h ≢ id) known.headers) (λ k. (k < length known.headers) × HoldsAt (λ h. header_id h ≡ id) known.headers k)
+    → MatchOption o ((h : Header) → Contains (all_of known) h → header_id h ≢ id) (λ k. (k ≤ length known.headers) × (header_id (header_at known k) ≡ id))
+known_position known id None other none = λ h there same.
     elim (Has-from_Contains (all_of known) h there) [
       | inl first ↦ other (ap (λ (x : Header). header_id x) first ∙ same)
       | inr later ↦ All-contains (λ x. header_id x ≢ id) known.headers h none (Contains-from_Has known.headers h later) same
     ]
-known_header known id (Some h) other found = (Contains-later known.genesis known.headers h found.0, found.1)
+known_position known id (Some k) other found = (omega arith, found.1 known.genesis)
+
+-- behind the headers stands genesis
+pub genesis_at : (known : Known) (n : ℕ) → length known.headers ≤ n → header_at known n ≡ known.genesis
+genesis_at known n past = get_or_past known.headers n known.genesis past
+
+-- what stands at a position is known
+pub at_known : (known : Known) (n : ℕ) → Contains (all_of known) (header_at known n)
+at_known known n =
+    elim (cases_lt n (length known.headers)) [
+      | inl inside ↦ Contains-later known.genesis known.headers (header_at known n) (Contains-get_or known.headers n known.genesis inside)
+      | inr past ↦ subst (λ (x : Header). Contains (all_of known) x) (sym (genesis_at known n past)) (genesis_known known)
+    ]
 
 -- a test whether two ids are one
 pub ids_decide : (r : Bool) (x y : List ℕ) → r ≡ pointwise nat_eq x y → IsTrue r ↔ (x ≡ y)

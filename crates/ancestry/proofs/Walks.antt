@@ -1,5 +1,5 @@
 -- A walk from a header to genesis.
-use Rattle.std.proofs.Common.{◌≡◌, ◌⊎◌, ◌↔◌, Bool, false, inl, inr, ℕ, ◌<◌, List, [], ◌∷◌, refl, sym, ◌∙◌, ap, subst, arith}
+use Rattle.std.proofs.Common.{◌≡◌, ◌⊎◌, ◌↔◌, Bool, false, inl, inr, ℕ, ◌<◌, ◌≤◌, List, [], ◌∷◌, refl, sym, ◌∙◌, ap, subst, arith}
 use Rattle.std.specs.List.{Any, Contains}
 use Rattle.std.proofs.lemmas.Bool.{false≢true}
 use Rattle.blocks.specs.Headers.{Header, IsGenesis, header_id}
@@ -75,12 +75,47 @@ not_parent hs b p r apart in_p named test fails (k, q, lt, at, n) =
 pub genesis_ends : (g p : Header) → IsGenesis g → IsParent g p → ⊥
 genesis_ends g p is n = let z = is.view in let l = n.1 in absurd (omega arith)
 
--- a linked header that has a parent is linked through it
-pub linked_down : (hs : List Header) (g at p : Header) → IsGenesis g → NoCollision hs → Contains hs p → IsParent at p → IsLinked hs g at → IsLinked hs g p
-linked_down hs g at p is apart in_p n ([], c) = absurd (genesis_ends g p is (subst (λ (x : Header). IsParent x p) c.0 n))
-linked_down hs g at p is apart in_p n (q ∷ qs, c) =
-    let d = chain_down hs g at q qs c in
-    subst (λ (x : Header). IsLinked hs g x) (same_parent hs at q p apart d.there in_p d.parent n) (qs, d.chain)
+-- where a chain leads is not younger
+pub not_younger : (hs : List Header) (a b : Header) (ps : List Header) → IsChainIn hs a b ps → a.view ≤ b.view
+not_younger hs a b [] c = let same = ap (λ (h : Header). h.view) c.0 in omega arith
+not_younger hs a b (p ∷ ps) c =
+    let d = chain_down hs a b p ps c in
+    let rest = not_younger hs a p ps d.chain in
+    let older = d.parent.1 in
+    omega arith
+
+-- .. and if it is not older either, it is the header itself
+pub leads_to_itself : (hs : List Header) (a b : Header) → b.view ≤ a.view → IsLinked hs a b → b ≡ a
+leads_to_itself hs a b low ([], c) = c.0
+leads_to_itself hs a b low (p ∷ ps, c) =
+    let d = chain_down hs a b p ps c in
+    let rest = not_younger hs a p ps d.chain in
+    let older = d.parent.1 in
+    absurd (omega arith)
+
+-- a chain to an older header leads through the parent
+pub linked_down : (hs : List Header) (a at p : Header) → NoCollision hs → a.view < at.view → Contains hs p → IsParent at p → IsLinked hs a at → IsLinked hs a p
+linked_down hs a at p apart older in_p n ([], c) = let same = ap (λ (h : Header). h.view) c.0 in absurd (omega arith)
+linked_down hs a at p apart older in_p n (q ∷ qs, c) =
+    let d = chain_down hs a at q qs c in
+    subst (λ (x : Header). IsLinked hs a x) (same_parent hs at q p apart d.there in_p d.parent n) (qs, d.chain)
+
+-- a chain that goes on
+pub linked_through : (hs : List Header) (a m b : Header) (ps : List Header) → IsChainIn hs m b ps → IsLinked hs a m → IsLinked hs a b
+linked_through hs a m b [] c l = subst (λ (x : Header). IsLinked hs a x) (sym c.0) l
+linked_through hs a m b (p ∷ ps) c l =
+    let d = chain_down hs m b p ps c in
+    linked_up hs a b p (c.1 b (Contains-first b (p ∷ ps))) d.parent (linked_through hs a m p ps d.chain l)
+
+-- of two headers to which a chain leads, the younger leads to the older
+pub linked_past : (hs : List Header) (a m b : Header) (ps : List Header) → NoCollision hs → a.view ≤ m.view → IsChainIn hs m b ps → IsLinked hs a b → IsLinked hs a m
+linked_past hs a m b [] apart low c l = subst (λ (x : Header). IsLinked hs a x) c.0 l
+linked_past hs a m b (p ∷ ps) apart low c l =
+    let d = chain_down hs m b p ps c in
+    let rest = not_younger hs m p ps d.chain in
+    let step = d.parent.1 in
+    let older : a.view < b.view = omega arith in
+    linked_past hs a m p ps apart low d.chain (linked_down hs a b p apart older d.there d.parent l)
 
 -- a linked header that has none is genesis
 pub linked_last : (hs : List Header) (g at : Header) → (Any (IsParent at) hs → ⊥) → IsLinked hs g at → at ≡ g
@@ -97,21 +132,39 @@ ancestor_here hs g at p c n l = (p ∷ l.0, chain_up hs g at p l.0 c n l.1, Cont
 pub ancestor_up : (hs : List Header) (g a at p : Header) → Contains hs at → IsParent at p → IsAncestor hs g a p → IsAncestor hs g a at
 ancestor_up hs g a at p c n is = (p ∷ is.0, chain_up hs g at p is.0 c n is.1, Contains-later p is.0 a is.2)
 
--- and no other header is
-pub ancestor_down : (hs : List Header) (g a at p : Header) → IsGenesis g → NoCollision hs → Contains hs p → IsParent at p → IsAncestor hs g a at → (p ≡ a) ⊎ IsAncestor hs g a p
-ancestor_down hs g a at p is apart in_p n ([], c, m) = absurd (not_in_none a m)
-ancestor_down hs g a at p is apart in_p n (q ∷ qs, c, m) =
-    let d = chain_down hs g at q qs c in
-    let same = same_parent hs at q p apart d.there in_p d.parent n in
-    elim (head_or_later q qs a m) [
-      | inl here ↦ inl (sym same ∙ here)
-      | inr later ↦ inr (subst (λ (x : Header). IsAncestor hs g a x) same (qs, d.chain, later))
+-- an ancestor is older
+pub older : (g a b : Header) (ps : List Header) → IsChain g b ps → Contains ps a → a.view < b.view
+older g a b [] c m = absurd (not_in_none a m)
+older g a b (p ∷ ps) c m =
+    elim (head_or_later p ps a m) [
+      | inl here ↦ let k = ap (λ (h : Header). h.view) here in let l = c.1 in omega arith
+      | inr later ↦ let k = older g a p ps c.2 later in let l = c.1 in omega arith
     ]
 
-pub ancestor_last : (hs : List Header) (g a at : Header) → (Any (IsParent at) hs → ⊥) → IsAncestor hs g a at → ⊥
-ancestor_last hs g a at none ([], c, m) = not_in_none a m
-ancestor_last hs g a at none (q ∷ qs, c, m) =
-    let d = chain_down hs g at q qs c in none (any_parent hs g at q qs d)
+-- a chain leads to each ancestor
+pub leads_to_ancestor : (hs : List Header) (g a b : Header) (ps : List Header) → IsChainIn hs g b ps → Contains ps a → IsLinked hs a b
+leads_to_ancestor hs g a b [] c m = absurd (not_in_none a m)
+leads_to_ancestor hs g a b (p ∷ ps) c m =
+    let d = chain_down hs g b p ps c in
+    let in_b = c.1 b (Contains-first b (p ∷ ps)) in
+    elim (head_or_later p ps a m) [
+      | inl here ↦ linked_up hs a b p in_b d.parent (subst (λ (x : Header). IsLinked hs x p) here (linked_genesis hs p d.there))
+      | inr later ↦ linked_up hs a b p in_b d.parent (leads_to_ancestor hs g a p ps d.chain later)
+    ]
+
+-- .. and each other header to which one leads is an ancestor, where it is linked
+pub ancestor_through : (hs : List Header) (g a b p : Header) (ps : List Header) → Contains hs b → IsParent b p → IsChainIn hs a p ps → IsLinked hs g a → IsAncestor hs g a b
+ancestor_through hs g a b p [] in_b n c l =
+    subst (λ (x : Header). IsAncestor hs g x b) c.0 (ancestor_here hs g b p in_b n (subst (λ (x : Header). IsLinked hs g x) (sym c.0) l))
+ancestor_through hs g a b p (q ∷ qs) in_b n c l =
+    let d = chain_down hs a p q qs c in
+    ancestor_up hs g a b p in_b n (ancestor_through hs g a p q qs (c.1 p (Contains-first p (q ∷ qs))) d.parent d.chain l)
+
+pub ancestor_where_led : (hs : List Header) (g a b : Header) → (a ≡ b → ⊥) → IsLinked hs a b → IsLinked hs g a → IsAncestor hs g a b
+ancestor_where_led hs g a b other ([], c) l = absurd (other (sym c.0))
+ancestor_where_led hs g a b other (p ∷ ps, c) l =
+    let d = chain_down hs a b p ps c in
+    ancestor_through hs g a b p ps (c.1 b (Contains-first b (p ∷ ps))) d.parent d.chain l
 
 -- ---- genesis among the headers
 
@@ -122,18 +175,6 @@ chain_with hs g b ps there = (
 )
 
 -- ---- by ids
-
--- a walk that ended: the header is genesis, or there is no chain
-pub at_last : (known : Known) (at b : Header) (r : Bool) → IsKnown known → Contains (all_of known) at → (Any (IsParent at) (all_of known) → ⊥)
-    → IsTrue r ↔ (header_id at ≡ header_id known.genesis)
-    → IsLinked (all_of known) known.genesis b ↔ IsLinked (all_of known) known.genesis at
-    → IsTrue r ↔ IsLinked (all_of known) known.genesis b
-at_last known at b r is there none test same =
-    let hs = all_of known in
-    let g = known.genesis in (
-      λ t. same.1 (subst (λ (x : Header). IsLinked hs g x) (sym (apart known is at g there (genesis_known known) (test.0 t))) (linked_genesis hs g (genesis_known known))),
-      λ l. test.1 (ap (λ (x : Header). header_id x) (linked_last hs g at none (same.0 l))),
-    )
 
 -- the known header of an id is the one that is meant
 pub linked_is : (known : Known) (id : List ℕ) (b : Header) → IsKnown known → Contains (all_of known) b → header_id b ≡ id → IsLinkedId known id → IsLinked (all_of known) known.genesis b
@@ -154,15 +195,6 @@ ancestor_is known first second a b is in_a in_b named_a named_b (h, k, same_h, s
 
 pub genesis_linked : (known : Known) → IsLinkedId known (header_id known.genesis)
 genesis_linked known = (known.genesis, refl, linked_genesis (all_of known) known.genesis (genesis_known known))
-
--- views fall along a chain
-older : (g a b : Header) (ps : List Header) → IsChain g b ps → Contains ps a → a.view < b.view
-older g a b [] c m = absurd (not_in_none a m)
-older g a b (p ∷ ps) c m =
-    elim (head_or_later p ps a m) [
-      | inl here ↦ let k = ap (λ (h : Header). h.view) here in let l = c.1 in omega arith
-      | inr later ↦ let k = older g a p ps c.2 later in let l = c.1 in omega arith
-    ]
 
 pub not_its_own : (known : Known) (id : List ℕ) → IsKnown known → IsAncestorId known id id → ⊥
 not_its_own known id is (h, k, same_h, same_k, l) =

@@ -1,33 +1,37 @@
 //! An index of headers.
 
-ghost use Rattle.std.specs.Prelude.{◌≡◌, ◌≢◌, ◌<◌, ◌↔◌, ◌∷◌, IsTrue, IsSome, IfOk, IfSome, MatchOption};
-ghost use Rattle.std.specs.List.{All, Any, AllPairs, Contains};
+ghost use Rattle.std.specs.Prelude.{◌≡◌, ◌≢◌, ◌<◌, ◌≤◌, ◌+◌, ◌↔◌, ◌∷◌, IsTrue, IsSome, IfOk, IfSome, MatchOption, length};
+ghost use Rattle.std.specs.List.{All, AllPairs, Contains};
 ghost use Rattle.blocks.specs.Headers.{Header as HeaderValue, IsGenesis, header_id};
 ghost use Rattle.blocks.specs.Chains.{IsLinked, IsAncestor};
 ghost use Rattle.blocks.specs.Headers.{HasLowerId};
 ghost use Rattle.ancestry.specs.Known.{all_of, IsAloneAmong, IsKnown, IsLinkedId, IsAncestorId};
-ghost use Rattle.ancestry.specs.Parents.{IsParent};
+ghost use Rattle.ancestry.specs.Links.{header_at, LeadsTo, IsLink, IsStep, IsEnd};
 
-use blocks::{Header, Id, NamedHeader};
+use crate::links::{Link, by_view, links_of};
+use crate::positions::{header_at, place_of, position_of};
+use blocks::{Id, NamedHeader};
 use std::alloc::{AllocError, Global};
 use std::marker::Model;
 
-/// Headers in which chains to genesis are followed. Contracts see genesis and the headers. Each answer walks
-/// chains down to genesis, with a search of the sorted ids for each block on them, and takes no memory.
+/// Headers in which chains to genesis are followed. Contracts see genesis and the headers. An answer costs a
+/// search of the sorted ids, and a number of steps that grows with the logarithm of the chain; it takes no memory.
 #[derive(Drop)]
 pub struct Ancestry {
     genesis: NamedHeader,
     headers: Vec<NamedHeader>,
+    links: Vec<Link>,
 }
 
 impl Model for Ancestry {
-    ghost use Rattle.ancestry.specs.Known.{Known, IsKnown};
+    ghost use Rattle.ancestry.specs.Known.{Known};
+    ghost use Rattle.ancestry.specs.Links.{IsIndex};
 
     ghost Value = { Known };
 
     ghost view = { λ a. record { genesis = a.genesis; headers = a.headers.items } };
 
-    ghost invariant = { λ a. IsKnown (record { genesis = a.genesis; headers = a.headers.items }) };
+    ghost invariant = { λ a. IsIndex (record { genesis = a.genesis; headers = a.headers.items }) a.links.items };
 }
 
 /// The header of this id, among headers whose ids rise strictly, byte by byte from the first; None where none
@@ -37,10 +41,8 @@ pub fn header_of(headers: &[NamedHeader], id: &Id) -> Option<NamedHeader>
     ensures { MatchOption result (All (λ h. header_id h ≢ id.now) headers.now)
         (λ h. Contains headers.now h × (header_id h ≡ id.now)) }
 {
-    match headers.binary_search_by(|h| h.id().cmp(id)) {
-        Ok(k) => Some(headers[k]),
-        Err(_) => None,
-    }
+    let k = place_of(headers, id)?;
+    Some(headers[k])
 }
 
 // Whether two blocks have one id.
@@ -50,17 +52,10 @@ fn same_id(a: &NamedHeader, b: &NamedHeader) -> bool
     a.id() == b.id()
 }
 
-// Whether p has the view that b names for its parent, and is older than b.
-fn has_parent_view(b: &Header, p: &Header) -> bool
-    ensures { IsTrue result ↔ ((b.now.parent_view ≡ p.now.view) × (p.now.view < b.now.view)) }
-{
-    b.parent_view == p.view && p.view < b.view
-}
-
 impl Ancestry {
     /// The index of `genesis` and these headers, whose ids rise strictly, byte by byte from the first. Genesis
     /// may stand among them; no other header may have its id. Memory is refused where the headers, 112 bytes
-    /// each, could not be copied.
+    /// each, and 16 bytes for each besides, could not be kept, or 24 more while they are linked.
     pub fn build(
         alloc: Global,
         genesis: NamedHeader,
@@ -71,10 +66,58 @@ impl Ancestry {
         requires alone { IsAloneAmong genesis headers.now }
         ensures ok { IfOk result (λ a. a ≡ record { genesis = genesis; headers = headers.now }) }
     {
-        Ok(Ancestry {
+        let links = links_of(alloc, &genesis, headers)?;
+        let mut index = Ancestry {
             genesis,
             headers: headers.to_vec(alloc)?,
-        })
+            links,
+        };
+        index.set_jumps(alloc)?;
+        Ok(index)
+    }
+
+    // Gives each header a jump, parents first. That the steps of an answer are few then is no clause; it only
+    // saves time.
+    fn set_jumps(&mut self, alloc: Global) -> Result<(), AllocError>
+        ensures { self.new ≡ self.old }
+    {
+        let order = by_view(alloc, &self.headers)?;
+        let mut lengths = vec![in alloc; 0; self.links.len()]?;
+        for (_, at) in &order {
+            self.set_jump(&mut lengths, *at);
+        }
+        Ok(())
+    }
+
+    // Gives the header at this position a jump, and notes how many blocks down it is.
+    fn set_jump(&mut self, lengths: &mut [u64], at: usize)
+        requires at_in { at ≤ length self.old.headers }
+        requires lengths { length lengths.old ≡ length self.old.headers + 1 }
+        ensures { self.new ≡ self.old }
+    {
+        let (jump, length) = self.jump_of(lengths, at);
+        self.links[at].jump = jump;
+        lengths[at] = length;
+    }
+
+    // Where the jump of the header at this position ends, and its length: over the next two jumps where they are
+    // of one length, and else at the parent (Myers, "An applicative random-access stack", 1983).
+    fn jump_of(&self, lengths: &[u64], at: usize) -> (usize, u64)
+        requires at_in { at ≤ length self.now.headers }
+        requires lengths { length lengths.now ≡ length self.now.headers + 1 }
+        ensures jump_in { result.0 ≤ length self.now.headers }
+        ensures jump { LeadsTo self.now (header_at self.now at) (header_at self.now result.0) }
+    {
+        let parent = self.link(at).parent;
+        if self.view_at(at) <= self.view_at(parent) {
+            return (at, 0);
+        }
+        let middle = self.link(parent).jump;
+        if lengths[parent] != lengths[middle] {
+            return (parent, 1);
+        }
+        let length = lengths[parent].saturating_mul(2).saturating_add(1);
+        (self.link(middle).jump, length)
     }
 
     /// The genesis of the chains.
@@ -92,43 +135,80 @@ impl Ancestry {
         &self.headers
     }
 
-    // The known header of this id.
-    fn known(&self, id: &Id) -> Option<NamedHeader>
-        ensures header { MatchOption result ((h : HeaderValue) → Contains (all_of self.now) h → header_id h ≢ id.now)
-            (λ h. Contains (all_of self.now) h × (header_id h ≡ id.now)) }
+    // The position of the known header of this id.
+    fn position(&self, id: &Id) -> Option<usize>
+        ensures position { MatchOption result ((h : HeaderValue) → Contains (all_of self.now) h → header_id h ≢ id.now)
+            (λ k. (k ≤ length self.now.headers) × (header_id (header_at self.now k) ≡ id.now)) }
         ensures known { IsKnown self.now }
     {
-        if self.genesis.id() == id {
-            return Some(self.genesis);
-        }
-        header_of(&self.headers, id)
+        position_of(&self.genesis, &self.headers, id)
     }
 
-    // The known parent that a header names, by id and view, which is older than the header.
-    fn parent_of(&self, b: &NamedHeader) -> Option<NamedHeader>
-        ensures parent { MatchOption result (Any (IsParent b.now) (all_of self.now) → ⊥)
-            (λ p. Contains (all_of self.now) p × IsParent b.now p) }
+    // The header at this position.
+    fn header(&self, at: usize) -> &NamedHeader
+        ensures header { result.now ≡ header_at self.now at }
         ensures known { IsKnown self.now }
     {
-        let b = b.header();
-        let p = self.known(&b.parent)?;
-        if has_parent_view(b, p.header()) {
-            Some(p)
-        } else {
-            None
-        }
+        header_at(&self.genesis, &self.headers, at)
     }
 
-    // Whether a known header has a chain to genesis.
-    fn has_chain(&self, b: &NamedHeader) -> bool
-        requires { Contains (all_of self.now) b.now }
-        ensures { IsTrue result ↔ IsLinked (all_of self.now) self.now.genesis b.now }
+    // The view of the header at this position.
+    fn view_at(&self, at: usize) -> u64
+        ensures { result ≡ (header_at self.now at).view }
     {
-        let mut at = *b;
-        while let Some(p) = self.parent_of(&at) {
-            at = p;
+        self.header(at).header().view
+    }
+
+    // The link of the header at this position.
+    fn link(&self, at: usize) -> Link
+        requires { at ≤ length self.now.headers }
+        ensures link { IsLink self.now at result }
+        ensures known { IsKnown self.now }
+    {
+        self.links[at]
+    }
+
+    // A step down the chain, to a position that is not past this view: the jump if it is such, and else the
+    // parent. None where the header at this position has this view or a lower one, or no known parent.
+    fn step(&self, at: usize, view: u64) -> Option<usize>
+        requires { at ≤ length self.now.headers }
+        ensures { MatchOption result (IsEnd self.now at view) (IsStep self.now at view) }
+    {
+        let here = self.view_at(at);
+        if here <= view {
+            return None;
         }
-        same_id(&at, &self.genesis)
+        let link = self.link(at);
+        let far = self.view_at(link.jump);
+        if view <= far && far < here {
+            return Some(link.jump);
+        }
+        if self.view_at(link.parent) < here {
+            return Some(link.parent);
+        }
+        None
+    }
+
+    // Whether a chain leads from the header at this position to the header a; one leads from each to itself.
+    fn leads_to(&self, from: usize, a: &NamedHeader) -> bool
+        requires from_in { from ≤ length self.now.headers }
+        requires there { Contains (all_of self.now) a.now }
+        ensures { IsTrue result ↔ LeadsTo self.now (header_at self.now from) a.now }
+    {
+        let view = a.header().view;
+        let mut at = from;
+        while let Some(next) = self.step(at, view) {
+            at = next;
+        }
+        same_id(self.header(at), a)
+    }
+
+    // Whether the header at this position has a chain to genesis.
+    fn has_chain(&self, at: usize) -> bool
+        requires { at ≤ length self.now.headers }
+        ensures { IsTrue result ↔ IsLinked (all_of self.now) self.now.genesis (header_at self.now at) }
+    {
+        self.leads_to(at, &self.genesis)
     }
 
     /// Whether a header of this id is known and has a chain to genesis: each block names the next as its parent,
@@ -136,26 +216,25 @@ impl Ancestry {
     pub fn linked(&self, id: &Id) -> bool
         ensures { IsTrue result ↔ IsLinkedId self.now id.now }
     {
-        match self.known(id) {
-            Some(b) => self.has_chain(&b),
+        match self.position(id) {
+            Some(at) => self.has_chain(at),
             None => false,
         }
     }
 
-    // Whether a stands above b in its chain.
-    fn stands_above(&self, a: &NamedHeader, b: &NamedHeader) -> bool
-        requires there { Contains (all_of self.now) a.now }
-        requires linked { IsLinked (all_of self.now) self.now.genesis b.now }
-        ensures { IsTrue result ↔ IsAncestor (all_of self.now) self.now.genesis a.now b.now }
+    // Whether the block a stands above the block b in its chain.
+    fn stands_above(&self, a: usize, b: usize) -> bool
+        requires a_in { a ≤ length self.now.headers }
+        requires b_in { b ≤ length self.now.headers }
+        requires linked { IsLinked (all_of self.now) self.now.genesis (header_at self.now a) }
+        ensures { IsTrue result
+            ↔ IsAncestor (all_of self.now) self.now.genesis (header_at self.now a) (header_at self.now b) }
     {
-        let mut below = *b;
-        while let Some(p) = self.parent_of(&below) {
-            if same_id(&p, a) {
-                return true;
-            }
-            below = p;
+        let above = self.header(a);
+        if same_id(above, self.header(b)) {
+            return false;
         }
-        false
+        self.leads_to(b, above)
     }
 
     /// Whether the block a stands in the chain of the block b, after b itself; no block is its own ancestor.
@@ -164,11 +243,11 @@ impl Ancestry {
         ensures linked { IsSome result ↔ (IsLinkedId self.now a.now × IsLinkedId self.now b.now) }
         ensures ancestor { IfSome result (λ is. IsTrue is ↔ IsAncestorId self.now a.now b.now) }
     {
-        let first = self.known(a)?;
-        let second = self.known(b)?;
-        if !self.has_chain(&first) || !self.has_chain(&second) {
+        let first = self.position(a)?;
+        let second = self.position(b)?;
+        if !self.has_chain(first) || !self.has_chain(second) {
             return None;
         }
-        Some(self.stands_above(&first, &second))
+        Some(self.stands_above(first, second))
     }
 }

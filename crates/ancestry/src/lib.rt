@@ -4,6 +4,8 @@
 
 mod ancestry;
 mod laws;
+mod links;
+mod positions;
 
 pub use ancestry::{Ancestry, header_of};
 pub use laws::{
