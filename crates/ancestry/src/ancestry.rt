@@ -54,8 +54,8 @@ fn same_id(a: &NamedHeader, b: &NamedHeader) -> bool
 
 impl Ancestry {
     /// The index of `genesis` and these headers, whose ids rise strictly, byte by byte from the first. Genesis
-    /// may stand among them; no other header may have its id. Memory is refused where the headers, 112 bytes
-    /// each, and 16 bytes for each besides, could not be kept, or 24 more while they are linked.
+    /// may stand among them; no other header may have its id. Memory is refused where it could not have 128 bytes
+    /// for each header, and 24 more for each while it runs.
     pub fn build(
         alloc: Global,
         genesis: NamedHeader,
@@ -77,7 +77,7 @@ impl Ancestry {
     }
 
     // Gives each header a jump, parents first. That the steps of an answer are few then is no clause; it only
-    // saves time.
+    // saves time, and answers are right whatever the order and the jumps.
     fn set_jumps(&mut self, alloc: Global) -> Result<(), AllocError>
         ensures { self.new ≡ self.old }
     {
@@ -168,28 +168,27 @@ impl Ancestry {
         self.links[at]
     }
 
-    // A step down the chain, to a position that is not past this view: the jump if it is such, and else the
-    // parent. None where the header at this position has this view or a lower one, or no known parent.
+    // The next position on the way down to a block of this view: where the jump ends, if it does not pass the
+    // view, and else that of the parent. None where the view is reached, or the parent is not known.
     fn step(&self, at: usize, view: u64) -> Option<usize>
         requires { at ≤ length self.now.headers }
         ensures { MatchOption result (IsEnd self.now at view) (IsStep self.now at view) }
     {
         let here = self.view_at(at);
-        if here <= view {
-            return None;
-        }
-        let link = self.link(at);
-        let far = self.view_at(link.jump);
-        if view <= far && far < here {
-            return Some(link.jump);
-        }
-        if self.view_at(link.parent) < here {
-            return Some(link.parent);
+        if view < here {
+            let link = self.link(at);
+            let far = self.view_at(link.jump);
+            if view <= far && far < here {
+                return Some(link.jump);
+            }
+            if self.view_at(link.parent) < here {
+                return Some(link.parent);
+            }
         }
         None
     }
 
-    // Whether a chain leads from the header at this position to the header a; one leads from each to itself.
+    // Whether the chain of the header at this position leads to the header a. Each leads to itself.
     fn leads_to(&self, from: usize, a: &NamedHeader) -> bool
         requires from_in { from ≤ length self.now.headers }
         requires there { Contains (all_of self.now) a.now }

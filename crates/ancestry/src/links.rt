@@ -9,12 +9,12 @@ use crate::positions::{header_at, position_of};
 use blocks::{Header, NamedHeader};
 use std::alloc::{AllocError, Global};
 
-/// How chains go on from a header, by positions: where its parent is not known, at its own.
+/// How the chain of a header goes on. Both are the header's own position where its parent is not known.
 #[derive(Clone, Copy)]
 pub(crate) struct Link {
-    /// That of its parent.
+    /// The position of its parent.
     pub(crate) parent: usize,
-    /// That of a header in its chain, often one far down.
+    /// The position of its parent or of a header farther down its chain.
     pub(crate) jump: usize,
 }
 
