@@ -203,3 +203,103 @@ fn lying_parent_view(rt: HostRuntime) -> Result<(), Fail> {
     assert!(rt; known.is_ancestor(a1.id(), lying.id()) == None);
     Ok(())
 }
+
+// A block of two chains: on the first, or on that which leaves it; and how high it stands above genesis.
+#[derive(Clone, Copy)]
+struct Placed {
+    block: NamedHeader,
+    aside: bool,
+    height: u64,
+}
+
+// How high the last block stands that both chains have.
+const FORK: u64 = 150;
+
+// Whether the first block stands in the chain of the second, after the second itself, as the chains were built.
+fn stands_above(first: &Placed, second: &Placed) -> bool {
+    if first.aside == second.aside {
+        first.height < second.height
+    } else {
+        second.aside && first.height <= FORK
+    }
+}
+
+// The next block on this one. On either chain views rise by 3.
+fn next_on(parent: &Placed, aside: bool) -> Result<Placed, Fail> {
+    let height = parent.height.saturating_add(1);
+    let view = height.saturating_mul(3).saturating_add(u64::from(aside));
+    let parent_view = parent.block.header().view;
+    if view <= parent_view {
+        return Err("views do not rise".into());
+    }
+    let block = NamedHeader::of(Header {
+        view,
+        parent_view,
+        parent: *parent.block.id(),
+        payload: [u8::from(aside); 32],
+    });
+    Ok(Placed {
+        block,
+        aside,
+        height,
+    })
+}
+
+// Adds so many blocks on this one.
+fn grow(blocks: &mut Vec<Placed>, parent: Placed, count: usize, aside: bool) -> Result<(), Fail> {
+    let mut last = parent;
+    for _ in 0..count {
+        last = next_on(&last, aside)?;
+        blocks.push(last)?;
+    }
+    Ok(())
+}
+
+// Genesis with 300 blocks on it, and 100 on the block in their middle.
+fn two_chains(alloc: Global) -> Result<Vec<Placed>, Fail> {
+    let genesis = Placed {
+        block: stored(fork::genesis())?,
+        aside: false,
+        height: 0,
+    };
+    let mut blocks = Vec::new(alloc);
+    blocks.push(genesis)?;
+    grow(&mut blocks, genesis, 300, false)?;
+    let middle = *blocks.get(150).ok_or("the chain is short")?;
+    grow(&mut blocks, middle, 100, true)?;
+    Ok(blocks)
+}
+
+// The index of these blocks.
+fn index_of(alloc: Global, blocks: &[Placed]) -> Result<Ancestry, Fail> {
+    let mut headers = Vec::new(alloc);
+    for placed in blocks {
+        if placed.height > 0 {
+            headers.push(placed.block)?;
+        }
+    }
+    index(alloc, headers)
+}
+
+// Whether each block is told to be an ancestor of this one where it stands above it, and of no other.
+fn has_its_ancestors(known: &Ancestry, blocks: &[Placed], second: &Placed) -> bool {
+    for first in blocks {
+        let found = known.is_ancestor(first.block.id(), second.block.id());
+        if found != Some(stands_above(first, second)) {
+            return false;
+        }
+    }
+    true
+}
+
+// Of each two blocks of long chains that fork.
+#[test]
+fn ancestors_on_long_chains(rt: HostRuntime) -> Result<(), Fail> {
+    let blocks = two_chains(rt.alloc())?;
+    let known = index_of(rt.alloc(), &blocks)?;
+    assert!(rt; blocks.len() == 401);
+    for second in &blocks {
+        assert!(rt; has_its_ancestors(&known, &blocks, second));
+    }
+    Ok(())
+}
