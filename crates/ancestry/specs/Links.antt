@@ -1,4 +1,4 @@
--- Known headers by their positions, and the links that an index keeps between them.
+-- Known headers by their positions, and the links that an index keeps between them. No public clause speaks of them.
 use Rattle.std.specs.Prelude.{◌≡◌, ◌<◌, ◌≤◌, ◌+◌, ◌⊎◌, ℕ, List, length, slice_index_or}
 use Rattle.std.specs.List.{Any}
 use Rattle.blocks.specs.Headers.{Header}
