@@ -14,7 +14,7 @@ use Rattle.accountability.specs.Culprits.{BreakARule}
 use Rattle.culprit_search.specs.Searches.{IsFoundAt, IsNoViolation, NoneIsAt, ShowsViolation}
 
 -- where ids rise one header at most has an id
-only_one : (hs : List Header) (id : List ℕ) (view other : ℕ) (h k : Header) → AllPairs HasLowerId hs → IsFoundAt hs id view h → IsFoundAt hs id other k → h ≡ k
+pub only_one : (hs : List Header) (id : List ℕ) (view other : ℕ) (h k : Header) → AllPairs HasLowerId hs → IsFoundAt hs id view h → IsFoundAt hs id other k → h ≡ k
 only_one hs id view other h k rising (in_h, at_h) (in_k, at_k) = apart_in hs rising h k in_h in_k (at_h.id_is ∙ sym at_k.id_is)
 
 -- none has the id, or the one that has it has another view

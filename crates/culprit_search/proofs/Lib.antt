@@ -1,5 +1,7 @@
 pub mod Breaches
 pub mod VotesInOrder
+pub mod LockFacts
+pub mod Screens
 pub mod VotePairs
 pub mod Written
 pub mod NamedPairs

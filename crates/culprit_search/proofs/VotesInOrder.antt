@@ -16,7 +16,7 @@ use Rattle.culprit_search.specs.Searches.{AreOwnVotes}
 
 -- ---- the least that passes
 
-in_front : {X : Type 0} (xs : List X) (k j : ℕ) (y : X) → j < k → j < length xs → get_or xs j y ≡ y → Contains (take k xs) y
+pub in_front : {X : Type 0} (xs : List X) (k j : ℕ) (y : X) → j < k → j < length xs → get_or xs j y ≡ y → Contains (take k xs) y
 in_front xs k j y before there is =
     let long : j < length (take k xs) = omega (arith, length-take k xs) in
     (j, long, get_or-take k xs j y before ∙ is)
@@ -41,7 +41,10 @@ first_is_least {X} R P xs k x rising there is none y (j, there_j, is_j) passes =
 abbrev pub replica_of : SignedVote → ℕ
 replica_of v = v.replica
 
-greater : (a b : ℕ) → b < a → nat_cmp a b ≡ Greater
+abbrev pub view_of : SignedVote → ℕ
+view_of v = v.view
+
+pub greater : (a b : ℕ) → b < a → nat_cmp a b ≡ Greater
 greater a b l = grind (arith, nat_tests)
 
 no_lower : (o p : Ordering) → o ≡ Greater → ordering_then o p ≡ Less → ⊥
@@ -75,27 +78,29 @@ part_rises {X} R xs a n within rising i j d less there =
     (subst (λ (x : X). R (get_or xs (a + i) d) x) (sym (part_at xs a n j d j_in)) (rising (a + i) (a + j) d (omega arith) (omega arith)))
 
 -- what stands before a place, and what stands from it on
-pub record Parts (vs : List SignedVote) (n : ℕ) (Low High : ℕ → Type 0) : Type 0 where
+pub record Parts (key : SignedVote → ℕ) (vs : List SignedVote) (n : ℕ) (Low High : ℕ → Type 0) : Type 0 where
   pub within : n ≤ length vs
-  pub low : (k : ℕ) (d : SignedVote) → k < n → Low (get_or vs k d).replica
-  pub high : (k : ℕ) (d : SignedVote) → n ≤ k → k < length vs → High (get_or vs k d).replica
+  pub low : (k : ℕ) (d : SignedVote) → k < n → Low (key (get_or vs k d))
+  pub high : (k : ℕ) (d : SignedVote) → n ≤ k → k < length vs → High (key (get_or vs k d))
 
-pub parts_below : (vs : List SignedVote) (n r : ℕ) → n ≤ length vs → IsPartitionPoint (λ (v : SignedVote). ltb v.replica r ≡ true) (λ v. ltb v.replica r ≡ false) vs n → Parts vs n (λ q. q < r) (λ q. r ≤ q)
-parts_below vs n r within point = record {
+pub parts_below : (key : SignedVote → ℕ) (vs : List SignedVote) (n r : ℕ) → n ≤ length vs → IsPartitionPoint (λ (v : SignedVote). ltb (key v) r ≡ true) (λ v. ltb (key v) r ≡ false) vs n
+    → Parts key vs n (λ q. q < r) (λ q. r ≤ q)
+parts_below key vs n r within point = record {
   within = within;
   low = λ k d l. ltb-true _ _ (point.0 k d (omega arith) l);
   high = λ k d l there. ltb-false _ _ (point.1 k d l there);
 }
 
-pub parts_up_to : (vs : List SignedVote) (n r : ℕ) → n ≤ length vs → IsPartitionPoint (λ (v : SignedVote). leb v.replica r ≡ true) (λ v. leb v.replica r ≡ false) vs n → Parts vs n (λ q. q ≤ r) (λ q. r < q)
-parts_up_to vs n r within point = record {
+pub parts_up_to : (key : SignedVote → ℕ) (vs : List SignedVote) (n r : ℕ) → n ≤ length vs → IsPartitionPoint (λ (v : SignedVote). leb (key v) r ≡ true) (λ v. leb (key v) r ≡ false) vs n
+    → Parts key vs n (λ q. q ≤ r) (λ q. r < q)
+parts_up_to key vs n r within point = record {
   within = within;
   low = λ k d l. leb-true _ _ (point.0 k d (omega arith) l);
   high = λ k d l there. leb-false _ _ (point.1 k d l there);
 }
 
 -- behind the first place and before the second the replica's votes stand, and no others
-pub own_between : (e : Evidence) (r a n : ℕ) → AllPairs IsLowerVote e.votes → Parts e.votes a (λ q. q < r) (λ q. r ≤ q) → Parts (drop a e.votes) n (λ q. q ≤ r) (λ q. r < q)
+pub own_between : (e : Evidence) (r a n : ℕ) → AllPairs IsLowerVote e.votes → Parts replica_of e.votes a (λ q. q < r) (λ q. r ≤ q) → Parts replica_of (drop a e.votes) n (λ q. q ≤ r) (λ q. r < q)
     → AreOwnVotes e r (take n (drop a e.votes))
 own_between e r a n rising first second =
     let vs = e.votes in
@@ -127,9 +132,9 @@ own_between e r a n rising first second =
     }
 
 -- the same of lists that are those of the evidence
-pub own_votes_in : (e : Evidence) (r a n : ℕ) (vs rest : List SignedVote) → vs ≡ e.votes → rest ≡ drop a vs → AllPairs IsLowerVote e.votes → Parts vs a (λ q. q < r) (λ q. r ≤ q)
-    → Parts rest n (λ q. q ≤ r) (λ q. r < q) → AreOwnVotes e r (take n rest)
+pub own_votes_in : (e : Evidence) (r a n : ℕ) (vs rest : List SignedVote) → vs ≡ e.votes → rest ≡ drop a vs → AllPairs IsLowerVote e.votes → Parts replica_of vs a (λ q. q < r) (λ q. r ≤ q)
+    → Parts replica_of rest n (λ q. q ≤ r) (λ q. r < q) → AreOwnVotes e r (take n rest)
 own_votes_in e r a n vs rest same behind rising first second =
     let whole : rest ≡ drop a e.votes = behind ∙ ap (drop a) same in
-    subst (λ (l : List SignedVote). Parts l n (λ q. q ≤ r) (λ q. r < q) → AreOwnVotes e r (take n l)) (sym whole)
-    (own_between e r a n rising (subst (λ (l : List SignedVote). Parts l a (λ q. q < r) (λ q. r ≤ q)) same first)) second
+    subst (λ (l : List SignedVote). Parts replica_of l n (λ q. q ≤ r) (λ q. r < q) → AreOwnVotes e r (take n l)) (sym whole)
+    (own_between e r a n rising (subst (λ (l : List SignedVote). Parts replica_of l a (λ q. q < r) (λ q. r ≤ q)) same first)) second

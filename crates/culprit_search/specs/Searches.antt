@@ -1,7 +1,9 @@
 -- Searching evidence for the pairs of votes that break a rule. docs/DEFINITIONS.md, "Culprits".
-use Rattle.std.specs.Prelude.{◌≡◌, ◌↔◌, ℕ, List, Option, Some, None}
-use Rattle.std.specs.List.{AllPairs, Contains}
+use Rattle.std.specs.Prelude.{◌≡◌, ◌<◌, ◌≤◌, ◌↔◌, ℕ, List, Option, Some, None, get_or, length, take}
+use Rattle.std.specs.List.{All, AllPairs, Contains}
 use Rattle.blocks.specs.Headers.{Header, header_id}
+use Rattle.blocks.specs.Rules.{IsDoubleVote}
+use Rattle.certificates.specs.Votes.{ballot_of}
 use Rattle.certificates.specs.declared.vote.SignedVote.{SignedVote}
 use Rattle.evidence.specs.Evidence.{Evidence}
 use Rattle.evidence.specs.Votes.{IsLowerVote}
@@ -9,6 +11,7 @@ use Rattle.verdict_format.specs.declared.parts.VerdictParts.{VerdictParts}
 use Rattle.verdict_format.specs.VerdictText.{IsVerdictOf}
 use Rattle.verdict_format.specs.Verdicts.{VotedHeaders}
 use Rattle.accountability.specs.Culprits.{BreakARule, IsVoteAtMost, Shows}
+use Rattle.culprit_search.specs.declared.locks.Locks.{Locks}
 use Rattle.culprit_search.specs.declared.pairs.Offence.{Offence}
 
 -- ---- headers
@@ -69,6 +72,49 @@ pub record IsLeastPair (e : Evidence) (own : List SignedVote) (o : Offence) : Ty
   pub later_among : Contains own o.later
   pub against : IsLeastAgainst e own o.later o
   pub least_later : (x y : SignedVote) → Contains own x → Contains own y → BreakARule e x y → IsVoteAtMost o.later y
+
+-- ---- a screen
+
+-- these votes are by one replica
+abbrev pub AreByOne : List SignedVote → Type 0
+AreByOne own = (v w : SignedVote) → Contains own v → Contains own w → v.replica ≡ w.replica
+
+-- the votes of this view stand from one place on and before another
+pub record StandBetween (own : List SignedVote) (view start end : ℕ) : Type 0 where
+  pub within : end ≤ length own
+  pub exact : (i : ℕ) (d : SignedVote) → i < length own → ((start ≤ i) × (i < end)) ↔ ((get_or own i d).view ≡ view)
+
+-- none of these votes is a double vote with w
+abbrev pub NoneIsDouble : List SignedVote → SignedVote → Type 0
+NoneIsDouble own w = (v : SignedVote) → Contains own v → IsDoubleVote (ballot_of v) (ballot_of w) → ⊥
+
+-- the vote shows a lock on this view: the parent of the vote's block stands on a block of it
+pub record IsLockView (e : Evidence) (v : SignedVote) (view : ℕ) : Type 0 where
+  pub block : Header
+  pub block_found : IsFoundAt e.headers v.id v.view block
+  pub parent : Header
+  pub parent_found : IsFoundAt e.headers block.parent block.parent_view parent
+  pub view_is : parent.parent_view ≡ view
+
+-- the vote shows no lock
+abbrev pub ShowsNoLock : Evidence → SignedVote → Type 0
+ShowsNoLock e v = (view : ℕ) → IsLockView e v view → ⊥
+
+-- .. none above this view
+abbrev pub HasNoLockAbove : Evidence → ℕ → SignedVote → Type 0
+HasNoLockAbove e n v = (view : ℕ) → IsLockView e v view → view ≤ n
+
+-- the votes that were looked at show no lock above the greatest
+abbrev pub FirstHaveNoLockAbove : Evidence → List SignedVote → Locks → Type 0
+FirstHaveNoLockAbove e own locks = All (HasNoLockAbove e locks.greatest) (take locks.joined own)
+
+-- those of these votes that are below a view show no lock above n
+abbrev pub LowerHaveNoLockAbove : Evidence → List SignedVote → ℕ → ℕ → Type 0
+LowerHaveNoLockAbove e own view n = (v : SignedVote) → Contains own v → v.view < view → HasNoLockAbove e n v
+
+-- w's block is in evidence, and names a parent below this view
+abbrev pub IsOnParentBelow : Evidence → SignedVote → ℕ → Type 0
+IsOnParentBelow e w view = (h : Header) × IsFoundAt e.headers w.id w.view h × (h.parent_view < view)
 
 -- ---- verdicts
 

@@ -41,8 +41,8 @@ pub fn block_of(evidence: &Evidence, vote: &SignedVote) -> Option<NamedHeader>
     header_at(evidence, &vote.id, vote.view)
 }
 
-// The header of the parent that a block names, if it is in evidence.
-fn parent_of(evidence: &Evidence, block: &Header) -> Option<NamedHeader>
+/// The header of the parent that a block names, if it is in evidence.
+pub fn parent_of(evidence: &Evidence, block: &Header) -> Option<NamedHeader>
     ensures { MatchOption result (NoneIsAt evidence.now.headers block.now.parent block.now.parent_view)
         (IsFoundAt evidence.now.headers block.now.parent block.now.parent_view) }
 {

@@ -4,8 +4,10 @@
 mod auditing;
 mod breach;
 mod lines;
+mod locks;
 mod pairs;
 mod report;
+mod screen;
 mod search;
 mod verdict;
 mod writing;

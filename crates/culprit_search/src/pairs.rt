@@ -5,9 +5,11 @@ ghost use Rattle.std.specs.List.{AllPairs, Contains};
 ghost use Rattle.certificates.specs.declared.vote.SignedVote.{SignedVote as SignedVoteValue};
 ghost use Rattle.evidence.specs.Votes.{IsLowerVote};
 ghost use Rattle.accountability.specs.Culprits.{IsCulprit, IsNamedPair, Shows};
-ghost use Rattle.culprit_search.specs.Searches.{AreOwnVotes, IsLeastAgainst, IsLeastPair, NoTwoBreak, NoneBreaksWith};
+ghost use Rattle.culprit_search.specs.Searches.{AreByOne, AreOwnVotes, IsLeastAgainst, IsLeastPair, NoTwoBreak, NoneBreaksWith};
 
 use crate::breach::{block_of, breach_of};
+use crate::locks::{Locks, join_lower};
+use crate::screen::may_break;
 use certificates::SignedVote;
 use evidence::Evidence;
 use verdict_format::VotedHeaders;
@@ -52,14 +54,20 @@ fn least_against(evidence: &Evidence, own: &[SignedVote], w: &SignedVote) -> Opt
     None
 }
 
-// The least pair of a replica's votes that breaks a rule: the later vote is the least, then the earlier.
+// The least pair of a replica's votes that breaks a rule: the later vote is the least, then the earlier. A vote is
+// compared with all others only where the screen says that it may break a rule with one.
 fn least_pair(evidence: &Evidence, own: &[SignedVote]) -> Option<Offence>
     requires rising { AllPairs IsLowerVote own.now }
+    requires by_one { AreByOne own.now }
     ensures { MatchOption result (NoTwoBreak evidence.now own.now) (IsLeastPair evidence.now own.now) }
 {
+    let mut locks = Locks::none();
     for w in own {
-        if let Some(offence) = least_against(evidence, own, w) {
-            return Some(offence);
+        locks = join_lower(evidence, own, w.view, locks);
+        if may_break(evidence, own, w, locks.greatest) {
+            if let Some(offence) = least_against(evidence, own, w) {
+                return Some(offence);
+            }
         }
     }
     None

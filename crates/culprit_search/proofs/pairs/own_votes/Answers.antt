@@ -25,5 +25,5 @@ returns c =
     IsPartitionPoint-from_clause (λ (v : SignedVote). leb v.replica r) rest c.partition_point-len.result c.partition_point-len.ensures.partitioned
     (IsPartitionedBy-leb replica_of rest r (IsNonDecreasingBy-take replica_of (length vs - start) (drop start vs) (IsNonDecreasingBy-drop replica_of start vs up))) (λ a b q k. search rules)
     in
-    own_votes_in e r start c.partition_point-len.result vs rest same (take_rest vs start) rising (parts_below vs start r c.partition_point-start.ensures.bound first)
-    (parts_up_to rest c.partition_point-len.result r c.partition_point-len.ensures.bound second)
+    own_votes_in e r start c.partition_point-len.result vs rest same (take_rest vs start) rising (parts_below replica_of vs start r c.partition_point-start.ensures.bound first)
+    (parts_up_to replica_of rest c.partition_point-len.result r c.partition_point-len.ensures.bound second)
