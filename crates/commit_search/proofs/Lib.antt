@@ -1,4 +1,5 @@
 pub mod Choices
+pub mod Parents
 pub mod Orders
 pub mod CommitFacts
 pub mod ConflictFacts

@@ -11,6 +11,7 @@ ghost use Rattle.commit_search.specs.Chosen.{AreCertifiedHeaders, AreThose};
 ghost use Rattle.evidence.specs.Evidence.{Evidence as EvidenceValue, IsEvidence};
 ghost use Rattle.commit_search.specs.Successors.{IsNext, HasNext, HasTwoNext, IsCommitAmong};
 
+use crate::by_parent::ByParent;
 use crate::certified::certified_headers;
 use crate::same::are_same;
 use ancestry::Ancestry;
@@ -32,36 +33,39 @@ fn is_next(b: &NamedHeader, h: &NamedHeader) -> bool
 
 // Whether one of these blocks is on b, in the view after.
 #[tactic(auto, unfolding(crate::specs::Successors::HasNext))]
-fn has_next(certified: &[NamedHeader], b: &NamedHeader) -> bool
+fn has_next(certified: &ByParent, b: &NamedHeader) -> bool
     ensures { IsTrue result ↔ HasNext certified.now b.now }
 {
-    certified.iter().any(|h| is_next(b, h))
+    certified.on(b.id()).iter().any(|h| is_next(b, h))
 }
 
 // Whether one of these blocks is next after b, and another is next after that one.
 #[tactic(auto, unfolding(crate::specs::Successors::HasTwoNext))]
-fn has_two_next(certified: &[NamedHeader], b: &NamedHeader) -> bool
+fn has_two_next(certified: &ByParent, b: &NamedHeader) -> bool
     ensures { IsTrue result ↔ HasTwoNext certified.now b.now }
 {
     certified
+        .on(b.id())
         .iter()
         .any(|h| is_next(b, h) && has_next(certified, h))
 }
 
-// Whether a block is committed by two known blocks, on a chain of them.
-fn is_commit_among(chains: &Ancestry, b: &NamedHeader) -> bool
+// Whether a block is committed by two known blocks, on a chain of them. These are given once more by their parents.
+fn is_commit_among(chains: &Ancestry, certified: &ByParent, b: &NamedHeader) -> bool
+    requires { (h : HeaderValue) → Contains certified.now h ↔ Contains chains.now.headers h }
     ensures { IsTrue result ↔ IsCommitAmong chains.now b.now }
 {
-    !are_same(b, &chains.genesis()) && chains.linked(b.id()) && has_two_next(chains.headers(), b)
+    !are_same(b, &chains.genesis()) && chains.linked(b.id()) && has_two_next(certified, b)
 }
 
 // The known blocks that known blocks commit, by rising id.
 fn commits_among(alloc: Global, chains: &Ancestry) -> Result<Vec<NamedHeader>, AllocError>
     ensures { IfOk result (λ chosen. AreThose (IsCommitAmong chains.now) chains.now.headers chosen.items) }
 {
+    let certified = ByParent::of(alloc, chains.headers())?;
     let mut chosen = Vec::new(alloc);
     for header in chains.headers() {
-        if is_commit_among(chains, header) {
+        if is_commit_among(chains, &certified, header) {
             chosen.push(*header)?;
         }
     }

@@ -1,6 +1,7 @@
 //! The commits that evidence proves, and the first two of them that conflict. Needs no threads, files or network.
 #![tactic(auto)]
 
+mod by_parent;
 mod certified;
 mod commits;
 mod conflicts;

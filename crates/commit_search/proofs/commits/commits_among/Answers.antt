@@ -1,7 +1,7 @@
-use Rattle.std.proofs.Common.{sym, subst}
-use Rattle.std.specs.List.{AllPairs}
+use Rattle.std.proofs.Common.{◌↔◌, List, sym, subst}
+use Rattle.std.specs.List.{AllPairs, Contains}
 use Rattle.std.proofs.lemmas.Bool.{iff_false}
-use Rattle.blocks.specs.Headers.{HasLowerId}
+use Rattle.blocks.specs.Headers.{Header, HasLowerId}
 use Rattle.commit_search.specs.Successors.{IsCommitAmong}
 use Rattle.commit_search.proofs.Choices.{chosen_over, chosen_more}
 use Rattle.commit_search.proofs.commits.commits_among.Goals as goal
@@ -21,3 +21,7 @@ loop-header-preserved c =
           rw w.chosen-is (rw w.in_ok-push.ensures.items (chosen_more Is hs chosen i x rising c.loop-header-test.true c.header-item.is before (c.is_commit_among.ensures.0 w.if-is_commit_among.true)))
       | else-is_commit_among w ↦ rw w.chosen-is (chosen_over Is hs chosen i x c.loop-header-test.true c.header-item.is before (iff_false c.is_commit_among.ensures w.if-is_commit_among.false))
     ]
+
+pub is_commit_among-requires : goal.is_commit_among-requires
+is_commit_among-requires c =
+    λ h. subst (λ (hs : List Header). Contains c.in_ok-certified.certified h ↔ Contains hs h) c.headers.ensures.value (c.in_ok-certified.ensures h)
