@@ -10,4 +10,6 @@ mod fork_tests;
 #[cfg(test)]
 mod offence_tests;
 #[cfg(test)]
+mod pair_tests;
+#[cfg(test)]
 mod sources;
