@@ -1,23 +1,37 @@
 //! A memo of checked votes, shared by threads.
 
-ghost use Rattle.std.specs.Prelude.{◌≡◌, IfOk, IfSome};
+ghost use Rattle.std.specs.Prelude.{◌≡◌, ◌↔◌, IfOk, IfSome, IsTrue};
+ghost use Rattle.certificates.specs.Votes.{IsGoodVote};
 ghost use Rattle.vote_board.specs.Answers.{IsAnswerOn};
 
-use crate::judged::Judged;
+use crate::memo::Memo;
 use crate::naming::Naming;
 use blocks::CommitteeView;
-use certificates::SignedVote;
+use certificates::{LmsVerifier, SignedVote, Verifier, is_signed_by};
 use std::alloc::{AllocError, Global};
-use std::collections::BTreeMap;
 use std::sync::{Mutex, Wait};
 
+// Whether the vote is good: its replica is one of the committee, and signed it.
+fn is_good<V: Verifier>(verifier: &V, committee: &CommitteeView, vote: &SignedVote) -> bool
+    ensures { IsTrue result ↔ IsGoodVote committee.now vote.now }
+{
+    vote.replica < committee.n()
+        && is_signed_by(
+            verifier,
+            committee,
+            vote.replica,
+            &vote.ballot(),
+            &vote.signature,
+        )
+}
+
 /// The votes that were checked under a committee, each with its answer. Threads share it by reference. It keeps some
-/// 3 kilobytes for each different vote that it was asked for, and forgets none.
+/// 1,500 bytes for each different vote that it was asked for, and forgets none.
 #[derive(Drop)]
 pub struct Board<'a, N: Naming> {
     committee: CommitteeView<'a>,
     // grows only
-    judged: Mutex<BTreeMap<SignedVote, Judged<N>>>,
+    memo: Mutex<Memo<N>>,
     ghost named: { committee ≡ N.committee },
 }
 
@@ -28,31 +42,49 @@ impl<'a, N: Naming> Board<'a, N> {
     {
         Board {
             committee,
-            judged: Mutex::new(BTreeMap::new(alloc)),
+            memo: Mutex::new(Memo::new(alloc)),
         }
     }
 
-    // The answer that is remembered of a vote.
+    // What is remembered of a vote.
     fn recall<R: Wait>(&self, rt: &R, vote: &SignedVote) -> Option<bool>
         ensures { IfSome result (IsAnswerOn N.committee vote.now) }
     {
-        let judged = self.judged.lock(rt);
-        judged.get(vote)?.answer_for(vote)
+        self.memo.lock(rt).recall(vote)
+    }
+
+    // Remembers the answer to a vote.
+    fn remember<R: Wait>(&self, rt: &R, vote: &SignedVote, is_good: bool) -> Result<(), AllocError>
+        requires { IsAnswerOn N.committee vote.now is_good }
+    {
+        self.memo.lock(rt).remember(vote, is_good)
     }
 
     /// Whether the vote is good: its replica is one of the committee, and signed the vote's view and id in the
-    /// committee's chain. The answer is looked up where the vote was checked before; else the vote is checked, while no
-    /// lock is held, and its answer is remembered, good or bad. Two threads that ask for one vote at the same time may
-    /// both check it. Where memory is refused nothing more is remembered.
+    /// committee's chain. It is looked up where the vote was checked before; else the vote is checked, while no lock is
+    /// held, and the answer is remembered, good or bad. Two threads that ask for one vote at the same time may both check
+    /// it. Where memory is refused no answer is given, and what is remembered stays as it was.
     pub fn check<R: Wait>(&self, rt: &R, vote: &SignedVote) -> Result<bool, AllocError>
         ensures { IfOk result (IsAnswerOn N.committee vote.now) }
     {
-        if let Some(is_good) = self.recall(rt, vote) {
-            return Ok(is_good);
+        self.check_by(rt, &LmsVerifier, vote)
+    }
+
+    /// The same as `check`, with signatures checked by this verifier, which a test may watch.
+    pub fn check_by<R: Wait, V: Verifier>(
+        &self,
+        rt: &R,
+        verifier: &V,
+        vote: &SignedVote,
+    ) -> Result<bool, AllocError>
+        ensures { IfOk result (IsAnswerOn N.committee vote.now) }
+    {
+        if let Some(answer) = self.recall(rt, vote) {
+            return Ok(answer);
         }
-        let judged = Judged::of(&self.committee, vote);
-        let is_good = judged.is_good();
-        self.judged.lock(rt).insert(*vote, judged)?;
-        Ok(is_good)
+        // The lock is not held here: others look up and remember meanwhile.
+        let answer = is_good(verifier, &self.committee, vote);
+        self.remember(rt, vote, answer)?;
+        Ok(answer)
     }
 }

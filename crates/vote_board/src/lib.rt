@@ -3,7 +3,7 @@
 #![tactic(auto)]
 
 mod board;
-mod judged;
+mod memo;
 mod naming;
 
 pub use board::Board;

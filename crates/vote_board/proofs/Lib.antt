@@ -1,0 +1,2 @@
+pub mod VoteOrder
+pub mod Remembered
