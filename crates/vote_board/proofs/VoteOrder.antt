@@ -1,21 +1,13 @@
--- The order of votes is total, and tells votes apart.
+-- The order of votes tells votes apart.
 use Rattle.std.proofs.Common.{◌≡◌, ◌∙◌, ℕ, List, refl, ap}
-use Rattle.std.specs.Cmp.{IsTotalOrder}
 use Rattle.std.specs.Ordering.{ordering_then}
 use Rattle.std.specs.declared.cmp.Ordering.{Ordering}
 use Rattle.std.specs.declared.cmp.Ordering.TheVariants.{Less, Equal, Greater}
-use Rattle.std.proofs.lemmas.Cmp.{nat_cmp_total, nat_list_cmp_total, on_total, then_total}
 use Rattle.std.proofs.lemmas.Map.Lookups.{CmpEqualImpliesEq, exact_unsigned, exact_bytes}
 use Rattle.certificates.specs.declared.vote.SignedVote.{SignedVote}
 use Rattle.vote_board.specs.Answers.{vote_cmp}
 
-pub votes_total : IsTotalOrder vote_cmp
-votes_total =
-    then_total (on_total (λ (v : SignedVote). v.replica) nat_cmp_total) (
-    then_total (on_total (λ (v : SignedVote). v.view) nat_cmp_total) (
-    then_total (on_total (λ (v : SignedVote). v.id) nat_list_cmp_total) (on_total (λ (v : SignedVote). v.signature) nat_list_cmp_total)))
-
-pub both_equal : (a b : Ordering) → ordering_then a b ≡ Equal → (a ≡ Equal) × (b ≡ Equal)
+both_equal : (a b : Ordering) → ordering_then a b ≡ Equal → (a ≡ Equal) × (b ≡ Equal)
 both_equal Less b e = absurd cc
 both_equal Equal b e = (refl, e)
 both_equal Greater b e = absurd cc

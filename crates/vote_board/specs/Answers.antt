@@ -1,4 +1,4 @@
--- Answers to whether votes are good, and the order of votes. docs/DEFINITIONS.md, "Votes".
+-- Answers to whether votes are good, and the order of votes. docs/DEFINITIONS.md, "Good votes".
 use Rattle.std.specs.Prelude.{◌≡◌, ◌↔◌, ℕ, List, Bool, IsTrue, Option, Some}
 use Rattle.std.specs.Cmp.Lexicographic.{slice_cmp}
 use Rattle.std.specs.BTreeMap.{is_at}
@@ -20,6 +20,6 @@ vote_cmp v w = ordering_then (nat_cmp v.replica w.replica) (ordering_then (nat_c
 abbrev pub answer_in : List (SignedVote × Bool) → SignedVote → Option Bool
 answer_in answers v = lookup (is_at (vote_cmp v)) answers
 
--- what is remembered are the answers to these votes
+-- each answer that is remembered is the one to its vote
 abbrev pub AreAnswers : List ℕ → List (SignedVote × Bool) → Type 0
 AreAnswers committee answers = (v : SignedVote) (is_good : Bool) → answer_in answers v ≡ Some is_good → IsAnswerOn committee v is_good

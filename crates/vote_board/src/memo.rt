@@ -49,7 +49,7 @@ impl<N: Naming> Memo<N> {
         self.answers.get(vote).copied()
     }
 
-    // Remembers the answer to a vote, and what it had. Where memory is refused it is as it was.
+    // Remembers the answer to a vote; what is remembered of others stays. Where memory is refused nothing changes.
     pub(crate) fn remember(&mut self, vote: &SignedVote, is_good: bool) -> Result<(), AllocError>
         requires { IsAnswerOn N.committee vote.now is_good }
         ensures ok { OnOk result (answer_in self.new vote.now ≡ Some is_good) }

@@ -1,0 +1,34 @@
+//! What the tests share, over bytes of an independent program.
+
+use blocks::CommitteeView;
+use certificates::{Certificate, SignedVote};
+use fixtures::{certificates as texts, verdicts};
+use std::alloc::Global;
+use std::process::Abort;
+
+/// The stored committee.
+pub(crate) fn committee<R: Abort>(rt: &R) -> CommitteeView<'static> {
+    let committee = CommitteeView::parse(verdicts::committee()).ok();
+    committee.expect(rt, "a committee")
+}
+
+// The first vote of the certificate of A1, that of replica 0.
+fn stored_vote(alloc: Global) -> Option<SignedVote> {
+    let certificate = Certificate::read(alloc, texts::of_a1()).ok()?;
+    if certificate.count() == 0 {
+        return None;
+    }
+    Some(certificate.vote(0))
+}
+
+/// A good vote.
+pub(crate) fn good_vote<R: Abort + AllocGlobal>(rt: &R) -> SignedVote {
+    stored_vote(rt.alloc()).expect(rt, "a vote")
+}
+
+/// The same vote, with one bit of the last byte of its signature changed: it is not good.
+pub(crate) fn bad_vote<R: Abort + AllocGlobal>(rt: &R) -> SignedVote {
+    let mut vote = good_vote(rt);
+    vote.signature[1451] ^= 1;
+    vote
+}
