@@ -3,3 +3,4 @@ pub mod BlockLemmas
 pub mod JoinedLemmas
 pub mod DigestBytes
 pub mod SignedVerifies
+pub mod WalkLemmas

@@ -7,16 +7,16 @@ use Rattle.sha2.proofs.Facts256.{length-sha256}
 use Rattle.wire.specs.Pieces.{number_at, piece}
 use Rattle.lmots.specs.Chains.{chain_end, chain_step, chain_steps, joined, key_of_ends, ots_private, ots_public_key, prefix}
 use Rattle.lmots.specs.Signatures.{IsOtsSignature, candidate_key, continued, message_coefficients, message_hash, ots_signature, randomizer, signed_value}
-use Rattle.lmots.proofs.ChainLemmas.{steps_none, steps_more}
+use Rattle.sha256_lanes.proofs.ChainLemmas.{steps_none, steps_more}
 use Rattle.lmots.proofs.DigestBytes.{AreBytes-coefficients, AreBytes-sha256}
 use Rattle.lmots.proofs.JoinedLemmas.{joined-same, length-joined, piece-joined, piece_behind}
 
 -- ---- chains
 
 -- the steps up to a place, and then n more
-steps-then : (p : List ℕ) (from mid n : ℕ) (x : List ℕ) → from ≤ mid
+pub steps-then : (p : List ℕ) (from mid n : ℕ) (x : List ℕ) → from ≤ mid
     → chain_steps p mid (mid + n) (chain_steps p from mid x) ≡ chain_steps p from (mid + n) x
-steps-then p from mid zero x h = rw add-zero (steps_none p mid (chain_steps p from mid x))
+steps-then p from mid zero x h = rw add-zero (steps_none p mid mid (chain_steps p from mid x) (omega arith))
 steps-then p from mid (suc n) x h =
     let next : mid + suc n ≡ (mid + n) + 1 = omega arith in
     let here : mid ≤ mid + n = omega arith in

@@ -1,9 +1,11 @@
 -- The keys of LM-OTS with LMOTS_SHA256_N32_W8 (RFC 8554, sections 3 and 4 and Appendix A), as functions
 -- on lists of bytes. `id` is a key's id of 16 bytes, `seed` its seed of 32 bytes, and q the number of
 -- one of its one-time keys. Each one-time key has 34 chains of 255 steps.
-use Rattle.std.specs.Prelude.{◌≡◌, ◌<◌, ℕ, zero, suc, List, [], ◌∷◌, ◌++◌, nat_le, slice_index_or, if◌then◌else◌}
+use Rattle.std.specs.Prelude.{◌≡◌, ◌<◌, ℕ, zero, suc, List, [], ◌∷◌, ◌++◌, slice_index_or}
 use Rattle.byteorder.specs.Endian.{big_bytes}
 use Rattle.sha2.specs.Sha256.{sha256}
+-- the steps of a chain (section 4.3)
+unfoldable pub use Rattle.sha256_lanes.specs.Chains.{chain_step, chain_steps}
 
 -- what stands first in all that is hashed: the id, q, and the number of a chain or of a use
 unfoldable pub prefix : List ℕ → ℕ → ℕ → List ℕ
@@ -13,16 +15,6 @@ prefix id q number = id ++ big_bytes 4 q ++ big_bytes 2 number
 unfoldable pub joined : (ℕ → List ℕ) → ℕ → List ℕ
 joined f zero = []
 joined f (suc n) = joined f n ++ f n
-
--- step j from the value x, of the chain whose prefix is `head` (section 4.3)
-unfoldable pub chain_step : List ℕ → ℕ → List ℕ → List ℕ
-chain_step head j x = sha256 (head ++ j ∷ [] ++ x)
-
--- x after the steps from, from + 1, up to until - 1 of that chain
-unfoldable pub chain_steps : List ℕ → ℕ → ℕ → List ℕ → List ℕ
-chain_steps head from zero x = x
-chain_steps head from (suc until) x =
-    if nat_le from until then chain_step head until (chain_steps head from until x) else x
 
 -- x_q[i], where chain i begins (Appendix A)
 unfoldable pub ots_private : List ℕ → List ℕ → ℕ → ℕ → List ℕ

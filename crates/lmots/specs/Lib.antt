@@ -1,3 +1,4 @@
 pub mod Chains
+pub mod Walks
 pub mod Signatures
 pub mod Refusals

@@ -45,9 +45,13 @@ pub record IsOtsSignature (signature : List ℕ) : Type 0 where
   pub long : length signature ≡ 1124
   pub ots_type : number_at 4 signature 0 ≡ 4
 
+-- what a signature shows of chain i
+abbrev pub shown_value : List ℕ → ℕ → List ℕ
+shown_value signature i = piece 32 signature (36 + 32 * i)
+
 -- where the signer ended chain i: the steps that the signature leaves
 unfoldable pub continued : List ℕ → ℕ → List ℕ → List ℕ → ℕ → List ℕ
-continued id q a signature i = chain_steps (prefix id q i) (slice_index a i) 255 (piece 32 signature (36 + 32 * i))
+continued id q a signature i = chain_steps (prefix id q i) (slice_index a i) 255 (shown_value signature i)
 
 -- Kc, the public key that a signature of a message leads to
 unfoldable pub candidate_key : List ℕ → ℕ → List ℕ → List ℕ → List ℕ

@@ -1,6 +1,6 @@
 //! The hash chains of one-time keys.
 
-ghost use Rattle.std.specs.Prelude.{◌≡◌, ◌≤◌, take, drop};
+ghost use Rattle.std.specs.Prelude.{◌≡◌, take, drop};
 ghost use Rattle.lmots.specs.Chains.{prefix, chain_step, chain_steps};
 
 use sha2::{Digest, Sha256};
@@ -47,7 +47,7 @@ impl Chain {
     }
 
     /// Replaces the value by step `j` from it. One block is hashed at once.
-    #[tactic(auto, unfolding(crate::specs::Chains::chain_step))]
+    #[tactic(auto, unfolding(sha256_lanes::specs::Chains::chain_step))]
     pub(crate) fn step(&mut self, j: u8)
         ensures { self.new ≡ (self.old.0, chain_step self.old.0 j self.old.1) }
     {
@@ -65,10 +65,8 @@ impl Chain {
     }
 }
 
-/// The value of a chain after the steps `from` to `until - 1` from `start`.
-#[tactic(auto, using(crate::proofs::ChainLemmas::steps_none, crate::proofs::ChainLemmas::steps_more))]
+/// The value of a chain after the steps `from` to `until - 1` from `start`: none where `until` is not above `from`.
 pub(crate) fn chain_steps(prefix: &[u8; 22], from: u8, until: u8, start: &[u8; 32]) -> [u8; 32]
-    requires { from ≤ until }
     ensures { result ≡ chain_steps prefix.now from until start.now }
 {
     let mut chain = Chain::new(prefix, start);

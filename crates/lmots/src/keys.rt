@@ -2,8 +2,10 @@
 
 ghost use Rattle.std.specs.Prelude.{◌≡◌, ℕ, List, length};
 ghost use Rattle.lmots.specs.Chains.{AreEndsOf, chain_end, end_in, key_of_ends, ots_private, ots_public_key};
+ghost use Rattle.lmots.specs.Walks.{AreFirst};
 
 use crate::chains::{Chain, chain_steps, prefix};
+use crate::walks::Walks;
 use sha2::{Digest, Sha256};
 
 /// The number of chains of a one-time key.
@@ -21,7 +23,7 @@ pub struct PrivateSeed {
 }
 
 /// Where chain `i` of the one-time key `q` begins (RFC 8554, Appendix A), or a value for another use.
-#[tactic(auto, unfolding(crate::specs::Chains::ots_private, crate::specs::Chains::chain_step))]
+#[tactic(auto, unfolding(crate::specs::Chains::ots_private, sha256_lanes::specs::Chains::chain_step))]
 pub(crate) fn ots_private(secret: &PrivateSeed, q: u32, i: u16) -> [u8; 32]
     ensures { result ≡ ots_private secret.now.key_id secret.now.seed q i }
 {
@@ -39,17 +41,36 @@ pub fn chain_end(secret: &PrivateSeed, q: u32, i: u16) -> [u8; 32]
     chain_steps(&prefix(&secret.key_id, q, i), 0, 255, &start)
 }
 
+/// Where all chains of the one-time key `q` begin.
+pub(crate) fn chain_starts(secret: &PrivateSeed, q: u32) -> [[u8; 32]; 34]
+    ensures { AreFirst 34 (ots_private secret.now.key_id secret.now.seed q) result }
+{
+    let mut starts = [[0; 32]; 34];
+    for i in 0..CHAINS {
+        starts[i as usize] = ots_private(secret, q, i);
+    }
+    starts
+}
+
+// Where all chains of the one-time key `q` end.
+fn chain_ends(secret: &PrivateSeed, q: u32) -> [[u8; 32]; 34]
+    ensures { AreEndsOf secret.now.key_id secret.now.seed q result }
+{
+    let walks = Walks {
+        key_id: secret.key_id,
+        q,
+        at: [0; 34],
+        until: [255; 34],
+        values: chain_starts(secret, q),
+    };
+    walks.ends()
+}
+
 /// The public key of the one-time key `q`, 32 bytes (RFC 8554, section 4.3, algorithm 1).
-#[tactic(auto, using(crate::proofs::ChainLemmas::joined_none, crate::proofs::ChainLemmas::joined_more), unfolding(crate::specs::Chains::key_of_ends))]
 pub fn ots_public(secret: &PrivateSeed, q: u32) -> [u8; 32]
     ensures { result ≡ ots_public_key secret.now.key_id secret.now.seed q }
 {
-    let mut hasher = Sha256::new();
-    hasher.update(prefix(&secret.key_id, q, PUBLIC_KEY_USE));
-    for i in 0..CHAINS {
-        hasher.update(chain_end(secret, q, i));
-    }
-    hasher.finalize()
+    key_of_ends(&secret.key_id, q, &chain_ends(secret, q))
 }
 
 // The hash of the ends of the one-time key `q`.

@@ -5,6 +5,7 @@
 mod chains;
 mod keys;
 mod signatures;
+mod walks;
 
 pub use chains::prefix;
 pub use keys::{PrivateSeed, chain_end, key_of_ends, ots_public};

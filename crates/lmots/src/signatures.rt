@@ -1,12 +1,14 @@
 //! One-time signatures and the keys that they lead to.
 
-ghost use Rattle.std.specs.Prelude.{◌≡◌, ◌<◌, ◌↔◌, length, IsOk, IfOk, IfErr};
+ghost use Rattle.std.specs.Prelude.{◌≡◌, ◌↔◌, length, IsOk, IfOk, IfErr};
 ghost use Rattle.lmots.specs.Chains.{ots_public_key};
 ghost use Rattle.lmots.specs.Refusals.{ots_refusal_number, IsOtsRefusal};
-ghost use Rattle.lmots.specs.Signatures.{message_hash, checksum, coefficients, randomizer, signed_value, ots_signature, IsOtsSignature, continued, candidate_key};
+ghost use Rattle.lmots.specs.Signatures.{message_hash, checksum, coefficients, randomizer, signed_value, ots_signature, IsOtsSignature, shown_value, continued, candidate_key};
+ghost use Rattle.lmots.specs.Walks.{AreFirst};
 
-use crate::chains::{chain_steps, prefix};
-use crate::keys::{CHAINS, PUBLIC_KEY_USE, PrivateSeed, ots_private};
+use crate::chains::prefix;
+use crate::keys::{CHAINS, PrivateSeed, chain_starts, key_of_ends, ots_private};
+use crate::walks::Walks;
 use sha2::{Digest, Sha256};
 use wire::{array_at, put, u32_at};
 
@@ -62,18 +64,19 @@ pub fn coefficients(hash: &[u8; 32]) -> [u8; 34]
     all
 }
 
+// What the signer shows of each chain.
 #[tactic(auto, unfolding(crate::specs::Signatures::signed_value))]
-fn signed_value(secret: &PrivateSeed, q: u32, coefficients: &[u8; 34], i: u16) -> [u8; 32]
-    requires { i < 34 }
-    ensures { result ≡ signed_value secret.now.key_id secret.now.seed q coefficients.now i }
+fn signed_values(secret: &PrivateSeed, q: u32, coefficients: &[u8; 34]) -> [[u8; 32]; 34]
+    ensures { AreFirst 34 (signed_value secret.now.key_id secret.now.seed q coefficients.now) result }
 {
-    let start = ots_private(secret, q, i);
-    chain_steps(
-        &prefix(&secret.key_id, q, i),
-        0,
-        coefficients[i as usize],
-        &start,
-    )
+    let walks = Walks {
+        key_id: secret.key_id,
+        q,
+        at: [0; 34],
+        until: *coefficients,
+        values: chain_starts(secret, q),
+    };
+    walks.ends()
 }
 
 /// The signature of a message under the one-time key `q`: the type at 0, the randomizer at 4 and a
@@ -91,27 +94,38 @@ pub fn ots_sign(secret: &PrivateSeed, q: u32, message: &[u8]) -> [u8; OTS_SIGNAT
     let mut signature = [0; OTS_SIGNATURE_LEN];
     put(&mut signature, 0, &OTS_TYPE.to_be_bytes());
     put(&mut signature, RANDOMIZER_AT, &randomizer);
-    for i in 0..CHAINS {
-        let value = signed_value(secret, q, &coefficients, i);
-        put(&mut signature, VALUES_AT + 32 * i as usize, &value);
+    let values = signed_values(secret, q, &coefficients);
+    for i in 0..CHAINS as usize {
+        put(&mut signature, VALUES_AT + 32 * i, &values[i]);
     }
     signature
 }
 
-#[tactic(auto, unfolding(crate::specs::Signatures::continued))]
-fn continued(
-    key_id: &[u8; 16],
-    q: u32,
-    coefficients: &[u8; 34],
-    signature: &[u8],
-    i: u16,
-) -> [u8; 32]
-    requires chain { i < 34 }
-    requires long { length signature.now ≡ 1124 }
-    ensures { result ≡ continued key_id.now q coefficients.now signature.now i }
+// What a signature shows of each chain.
+fn shown_values(signature: &[u8]) -> [[u8; 32]; 34]
+    requires { length signature.now ≡ 1124 }
+    ensures { AreFirst 34 (shown_value signature.now) result }
 {
-    let value = array_at(signature, VALUES_AT + 32 * i as usize);
-    chain_steps(&prefix(key_id, q, i), coefficients[i as usize], 255, &value)
+    let mut values = [[0; 32]; 34];
+    for i in 0..CHAINS as usize {
+        values[i] = array_at(signature, VALUES_AT + 32 * i);
+    }
+    values
+}
+
+// Where the signer ended each chain.
+fn continued(key_id: &[u8; 16], q: u32, coefficients: &[u8; 34], signature: &[u8]) -> [[u8; 32]; 34]
+    requires { length signature.now ≡ 1124 }
+    ensures { AreFirst 34 (continued key_id.now q coefficients.now signature.now) result }
+{
+    let walks = Walks {
+        key_id: *key_id,
+        q,
+        at: *coefficients,
+        until: [255; 34],
+        values: shown_values(signature),
+    };
+    walks.ends()
 }
 
 /// Why bytes are no one-time signature.
@@ -135,7 +149,6 @@ impl OtsRefusal {
 /// The one-time public key that a signature of a message leads to (RFC 8554, section 4.6, algorithm
 /// 4b). Whoever compares it with the signer's key has checked the signature. Refused in this order:
 /// Length, OtsType.
-#[tactic(auto, using(crate::proofs::ChainLemmas::joined_none, crate::proofs::ChainLemmas::joined_more), unfolding(crate::specs::Signatures::candidate_key, crate::specs::Chains::key_of_ends))]
 pub fn ots_candidate(
     key_id: &[u8; 16],
     q: u32,
@@ -154,10 +167,6 @@ pub fn ots_candidate(
     }
     let randomizer = array_at(signature, RANDOMIZER_AT);
     let coefficients = coefficients(&message_hash(key_id, q, &randomizer, message));
-    let mut hasher = Sha256::new();
-    hasher.update(prefix(key_id, q, PUBLIC_KEY_USE));
-    for i in 0..CHAINS {
-        hasher.update(continued(key_id, q, &coefficients, signature, i));
-    }
-    Ok(hasher.finalize())
+    let ends = continued(key_id, q, &coefficients, signature);
+    Ok(key_of_ends(key_id, q, &ends))
 }
