@@ -2,7 +2,7 @@
 use Rattle.std.proofs.Common.{◌≡◌, sym, ap, subst, inl, inr}
 use Rattle.std.specs.Ordering.{ordering_reverse}
 use Rattle.certificates.specs.declared.vote.SignedVote.{SignedVote}
-use Rattle.evidence.proofs.VoteOrder.{votes_total}
+use Rattle.certificates.proofs.VoteOrder.{votes_total}
 use Rattle.accountability.specs.Culprits.{IsOffence, IsVoteAtMost}
 use Rattle.accountability.specs.AccountabilityLaws.{ACulpritHasOneNamedPair}
 

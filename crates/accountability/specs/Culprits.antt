@@ -5,7 +5,7 @@ use Rattle.certificates.specs.Votes.{ballot_of}
 use Rattle.blocks.specs.Rules.{IsDoubleVote}
 use Rattle.certificates.specs.declared.vote.SignedVote.{SignedVote}
 use Rattle.evidence.specs.Evidence.{Evidence}
-use Rattle.evidence.specs.Votes.{IsLowerVote}
+use Rattle.certificates.specs.VoteOrder.{IsLowerVote}
 use Rattle.verdict_format.specs.Proofs.{IsLockViolationBy}
 use Rattle.verdict_format.specs.Verdicts.{VotedHeaders}
 

@@ -87,6 +87,7 @@ pub fn views(alloc: Global, headers: &[NamedHeader]) -> Result<Vec<u64>, Fail> {
 fn ballots(alloc: Global, evidence: &Evidence) -> Result<Vec<(u16, u64)>, Fail> {
     let mut all = Vec::new(alloc);
     for vote in evidence.votes() {
+        let vote = vote.get();
         all.push((vote.replica, vote.view))?;
     }
     Ok(all)

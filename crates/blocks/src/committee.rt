@@ -11,7 +11,7 @@ ghost use Rattle.blocks.specs.Weights.{quorum_of};
 ghost use Rattle.blocks.specs.Genesis.{genesis_of, chain_id_of};
 ghost use Rattle.blocks.specs.Headers.{IsGenesis};
 
-use crate::header::{Header, Id};
+use crate::header::{Header, Id, NamedHeader};
 use lms_tree::{PUBLIC_KEY_LEN, PublicKey};
 use sha2::{Digest, Sha256};
 use std::alloc::{AllocError, Global};
@@ -49,21 +49,24 @@ impl CommitteeRefusal {
     }
 }
 
-/// A committee, read in place, made by `CommitteeView::parse` alone. Contracts see its bytes.
+/// A committee, read in place, made by `CommitteeView::parse` alone, which hashes the bytes once.
+/// Contracts see the bytes.
 #[derive(Drop)]
 pub struct CommitteeView<'a> {
     bytes: &'a [u8],
+    genesis: NamedHeader,
 }
 
 impl<'a> Model for CommitteeView<'a> {
-    ghost use Rattle.std.specs.Prelude.{ℕ, List};
+    ghost use Rattle.std.specs.Prelude.{◌≡◌, ℕ, List};
     ghost use Rattle.blocks.specs.Committees.{IsCommittee};
+    ghost use Rattle.blocks.specs.Genesis.{genesis_of};
 
     ghost Value = { List ℕ };
 
     ghost view = { λ v. v.bytes.now };
 
-    ghost invariant = { λ v. IsCommittee v.bytes.now };
+    ghost invariant = { λ v. IsCommittee v.bytes.now × (v.genesis ≡ genesis_of v.bytes.now) };
 }
 
 // The bytes of replica r's key.
@@ -163,6 +166,20 @@ fn judge(bytes: &[u8]) -> Result<(), CommitteeRefusal>
     Ok(())
 }
 
+// The header in which each chain of the committee of these bytes ends.
+fn genesis_of(bytes: &[u8]) -> Header
+    ensures { result ≡ genesis_of bytes.now }
+{
+    let mut hasher = Sha256::new();
+    hasher.update(bytes);
+    Header {
+        view: 0,
+        parent_view: 0,
+        parent: [0; 32],
+        payload: hasher.finalize(),
+    }
+}
+
 impl<'a> CommitteeView<'a> {
     /// The committee that the bytes spell: `HSC1`, f (2 bytes at 4), n (2 at 6) and n public keys of 56
     /// bytes each (from 8), numbers with the highest byte first. Nothing is copied. Refused in this
@@ -178,7 +195,10 @@ impl<'a> CommitteeView<'a> {
         ensures first_refusal { result ≡ committee_in bytes.now }
     {
         judge(bytes)?;
-        Ok(CommitteeView { bytes })
+        Ok(CommitteeView {
+            bytes,
+            genesis: NamedHeader::of(genesis_of(bytes)),
+        })
     }
 
     /// The same view again.
@@ -186,7 +206,10 @@ impl<'a> CommitteeView<'a> {
         ensures same { result ≡ self.now }
         ensures is_committee { IsCommittee self.now }
     {
-        CommitteeView { bytes: self.bytes }
+        CommitteeView {
+            bytes: self.bytes,
+            genesis: self.genesis,
+        }
     }
 
     /// The bytes that were read.
@@ -246,21 +269,14 @@ impl<'a> CommitteeView<'a> {
         ensures value { result ≡ genesis_of self.now }
         ensures is_genesis { IsGenesis result }
     {
-        let mut hasher = Sha256::new();
-        hasher.update(self.bytes);
-        Header {
-            view: 0,
-            parent_view: 0,
-            parent: [0; 32],
-            payload: hasher.finalize(),
-        }
+        *self.genesis.header()
     }
 
     /// The name of the committee's chain: the id of genesis.
     pub fn chain(&self) -> Id
         ensures { result ≡ chain_id_of self.now }
     {
-        self.genesis().id()
+        *self.genesis.id()
     }
 }
 

@@ -1,5 +1,6 @@
 pub mod StatementLaws
 pub mod Pieces
+pub mod VoteOrder
 pub mod Entries
 pub mod Rising
 pub mod CertificateLaws

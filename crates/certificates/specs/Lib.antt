@@ -3,6 +3,7 @@ pub use Rattle.blocks.specs.Genesis
 pub use Rattle.blocks.specs.Headers
 pub mod Statements
 pub mod Votes
+pub mod VoteOrder
 pub mod VoteChecks
 pub mod Certificates
 pub mod CertificateReading

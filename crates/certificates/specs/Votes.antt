@@ -1,6 +1,6 @@
 -- When a vote is good: its replica is one of the committee, and signed the statement of its view and id
 -- (RFC 8554, section 5.4.2, for the signature).
-use Rattle.std.specs.Prelude.{◌<◌, ◌++◌, ℕ, List}
+use Rattle.std.specs.Prelude.{◌↔◌, ◌<◌, ◌++◌, ℕ, List, Bool, IsTrue}
 use Rattle.byteorder.specs.Endian.{big_bytes}
 use Rattle.lms_tree.specs.Tree.{Verifies}
 use Rattle.blocks.specs.Committees.{n_of, key_id_at, root_at}
@@ -18,6 +18,10 @@ IsSignedBy committee replica view id signature =
 pub record IsGoodVote (committee : List ℕ) (v : SignedVote) : Type 0 where
   pub known : v.replica < n_of committee
   pub signed : IsSignedBy committee v.replica v.view v.id v.signature
+
+-- the answer to whether the vote is good
+abbrev pub IsAnswerOn : List ℕ → SignedVote → Bool → Type 0
+IsAnswerOn committee v answer = IsTrue answer ↔ IsGoodVote committee v
 
 -- what the vote is on
 abbrev pub ballot_of : SignedVote → Ballot

@@ -16,8 +16,8 @@ use Rattle.std.proofs.lemmas.List.Sorted.{searchable_from_sorted}
 use Rattle.std.proofs.lemmas.Map.Lookups.{exact_bytes, exact_unsigned}
 use Rattle.std.proofs.lemmas.Slice.Eq.{bytes_eq-Decides}
 use Rattle.certificates.specs.declared.vote.SignedVote.{SignedVote}
-use Rattle.evidence.specs.Votes.{IsLowerVote}
-use Rattle.evidence.proofs.VoteOrder.{both_equal}
+use Rattle.certificates.specs.VoteOrder.{IsLowerVote}
+use Rattle.certificates.proofs.VoteOrder.{both_equal}
 use Rattle.accountability.specs.Commits.{has_vote, is_vote_on}
 
 -- ---- ballots

@@ -3,7 +3,7 @@
 ghost use Rattle.std.specs.Prelude.{◌≡◌, ◌≤◌, ◌↔◌, IfOk, IsTrue};
 ghost use Rattle.std.specs.List.{AllPairs};
 ghost use Rattle.blocks.specs.Headers.{header_id};
-ghost use Rattle.evidence.specs.Votes.{IsLowerVote};
+ghost use Rattle.certificates.specs.VoteOrder.{IsLowerVote};
 ghost use Rattle.blocks.specs.Weights.{committee_of, counts_once, weight_of};
 ghost use Rattle.accountability.specs.Commits.{IsCertified, has_vote};
 ghost use Rattle.commit_search.specs.Chosen.{AreThose};
@@ -11,22 +11,24 @@ ghost use Rattle.commit_search.specs.Chosen.{AreThose};
 use blocks::NamedHeader;
 use certificates::SignedVote;
 use evidence::Evidence;
+use shared_values::Shared;
 use std::alloc::{AllocError, Global};
 
 // Whether the replica has a vote on this block. Votes rise, so a binary search finds one.
-fn has_vote(votes: &[SignedVote], b: &NamedHeader, replica: u16) -> bool
+fn has_vote(votes: &[Shared<SignedVote>], b: &NamedHeader, replica: u16) -> bool
     requires { AllPairs IsLowerVote votes.now }
     ensures { result ≡ has_vote votes.now b.now.view (header_id b.now) replica }
 {
     votes
         .binary_search_by_key(&(replica, b.header().view, *b.id()), |vote| {
+            let vote = vote.get();
             (vote.replica, vote.view, vote.id)
         })
         .is_ok()
 }
 
 // How many of the replicas below n have a vote on this block.
-fn count_voters(votes: &[SignedVote], b: &NamedHeader, n: u16) -> u16
+fn count_voters(votes: &[Shared<SignedVote>], b: &NamedHeader, n: u16) -> u16
     requires { AllPairs IsLowerVote votes.now }
     ensures { result ≡ weight_of counts_once (has_vote votes.now b.now.view (header_id b.now)) n }
 {

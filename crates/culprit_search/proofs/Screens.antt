@@ -18,7 +18,7 @@ use Rattle.std.proofs.lemmas.Slice.Eq.{bytes_eq-Decides}
 use Rattle.blocks.specs.Headers.{Header}
 use Rattle.certificates.specs.declared.vote.SignedVote.{SignedVote}
 use Rattle.evidence.specs.Evidence.{Evidence, IsEvidence}
-use Rattle.evidence.specs.Votes.{IsLowerVote}
+use Rattle.certificates.specs.VoteOrder.{IsLowerVote}
 use Rattle.culprit_search.specs.Searches.{AreByOne, AreOwnVotes, HasNoLockAbove, IsFoundAt, IsOnParentBelow, LowerHaveNoLockAbove, NoneBreaksWith, NoneIsDouble, StandBetween}
 use Rattle.culprit_search.proofs.Breaches.{only_one}
 use Rattle.culprit_search.proofs.VotesInOrder.{Parts, greater, in_front, view_of}

@@ -6,7 +6,7 @@ use Rattle.std.proofs.lemmas.List.{take_all}
 use Rattle.std.proofs.lemmas.List.Elements.{All-contains, All-weaker}
 use Rattle.certificates.specs.declared.vote.SignedVote.{SignedVote}
 use Rattle.evidence.specs.Evidence.{Evidence}
-use Rattle.evidence.specs.Votes.{IsLowerVote}
+use Rattle.certificates.specs.VoteOrder.{IsLowerVote}
 use Rattle.verdict_format.specs.Verdicts.{VotedHeaders}
 use Rattle.accountability.specs.Culprits.{BreakARule, IsCulprit, IsNamedPair, IsVoteAtMost, Shows}
 use Rattle.culprit_search.specs.declared.pairs.Offence.{Offence}

@@ -3,12 +3,13 @@
 ghost use Rattle.std.specs.Prelude.{◌≡◌, ◌≤◌, length, MatchOption};
 ghost use Rattle.std.specs.List.{All, AllPairs};
 ghost use Rattle.evidence.specs.Evidence.{IsEvidence};
-ghost use Rattle.evidence.specs.Votes.{IsLowerVote};
+ghost use Rattle.certificates.specs.VoteOrder.{IsLowerVote};
 ghost use Rattle.culprit_search.specs.Searches.{AreByOne, FirstHaveNoLockAbove, HasNoLockAbove, IsLockView, LowerHaveNoLockAbove, ShowsNoLock};
 
 use crate::breach::{block_of, parent_of};
 use certificates::SignedVote;
 use evidence::Evidence;
+use shared_values::Shared;
 
 /// What was learned of the locks of a replica's first votes.
 #[derive(Clone, Copy)]
@@ -56,7 +57,7 @@ fn with_lock(evidence: &Evidence, vote: &SignedVote, view: u64) -> u64
 
 /// Looks at the votes that are below a view and were not looked at. Those of the view itself wait: a vote is no lock
 /// violation with one of its own view.
-pub fn join_lower(evidence: &Evidence, own: &[SignedVote], view: u64, locks: Locks) -> Locks
+pub fn join_lower(evidence: &Evidence, own: &[Shared<SignedVote>], view: u64, locks: Locks) -> Locks
     requires rising { AllPairs IsLowerVote own.now }
     requires by_one { AreByOne own.now }
     requires joined { FirstHaveNoLockAbove evidence.now own.now locks }
@@ -67,8 +68,8 @@ pub fn join_lower(evidence: &Evidence, own: &[SignedVote], view: u64, locks: Loc
         mut joined,
         mut greatest,
     } = locks;
-    while joined < own.len() && own[joined].view < view {
-        greatest = with_lock(evidence, &own[joined], greatest);
+    while joined < own.len() && own[joined].get().view < view {
+        greatest = with_lock(evidence, own[joined].get(), greatest);
         joined += 1;
     }
     Locks { joined, greatest }

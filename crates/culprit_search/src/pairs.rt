@@ -3,7 +3,7 @@
 ghost use Rattle.std.specs.Prelude.{◌≡◌, ◌↔◌, MatchOption};
 ghost use Rattle.std.specs.List.{AllPairs, Contains};
 ghost use Rattle.certificates.specs.declared.vote.SignedVote.{SignedVote as SignedVoteValue};
-ghost use Rattle.evidence.specs.Votes.{IsLowerVote};
+ghost use Rattle.certificates.specs.VoteOrder.{IsLowerVote};
 ghost use Rattle.accountability.specs.Culprits.{IsCulprit, IsNamedPair, Shows};
 ghost use Rattle.culprit_search.specs.Searches.{AreByOne, AreOwnVotes, IsLeastAgainst, IsLeastPair, NoTwoBreak, NoneBreaksWith};
 
@@ -12,6 +12,7 @@ use crate::locks::{Locks, join_lower};
 use crate::screen::may_break;
 use certificates::SignedVote;
 use evidence::Evidence;
+use shared_values::Shared;
 use verdict_format::VotedHeaders;
 
 /// Two votes of one replica that break a rule.
@@ -26,23 +27,24 @@ pub struct Offence {
 }
 
 // The votes of a replica. All votes rise, so they stand together.
-fn own_votes<'a>(evidence: &'a Evidence, replica: u16) -> &'a [SignedVote]
+fn own_votes<'a>(evidence: &'a Evidence, replica: u16) -> &'a [Shared<SignedVote>]
     ensures { AreOwnVotes evidence.now replica result.now }
 {
     let votes = evidence.votes();
-    let start = votes.partition_point(|v| v.replica < replica);
+    let start = votes.partition_point(|v| v.get().replica < replica);
     let rest = &votes[start..];
-    let len = rest.partition_point(|v| v.replica <= replica);
+    let len = rest.partition_point(|v| v.get().replica <= replica);
     &rest[..len]
 }
 
 // The least of a replica's votes that breaks a rule with w.
-fn least_against(evidence: &Evidence, own: &[SignedVote], w: &SignedVote) -> Option<Offence>
+fn least_against(evidence: &Evidence, own: &[Shared<SignedVote>], w: &SignedVote) -> Option<Offence>
     requires rising { AllPairs IsLowerVote own.now }
     ensures { MatchOption result (NoneBreaksWith evidence.now own.now w.now) (IsLeastAgainst evidence.now own.now w.now) }
 {
     let later = block_of(evidence, w);
     for v in own {
+        let v = v.get();
         if let Some(found) = breach_of(evidence, v, w, &later) {
             return Some(Offence {
                 earlier: *v,
@@ -56,13 +58,14 @@ fn least_against(evidence: &Evidence, own: &[SignedVote], w: &SignedVote) -> Opt
 
 // The least pair of a replica's votes that breaks a rule: the later vote is the least, then the earlier. A vote is
 // compared with all others only where the screen says that it may break a rule with one.
-fn least_pair(evidence: &Evidence, own: &[SignedVote]) -> Option<Offence>
+fn least_pair(evidence: &Evidence, own: &[Shared<SignedVote>]) -> Option<Offence>
     requires rising { AllPairs IsLowerVote own.now }
     requires by_one { AreByOne own.now }
     ensures { MatchOption result (NoTwoBreak evidence.now own.now) (IsLeastPair evidence.now own.now) }
 {
     let mut locks = Locks::none();
     for w in own {
+        let w = w.get();
         locks = join_lower(evidence, own, w.view, locks);
         if may_break(evidence, own, w, locks.greatest) {
             if let Some(offence) = least_against(evidence, own, w) {

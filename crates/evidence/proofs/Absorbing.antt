@@ -1,14 +1,14 @@
 -- Lists that are added to what was gathered.
-use Rattle.std.proofs.Common.{◌≡◌, ◌↔◌, ◌∙◌, ◌<◌, ◌+◌, ℕ, List, [], ◌∷◌, ◌++◌, length, take, drop, get_or, inl, inr, refl, sym, ap, subst, arith}
+use Rattle.std.proofs.Common.{◌≡◌, ◌↔◌, ◌∙◌, ◌<◌, ◌+◌, ℕ, List, [], ◌∷◌, ◌++◌, length, take, drop, get_or, inl, inr, sym, ap, subst, arith}
 use Rattle.std.specs.List.{Contains}
 use Rattle.std.proofs.lemmas.List.{take_more, get_or_default, take-append-drop}
 use Rattle.std.proofs.lemmas.List.Elements.{Contains-append_right, Contains-append_left, Contains-append_cases}
 use Rattle.blocks.specs.Headers.{Header}
 use Rattle.certificates.specs.declared.vote.SignedVote.{SignedVote}
 use Rattle.evidence.specs.Sets.{IsEither}
-use Rattle.evidence.specs.Gathering.{Gathered, Grows, Gains, IsNone, IsGatheringRefusal}
+use Rattle.evidence.specs.Gathering.{Gathered, Grows, IsNone, IsGatheringRefusal}
 use Rattle.evidence.specs.declared.refusal.EvidenceRefusal.{EvidenceRefusal}
-use Rattle.evidence.proofs.Gatherings.{only, gathered_from, fault_later, gained_none, grown_as, grown_both, grown_none, none_of}
+use Rattle.evidence.proofs.Gatherings.{only, fault_later, grown_as, grown_both, grown_none, none_of}
 
 -- one more
 contains_more : {A : Type 0} (xs : List A) (x h : A) → IsEither (Contains xs) (λ y. y ≡ x) h ↔ Contains (xs ++ x ∷ []) h
@@ -44,11 +44,3 @@ headers_fault a b hs i x r l is g fault =
     fault_later a b (Contains (take i hs)) (λ h. h ≡ x) (Contains hs) IsNone r g
     (λ h c. subst (λ (ks : List Header). Contains ks h) (take-append-drop i hs) (Contains-append_left (take i hs) (drop i hs) h c))
     (λ h e. (i, l, get_or_default hs i h x l ∙ sym is ∙ sym e)) fault
-
-pub votes_next : (a b c : Gathered) (vs : List SignedVote) (i : ℕ) (d : SignedVote) → i < length vs → Grows a b IsNone (Contains (take i vs)) → Grows b c IsNone (λ v. v ≡ get_or vs i d) → Grows a c IsNone (Contains (take (i + 1) vs))
-votes_next a b c vs i d l g step = votes_more a b c vs i (get_or vs i d) l (sym (get_or_default vs i (get_or vs i d) d l)) g step
-
-pub grown_known : (committee : List ℕ) (hs : List Header) (vs ws : List SignedVote) (g : Gathered) (v : SignedVote) → gathered_from committee hs vs ≡ g
-    → Gains vs ws (λ x. x ≡ v) → Grows g (gathered_from committee hs ws) IsNone (λ x. x ≡ v)
-grown_known committee hs vs ws g v is gains =
-    subst (λ (o : Gathered). Grows o (gathered_from committee hs ws) IsNone (λ x. x ≡ v)) is (record { committee = refl; headers = gained_none hs; votes = gains })

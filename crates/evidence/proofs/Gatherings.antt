@@ -1,10 +1,10 @@
 -- How what is gathered grows, step by step.
-use Rattle.std.proofs.Common.{◌≡◌, ◌↔◌, ◌⊎◌, ◌∙◌, ◌<◌, ◌+◌, ℕ, zero, suc, List, [], ◌∷◌, ◌++◌, length, take, drop, get_or, Some, Result, Ok, Err, inl, inr, refl, sym, ap, subst, arith}
+use Rattle.std.proofs.Common.{◌≡◌, ◌↔◌, ◌⊎◌, ◌∙◌, ◌<◌, ◌+◌, ℕ, zero, suc, Bool, List, [], ◌∷◌, ◌++◌, length, take, drop, get_or, Some, Result, Ok, Err, inl, inr, refl, sym, ap, subst, arith}
 use Rattle.std.specs.Prelude.{IfErr, IsErrAnd, OnOk}
-use Rattle.std.specs.List.{All, AllPairs, AllZip, Contains}
+use Rattle.std.specs.List.{AllPairs, AllZip, Contains}
 use Rattle.std.proofs.lemmas.List.{take_more, get_or_default, take-append-drop}
 use Rattle.std.proofs.lemmas.List.Elements.{Contains-append_right, Contains-append_left, Contains-append_cases}
-use Rattle.blocks.specs.Headers.{Header, HasLowerId}
+use Rattle.blocks.specs.Headers.{Header}
 use Rattle.blocks.specs.Genesis.{genesis_of}
 use Rattle.certificates.specs.Certificates.{Certificate, vote_of}
 use Rattle.certificates.specs.declared.certificate.Endorsement.{Endorsement}
@@ -13,12 +13,13 @@ use Rattle.evidence.specs.Sets.{InSome, IsEither}
 use Rattle.log_format.specs.EntryText.{Entry, IsEntryOf, own_vote_of}
 use Rattle.evidence.specs.declared.refusal.EvidenceRefusal.{EvidenceRefusal}
 use Rattle.evidence.specs.declared.refusal.EvidenceRefusal.TheVariants.{Memory, Collision}
-use Rattle.evidence.specs.Evidence.{IsEvidenceRefusal, IsEvidence, IsNotBelowParent, IsHeaderInEvidence, IsReportOf, IsVoteInEvidence}
-use Rattle.evidence.specs.Gathering.{Gathered, Grows, Gains, IsNone, IsGatheringRefusal, IsGoodVoteOf, CertificateHasGood, HasGoodOwn}
-use Rattle.evidence.specs.Votes.{IsLowerVote}
+use Rattle.evidence.specs.Evidence.{Evidence, IsEvidenceRefusal, IsEvidence, IsEvidenceOf, IsHeaderInEvidence, IsReportOf, IsVoteInEvidence}
+use Rattle.evidence.specs.Gathering.{Gathered, Grows, Gains, IsInOrder, IsNone, IsGatheringRefusal, IsUnion, HasOwn, those}
+use Rattle.evidence.proofs.GoodVotes.{those_are, those_rise}
+use Rattle.certificates.specs.VoteOrder.{IsLowerVote}
 use Rattle.evidence.specs.declared.source.SourceReport.{SourceReport}
-use Rattle.certificates.specs.Votes.{IsGoodVote}
-use Rattle.evidence.specs.Logs.{ReceivedLog, HasGoodVote, HasHeader, SpellsEntry, FrameHasHeader, FrameHasVote, HaveEntries, LogHasHeader, LogHasVote}
+use Rattle.certificates.specs.Votes.{IsAnswerOn, IsGoodVote}
+use Rattle.evidence.specs.Logs.{ReceivedLog, HasHeader, HasVote, IsVoteOf, SpellsEntry, FrameHasHeader, FrameNamesVote, HaveEntries, LogHasHeader, LogNamesVote}
 
 pub on_ok : {A E : Type 0} (r : Result A E) (P Q : Type 0) → (P → Q) → OnOk r P → OnOk r Q
 on_ok (Ok a) P Q f p = f p
@@ -94,10 +95,17 @@ grown_header committee hs ks vs g h is gains =
     subst (λ (o : Gathered). Grows o (gathered_from committee ks vs) (λ x. x ≡ h) IsNone) is (record { committee = refl; headers = gains; votes = gained_none vs })
 
 pub grown_vote : (committee : List ℕ) (hs : List Header) (vs ws : List SignedVote) (g : Gathered) (v : SignedVote) → gathered_from committee hs vs ≡ g
-    → IsGoodVote committee v → Gains vs ws (λ x. x ≡ v) → Grows g (gathered_from committee hs ws) IsNone (λ x. IsGoodVote g.committee x × (x ≡ v))
-grown_vote committee hs vs ws g v is good gains =
-    subst (λ (o : Gathered). Grows o (gathered_from committee hs ws) IsNone (λ x. IsGoodVote o.committee x × (x ≡ v))) is
-    (record { committee = refl; headers = gained_none hs; votes = gained_as vs ws (λ x. x ≡ v) (λ x. IsGoodVote committee x × (x ≡ v)) (λ x. (λ e. (subst (λ (y : SignedVote). IsGoodVote committee y) (sym e) good, e), λ w. w.1)) gains })
+    → Gains vs ws (λ x. x ≡ v) → Grows g (gathered_from committee hs ws) IsNone (λ x. x ≡ v)
+grown_vote committee hs vs ws g v is gains =
+    subst (λ (o : Gathered). Grows o (gathered_from committee hs ws) IsNone (λ x. x ≡ v)) is (record { committee = refl; headers = gained_none hs; votes = gains })
+
+-- what is there already
+pub grown_held : (g : Gathered) (h : Header) → Contains g.headers h → Grows g g (λ x. x ≡ h) IsNone
+grown_held g h there = record {
+  committee = refl;
+  headers = λ x. (λ c. inl c, λ w. elim w [ inl c ↦ c | inr e ↦ subst (λ (y : Header). Contains g.headers y) (sym e) there ]);
+  votes = gained_none g.votes;
+}
 
 -- first these, then those
 pub grown_both : (a b c : Gathered) (H I : Header → Type 0) (V W : SignedVote → Type 0) → Grows a b H V → Grows b c I W → Grows a c (IsEither H I) (IsEither V W)
@@ -133,20 +141,11 @@ two_headers e b p h is_b is_p = (
   λ w. elim w [ inl x ↦ inl (x ∙ sym is_b) | inr y ↦ inr (y ∙ sym is_p) ],
 )
 
-pub own_vote : (committee : List ℕ) (replica : ℕ) (e : Entry) (w v : SignedVote) → own_vote_of e replica ≡ Some w
-    → (IsGoodVote committee v × (v ≡ w)) ↔ HasGoodOwn committee replica e v
-own_vote committee replica e w v is =
-    (λ p. (p.0, is ∙ ap (λ (x : SignedVote). Some x) (sym p.1)), λ p. (p.0, same (sym p.1 ∙ is)))
+pub own_vote : (replica : ℕ) (e : Entry) (w v : SignedVote) → own_vote_of e replica ≡ Some w → (v ≡ w) ↔ HasOwn replica e v
+own_vote replica e w v is = (λ p. is ∙ ap (λ (x : SignedVote). Some x) (sym p), λ p. same (sym p ∙ is))
   where
     same : Some v ≡ Some w → v ≡ w
     same q = cc
-
-pub all_votes : (committee : List ℕ) (replica : ℕ) (e : Entry) (v : SignedVote)
-    → IsEither (HasGoodOwn committee replica e) (CertificateHasGood committee e.certificate) v ↔ HasGoodVote committee replica e v
-all_votes committee replica e v = (
-  λ w. elim w [ inl o ↦ (o.0, inl o.1) | inr i ↦ (i.2.0, inr (i.0, i.1, i.2.1)) ],
-  λ p. elim p.1 [ inl o ↦ inl (p.0, o) | inr i ↦ inr (i.0, i.1, (p.0, i.2)) ],
-)
 
 pub none_of : {X : Type 0} (x : X) → IsEither IsNone IsNone x ↔ IsNone x
 none_of x = (λ w. elim w [ inl n ↦ n | inr n ↦ n ], λ n. inl n)
@@ -159,11 +158,6 @@ none_last P x = (λ w. elim w [ inl p ↦ p | inr n ↦ absurd n ], λ p. inl p)
 
 pub same_kind : {X : Type 0} (P : X → Type 0) (x : X) → P x ↔ P x
 same_kind P x = (λ p. p, λ p. p)
-
--- first these, then those, the votes being good under the same committee
-pub grown_then : (a b c : Gathered) (H I : Header → Type 0) (V : SignedVote → Type 0) (W : List ℕ → SignedVote → Type 0)
-    → Grows a b H V → Grows b c I (W b.committee) → Grows a c (IsEither H I) (IsEither V (W a.committee))
-grown_then a b c H I V W g h = grown_both a b c H I V (W a.committee) g (subst (λ (k : List ℕ). Grows b c I (W k)) g.committee h)
 
 -- ---- a list, item by item
 
@@ -189,8 +183,8 @@ next_headers Has xs i d P h l same =
       λ w. elim (all.0 w) [ inl o ↦ inl o | inr p ↦ inr (same.1 p) ],
     )
 
-pub good_vote : (committee : List ℕ) (c : Certificate) (d : Endorsement) (w v : SignedVote) → w ≡ vote_of c d → (IsGoodVote committee v × (v ≡ w)) ↔ IsGoodVoteOf committee c d v
-good_vote committee c d w v is = (λ p. (p.0, p.1 ∙ is), λ p. (p.0, p.1 ∙ sym is))
+pub named_vote : (c : Certificate) (d : Endorsement) (w v : SignedVote) → w ≡ vote_of c d → (v ≡ w) ↔ IsVoteOf c d v
+named_vote c d w v is = (λ p. p ∙ is, λ p. p ∙ sym is)
 
 -- ---- frames
 
@@ -198,14 +192,14 @@ good_vote committee c d w v is = (λ p. (p.0, p.1 ∙ is), λ p. (p.0, p.1 ∙ s
 pub frame_has_header : (frame : List ℕ) (e : Entry) (h : Header) → IsEntryOf frame e → ((f : Entry) → IsEntryOf frame f → f ≡ e) → HasHeader e h ↔ FrameHasHeader frame h
 frame_has_header frame e h is one = (λ w. (e, is, w), λ w. subst (λ (f : Entry). HasHeader f h) (one w.0 w.1) w.2)
 
-pub frame_has_vote : (committee : List ℕ) (replica : ℕ) (frame : List ℕ) (e : Entry) (v : SignedVote) → IsEntryOf frame e → ((f : Entry) → IsEntryOf frame f → f ≡ e)
-    → HasGoodVote committee replica e v ↔ FrameHasVote committee replica frame v
-frame_has_vote committee replica frame e v is one = (λ w. (e, is, w), λ w. subst (λ (f : Entry). HasGoodVote committee replica f v) (one w.0 w.1) w.2)
+pub frame_names_vote : (replica : ℕ) (frame : List ℕ) (e : Entry) (v : SignedVote) → IsEntryOf frame e → ((f : Entry) → IsEntryOf frame f → f ≡ e)
+    → HasVote replica e v ↔ FrameNamesVote replica frame v
+frame_names_vote replica frame e v is one = (λ w. (e, is, w), λ w. subst (λ (f : Entry). HasVote replica f v) (one w.0 w.1) w.2)
 
 -- and one that spells none has nothing
-pub frame_has_none : (g : Gathered) (replica : ℕ) (frame : List ℕ) → (SpellsEntry frame → ⊥) → Grows g g (FrameHasHeader frame) (FrameHasVote g.committee replica frame)
+pub frame_has_none : (g : Gathered) (replica : ℕ) (frame : List ℕ) → (SpellsEntry frame → ⊥) → Grows g g (FrameHasHeader frame) (FrameNamesVote replica frame)
 frame_has_none g replica frame none =
-    grown_as g g IsNone (FrameHasHeader frame) IsNone (FrameHasVote g.committee replica frame) (λ h. (λ n. absurd n, λ w. absurd (none (w.0, w.1))))
+    grown_as g g IsNone (FrameHasHeader frame) IsNone (FrameNamesVote replica frame) (λ h. (λ n. absurd n, λ w. absurd (none (w.0, w.1))))
     (λ v. (λ n. absurd n, λ w. absurd (none (w.0, w.1)))) (grown_none g)
 
 -- ---- how many frames are entries
@@ -250,12 +244,12 @@ as_there : {A X : Type 0} (Has : A → X → Type 0) (y z : A) (x : X) → y ≡
 as_there Has y z x is = (λ w. subst (λ a. Has a x) is w, λ w. subst (λ a. Has a x) (sym is) w)
 
 -- one item more
-pub grown_step : {A : Type 0} (a b c : Gathered) (Has : A → Header → Type 0) (Shows : List ℕ → A → SignedVote → Type 0) (xs : List A) (i : ℕ) (x d : A) → i < length xs → x ≡ get_or xs i d
-    → Grows a b (InSome Has (take i xs)) (InSome (Shows a.committee) (take i xs)) → Grows b c (Has x) (Shows b.committee x)
-    → Grows a c (InSome Has (take (i + 1) xs)) (InSome (Shows a.committee) (take (i + 1) xs))
+pub grown_step : {A : Type 0} (a b c : Gathered) (Has : A → Header → Type 0) (Shows : A → SignedVote → Type 0) (xs : List A) (i : ℕ) (x d : A) → i < length xs → x ≡ get_or xs i d
+    → Grows a b (InSome Has (take i xs)) (InSome Shows (take i xs)) → Grows b c (Has x) (Shows x)
+    → Grows a c (InSome Has (take (i + 1) xs)) (InSome Shows (take (i + 1) xs))
 grown_step a b c Has Shows xs i x d l is g step =
-    grown_as a c _ _ _ _ (λ h. next_headers Has xs i d (Has x) h l (as_there Has x (get_or xs i d) h is)) (λ v. next_votes (Shows a.committee) xs i d (Shows a.committee x) v l (as_there (Shows a.committee) x (get_or xs i d) v is))
-    (grown_then a b c (InSome Has (take i xs)) (Has x) (InSome (Shows a.committee) (take i xs)) (λ (q : List ℕ). Shows q x) g step)
+    grown_as a c _ _ _ _ (λ h. next_headers Has xs i d (Has x) h l (as_there Has x (get_or xs i d) h is)) (λ v. next_votes Shows xs i d (Shows x) v l (as_there Shows x (get_or xs i d) v is))
+    (grown_both a b c (InSome Has (take i xs)) (Has x) (InSome Shows (take i xs)) (Shows x) g step)
 
 pub handed_on : {A E : Type 0} (r : Result A E) (P : E → Type 0) (e : E) → IsErrAnd r (λ x. x ≡ e) → P e → IfErr r P
 handed_on (Err x) P e is p = subst P (sym is) p
@@ -263,54 +257,74 @@ handed_on (Ok a) P e is p = tt
 
 -- ---- the whole
 
--- what was gathered under a committee from these sources
-pub record IsUnion (committee : List ℕ) (ls : List ReceivedLog) (g : Gathered) : Type 0 where
-  pub under : g.committee ≡ committee
-  pub headers : (h : Header) → Contains g.headers h ↔ IsHeaderInEvidence committee ls h
-  pub votes : (v : SignedVote) → Contains g.votes v ↔ IsVoteInEvidence committee ls v
-
 no_votes : (vs : List SignedVote) (v : SignedVote) → vs ≡ [] → Contains vs v → ⊥
 no_votes vs v none c = let i = subst (λ (ws : List SignedVote). Contains ws v) none c in let l = i.1 in absurd (omega arith)
 
 pub is_union : (committee : List ℕ) (ls : List ReceivedLog) (a b : Gathered) → a.committee ≡ committee → ((h : Header) → Contains a.headers h ↔ (h ≡ genesis_of committee)) → a.votes ≡ []
-    → Grows a b (InSome LogHasHeader ls) (InSome (LogHasVote a.committee) ls) → IsUnion committee ls b
+    → Grows a b (InSome LogHasHeader ls) (InSome LogNamesVote ls) → IsUnion committee ls b
 is_union committee ls a b under headers none g =
-    let h = subst (λ (k : List ℕ). Grows a b (InSome LogHasHeader ls) (InSome (LogHasVote k) ls)) under g in
     record {
       under = g.committee ∙ under;
       headers = λ x. (
-        λ c. elim ((h.headers x).0 c) [ inl o ↦ inl ((headers x).0 o) | inr i ↦ inr i ],
-        λ w. (h.headers x).1 (elim w [ inl e ↦ inl ((headers x).1 e) | inr i ↦ inr i ]),
+        λ c. elim ((g.headers x).0 c) [ inl o ↦ inl ((headers x).0 o) | inr i ↦ inr i ],
+        λ w. (g.headers x).1 (elim w [ inl e ↦ inl ((headers x).1 e) | inr i ↦ inr i ]),
       );
       votes = λ x. (
-        λ c. elim ((h.votes x).0 c) [ inl o ↦ absurd (no_votes a.votes x none o) | inr i ↦ i ],
-        λ i. (h.votes x).1 (inr i),
+        λ c. elim ((g.votes x).0 c) [ inl o ↦ absurd (no_votes a.votes x none o) | inr i ↦ i ],
+        λ i. (g.votes x).1 (inr i),
       );
     }
 
 pub union_has_genesis : (committee : List ℕ) (ls : List ReceivedLog) (g : Gathered) → IsUnion committee ls g → Contains g.headers (genesis_of g.committee)
 union_has_genesis committee ls g u = subst (λ (k : List ℕ). Contains g.headers (genesis_of k)) (sym u.under) ((u.headers (genesis_of committee)).1 (inl refl))
 
-pub union_is_good : (committee : List ℕ) (ls : List ReceivedLog) (g : Gathered) → IsUnion committee ls g → (v : SignedVote) → Contains g.votes v → IsGoodVote g.committee v
-union_is_good committee ls g u v c =
-    let shown = (u.votes v).0 c in
-    let frame = shown.2 in
-    subst (λ (k : List ℕ). IsGoodVote k v) (sym u.under) frame.2.2.0
+-- a vote is in evidence where a log names it and it is good
+pub named_and_good : (committee : List ℕ) (ls : List ReceivedLog) (v : SignedVote) → (InSome LogNamesVote ls v × IsGoodVote committee v) ↔ IsVoteInEvidence committee ls v
+named_and_good committee ls v = (
+  λ w. (
+      let log = w.0 in
+      let frame = log.2 in
+      let entry = frame.2 in
+      (log.0, log.1, (frame.0, frame.1, (entry.0, entry.1, (w.1, entry.2))))
+      ),
+  λ w. (
+      let frame = w.2 in
+      let entry = frame.2 in
+      ((w.0, w.1, (frame.0, frame.1, (entry.0, entry.1, entry.2.1))), entry.2.0)
+      ),
+)
 
 -- a fault at a source is one of the evidence
 pub fault_of_all : (committee : List ℕ) (ls : List ReceivedLog) (a b : Gathered) (i : ℕ) (s d : ReceivedLog) (r : EvidenceRefusal) → ((h : Header) → Contains a.headers h ↔ (h ≡ genesis_of committee)) → i < length ls → get_or ls i d ≡ s
-    → Grows a b (InSome LogHasHeader (take i ls)) (InSome (LogHasVote a.committee) (take i ls)) → IsGatheringRefusal b (LogHasHeader s) r → IsEvidenceRefusal (IsHeaderInEvidence committee ls) r
+    → Grows a b (InSome LogHasHeader (take i ls)) (InSome LogNamesVote (take i ls)) → IsGatheringRefusal b (LogHasHeader s) r → IsEvidenceRefusal (IsHeaderInEvidence committee ls) r
 fault_of_all committee ls a b i s d r headers l is g fault =
     fault_as _ _ r (λ h w. elim w [ inl o ↦ inl ((headers h).0 o) | inr k ↦ inr k ]) (fault_at a b LogHasHeader _ ls i s d r l is g fault)
 
-pub is_evidence : (committee k : List ℕ) (hs his : List Header) (vs vis : List SignedVote) (rs : List SourceReport) → k ≡ committee → his ≡ hs → vis ≡ vs
-    → AllPairs HasLowerId hs → All IsNotBelowParent hs → AllPairs IsLowerVote vs → Contains hs (genesis_of committee) → ((v : SignedVote) → Contains vs v → IsGoodVote committee v)
-    → IsEvidence (record { committee = k; headers = his; votes = vis; sources = rs })
-is_evidence committee k hs his vs vis rs a b c rise fall votes genesis good =
-    subst (λ (x : List ℕ). IsEvidence (record { committee = x; headers = his; votes = vis; sources = rs })) (sym a)
-    (subst (λ (x : List Header). IsEvidence (record { committee = committee; headers = x; votes = vis; sources = rs })) (sym b)
-    (subst (λ (x : List SignedVote). IsEvidence (record { committee = committee; headers = hs; votes = x; sources = rs })) (sym c)
-    (record { headers_rise = rise; views_fall = fall; votes_rise = votes; genesis = genesis; good = good })))
+pub is_evidence : (g h : Gathered) (answers : List Bool) (vs : List SignedVote) (rs : List SourceReport) → h ≡ g → IsInOrder h → Contains g.headers (genesis_of g.committee) → AllZip (IsAnswerOn g.committee) g.votes answers
+    → vs ≡ those h.votes answers → IsEvidence (record { committee = h.committee; headers = h.headers; votes = vs; sources = rs })
+is_evidence g h answers vs rs is order genesis zip good =
+    let zip_h = subst (λ (x : Gathered). AllZip (IsAnswerOn x.committee) x.votes answers) (sym is) zip in
+    record {
+      headers_rise = order.headers_rise;
+      views_fall = order.views_fall;
+      votes_rise = subst (AllPairs IsLowerVote) (sym good) (those_rise h.votes answers order.votes_rise);
+      genesis = subst (λ (x : Gathered). Contains x.headers (genesis_of x.committee)) (sym is) genesis;
+      good = λ v c. ((those_are h.committee h.votes answers zip_h v).0 (subst (λ (xs : List SignedVote). Contains xs v) good c)).1;
+    }
+
+-- the good votes of what was gathered are those in evidence
+pub evidence_from : (committee : List ℕ) (ls : List ReceivedLog) (g : Gathered) (answers : List Bool) (rs : List SourceReport) (e : Evidence) → IsUnion committee ls g → AllZip (IsAnswerOn committee) g.votes answers → AllZip IsReportOf ls rs
+    → e ≡ record { committee = g.committee; headers = g.headers; votes = those g.votes answers; sources = rs } → IsEvidenceOf committee ls e
+evidence_from committee ls g answers rs e u zip reports is =
+    subst (IsEvidenceOf committee ls) (sym is) (record {
+      under = u.under;
+      headers = u.headers;
+      votes = λ v. (
+        λ c. (let w = (those_are committee g.votes answers zip v).0 c in (named_and_good committee ls v).0 ((u.votes v).0 w.0, w.1)),
+        λ w. (let named = (named_and_good committee ls v).1 w in (those_are committee g.votes answers zip v).1 ((u.votes v).1 named.0, named.1)),
+      );
+      reports = reports;
+    })
 
 -- ---- reports, one for each source
 
@@ -319,6 +333,12 @@ zip_push R [] [] x y zip r = (r, tt)
 zip_push R [] (b ∷ ys) x y zip r = absurd zip
 zip_push R (a ∷ xs) [] x y zip r = absurd zip
 zip_push R (a ∷ xs) (b ∷ ys) x y zip r = (zip.0, zip_push R xs ys x y zip.1 r)
+
+pub zip_length : {A B : Type 0} (R : A → B → Type 0) (xs : List A) (ys : List B) → AllZip R xs ys → length ys ≡ length xs
+zip_length R [] [] zip = refl
+zip_length R [] (y ∷ ys) zip = absurd zip
+zip_length R (x ∷ xs) [] zip = absurd zip
+zip_length R (x ∷ xs) (y ∷ ys) zip = let k = zip_length R xs ys zip.1 in omega arith
 
 -- one pair more
 pub zip_more : {A B : Type 0} (R : A → B → Type 0) (xs : List A) (ys : List B) (i : ℕ) (d : A) (y : B) → i < length xs → AllZip R (take i xs) ys → R (get_or xs i d) y → AllZip R (take (i + 1) xs) (ys ++ y ∷ [])

@@ -1,5 +1,6 @@
 pub mod Lists
-pub mod VoteOrder
+pub mod VoteSets
 pub mod HeaderOrder
 pub mod Gatherings
 pub mod Absorbing
+pub mod GoodVotes

@@ -10,7 +10,7 @@ use Rattle.evidence.specs.declared.refusal.EvidenceRefusal.TheVariants.{Memory, 
 use Rattle.evidence.specs.declared.source.SourceReport.{SourceReport}
 use Rattle.evidence.specs.Sets.{InSome}
 use Rattle.evidence.specs.Logs.{ReceivedLog, HaveEntries, LogHasHeader, LogHasVote}
-use Rattle.evidence.specs.Votes.{IsLowerVote}
+use Rattle.certificates.specs.VoteOrder.{IsLowerVote}
 
 -- ---- what is in evidence
 

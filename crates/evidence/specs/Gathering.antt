@@ -1,16 +1,15 @@
 -- How evidence is gathered, step by step.
-use Rattle.std.specs.Prelude.{◌≡◌, ◌↔◌, ℕ, List, Some}
-use Rattle.std.specs.List.{Contains}
-use Rattle.blocks.specs.Headers.{Header}
+use Rattle.std.specs.Prelude.{◌≡◌, ◌↔◌, ℕ, List, [], ◌∷◌, Bool, Some, if◌then◌else◌}
+use Rattle.std.specs.List.{All, AllPairs, Contains}
+use Rattle.blocks.specs.Headers.{Header, HasLowerId}
 use Rattle.certificates.specs.Certificates.{Certificate}
-use Rattle.certificates.specs.Votes.{IsGoodVote}
-use Rattle.certificates.specs.declared.certificate.Endorsement.{Endorsement}
+use Rattle.certificates.specs.VoteOrder.{IsLowerVote}
 use Rattle.certificates.specs.declared.vote.SignedVote.{SignedVote}
 use Rattle.log_format.specs.EntryText.{Entry, own_vote_of}
 use Rattle.evidence.specs.declared.refusal.EvidenceRefusal.{EvidenceRefusal}
 use Rattle.evidence.specs.Sets.{InSome, IsEither}
-use Rattle.evidence.specs.Logs.{IsVoteOf}
-use Rattle.evidence.specs.Evidence.{IsEvidenceRefusal}
+use Rattle.evidence.specs.Logs.{IsVoteOf, LogNamesVote, ReceivedLog}
+use Rattle.evidence.specs.Evidence.{IsEvidenceRefusal, IsHeaderInEvidence, IsNotBelowParent}
 
 pub record Gathered : Type 0 where
   pub committee : List ℕ
@@ -35,15 +34,34 @@ pub record Grows (old new : Gathered) (IsHeader : Header → Type 0) (IsVote : S
 abbrev pub IsGatheringRefusal : Gathered → (Header → Type 0) → EvidenceRefusal → Type 0
 IsGatheringRefusal g Is refusal = IsEvidenceRefusal (IsEither (Contains g.headers) Is) refusal
 
--- ---- the good votes of an entry, in two steps
+-- what was gathered under a committee from these logs: all that they name, and genesis
+pub record IsUnion (committee : List ℕ) (ls : List ReceivedLog) (g : Gathered) : Type 0 where
+  pub under : g.committee ≡ committee
+  pub headers : (h : Header) → Contains g.headers h ↔ IsHeaderInEvidence committee ls h
+  pub votes : (v : SignedVote) → Contains g.votes v ↔ InSome LogNamesVote ls v
+
+-- ---- the votes of an entry, in two steps
 
 -- the own vote
-abbrev pub HasGoodOwn : List ℕ → ℕ → Entry → SignedVote → Type 0
-HasGoodOwn committee replica e v = IsGoodVote committee v × (own_vote_of e replica ≡ Some v)
+abbrev pub HasOwn : ℕ → Entry → SignedVote → Type 0
+HasOwn replica e v = own_vote_of e replica ≡ Some v
 
 -- those of its certificate
-abbrev pub IsGoodVoteOf : List ℕ → Certificate → Endorsement → SignedVote → Type 0
-IsGoodVoteOf committee c d v = IsGoodVote committee v × IsVoteOf c d v
+abbrev pub CertificateHas : Certificate → SignedVote → Type 0
+CertificateHas c v = InSome (IsVoteOf c) c.entries v
 
-abbrev pub CertificateHasGood : List ℕ → Certificate → SignedVote → Type 0
-CertificateHasGood committee c v = InSome (IsGoodVoteOf committee c) c.entries v
+-- ---- in order
+
+-- headers rise by id and none is below its parent, and votes rise
+pub record IsInOrder (g : Gathered) : Type 0 where
+  pub headers_rise : AllPairs HasLowerId g.headers
+  pub views_fall : All IsNotBelowParent g.headers
+  pub votes_rise : AllPairs IsLowerVote g.votes
+
+-- ---- checked
+
+-- of the votes those that have the answer yes
+abbrev pub those : List SignedVote → List Bool → List SignedVote
+those [] answers = []
+those (v ∷ vs) [] = []
+those (v ∷ vs) (answer ∷ answers) = if answer then v ∷ those vs answers else those vs answers

@@ -46,6 +46,10 @@ FrameHasHeader frame h = (e : Entry) × IsEntryOf frame e × HasHeader e h
 abbrev pub FrameHasVote : List ℕ → ℕ → List ℕ → SignedVote → Type 0
 FrameHasVote committee replica frame v = (e : Entry) × IsEntryOf frame e × HasGoodVote committee replica e v
 
+-- .. that need not be good
+abbrev pub FrameNamesVote : ℕ → List ℕ → SignedVote → Type 0
+FrameNamesVote replica frame v = (e : Entry) × IsEntryOf frame e × HasVote replica e v
+
 -- so many of the frames spell entries
 abbrev pub HaveEntries : List (List ℕ) → ℕ → Type 0
 HaveEntries [] n = n ≡ 0
@@ -61,3 +65,6 @@ LogHasHeader l h = InSome FrameHasHeader l.frames h
 
 abbrev pub LogHasVote : List ℕ → ReceivedLog → SignedVote → Type 0
 LogHasVote committee l v = InSome (FrameHasVote committee l.replica) l.frames v
+
+abbrev pub LogNamesVote : ReceivedLog → SignedVote → Type 0
+LogNamesVote l v = InSome (FrameNamesVote l.replica) l.frames v

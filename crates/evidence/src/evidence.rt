@@ -1,20 +1,23 @@
 //! Evidence from logs.
 
-ghost use Rattle.std.specs.Prelude.{◌≡◌, ◌≢◌, ◌++◌, [], ◌∷◌, IfErr, IfOk, OnOk, MatchOption};
-ghost use Rattle.std.specs.List.{All, AllPairs, Contains};
+ghost use Rattle.std.specs.Prelude.{◌≡◌, ◌≢◌, ◌++◌, [], ◌∷◌, if◌then◌else◌, length, IfErr, IfOk, OnOk, MatchOption};
+ghost use Rattle.std.specs.List.{All, AllZip, Contains};
 ghost use Rattle.blocks.specs.Committees.{IsCommittee};
 ghost use Rattle.blocks.specs.Genesis.{genesis_of};
-ghost use Rattle.blocks.specs.Headers.{HasLowerId, header_id};
-ghost use Rattle.certificates.specs.declared.vote.SignedVote.{SignedVote as SignedVoteValue};
+ghost use Rattle.blocks.specs.Headers.{header_id};
 ghost use Rattle.evidence.specs.Evidence.{IsEvidence, IsEvidenceOf, IsEvidenceRefusal, IsHeaderInEvidence};
-ghost use Rattle.certificates.specs.Votes.{IsGoodVote};
+ghost use Rattle.certificates.specs.Votes.{IsAnswerOn};
+ghost use Rattle.evidence.specs.Gathering.{those};
 
 use crate::gathering::Gathered;
+use crate::keeper::Anew;
+use crate::listing::Listing;
 use crate::refusal::EvidenceRefusal;
 use crate::source::{SourceLog, SourceReport};
 use ancestry::header_of;
 use blocks::{CommitteeView, Id, NamedHeader};
-use certificates::SignedVote;
+use certificates::{SignedVote, check_vote};
+use shared_values::Shared;
 use std::alloc::{AllocError, Global};
 use std::marker::Model;
 
@@ -25,7 +28,7 @@ use std::marker::Model;
 pub struct Evidence<'a> {
     committee: CommitteeView<'a>,
     headers: Vec<NamedHeader>,
-    votes: Vec<SignedVote>,
+    votes: Vec<Shared<SignedVote>>,
     sources: Vec<SourceReport>,
 }
 
@@ -40,17 +43,25 @@ impl<'a> Model for Evidence<'a> {
 }
 
 impl<'a> Evidence<'a> {
-    /// What was gathered, with the reports of the sources.
+    /// What logs name, with the reports of the sources; of the votes those that are good. Genesis has to be among the
+    /// headers, as it is in what `Gathered` began with, and there has to be an answer for each vote, in their order: whether
+    /// it is good. AllocError comes where memory for the list of good votes was refused.
     pub fn of(
         alloc: Global,
-        gathered: Gathered<'a>,
+        listing: Listing<'a>,
+        answers: &[bool],
         sources: Vec<SourceReport>,
     ) -> Result<Evidence<'a>, AllocError>
-        requires genesis { Contains gathered.headers (genesis_of gathered.committee) }
-        requires good { (v : SignedVoteValue) → Contains gathered.votes v → IsGoodVote gathered.committee v }
-        ensures { IfOk result (λ e. e ≡ record { committee = gathered.entry.committee; headers = gathered.entry.headers; votes = gathered.entry.votes; sources = sources.items }) }
+        requires genesis { Contains listing.headers (genesis_of listing.committee) }
+        requires answers { AllZip (IsAnswerOn listing.committee) listing.votes answers.now }
+        ensures { IfOk result (λ e. e ≡ record { committee = listing.entry.committee; headers = listing.entry.headers; votes = those listing.entry.votes answers.now; sources = sources.items }) }
     {
-        let (committee, headers, votes) = gathered.into_parts(alloc)?;
+        let votes = good_votes(alloc, &listing.votes, answers)?;
+        let Listing {
+            committee,
+            headers,
+            votes: _,
+        } = listing;
         Ok(Evidence {
             committee,
             headers,
@@ -86,7 +97,7 @@ impl<'a> Evidence<'a> {
     }
 
     /// The votes by rising replica, view, id and signature.
-    pub fn votes(&self) -> &[SignedVote]
+    pub fn votes(&self) -> &[Shared<SignedVote>]
         ensures value { result.now ≡ self.now.votes }
         ensures is_evidence { IsEvidence self.now }
     {
@@ -101,6 +112,58 @@ impl<'a> Evidence<'a> {
     }
 }
 
+// Adds the vote, if the answer is yes.
+fn put_if(
+    answer: bool,
+    good: &mut Vec<Shared<SignedVote>>,
+    vote: &Shared<SignedVote>,
+) -> Result<(), AllocError>
+    ensures { OnOk result (good.new.items ≡ good.old.items ++ (if answer then vote.now ∷ [] else [])) }
+{
+    if answer {
+        good.push(vote.again()?)?;
+    }
+    Ok(())
+}
+
+// Of the votes those that have the answer yes.
+fn good_votes(
+    alloc: Global,
+    votes: &[Shared<SignedVote>],
+    answers: &[bool],
+) -> Result<Vec<Shared<SignedVote>>, AllocError>
+    requires { length answers.now ≡ length votes.now }
+    ensures { IfOk result (λ good. good.items ≡ those votes.now answers.now) }
+{
+    let mut good = Vec::new(alloc);
+    for k in 0..votes.len() {
+        put_if(answers[k], &mut good, &votes[k])?;
+    }
+    Ok(good)
+}
+
+// Whether the vote is good.
+fn is_good(committee: &CommitteeView, vote: &SignedVote) -> bool
+    ensures { IsAnswerOn committee.now vote.now result }
+{
+    check_vote(committee, vote).is_ok()
+}
+
+// Whether each of the votes is good, in their order.
+fn check_each(
+    alloc: Global,
+    committee: &CommitteeView,
+    votes: &[Shared<SignedVote>],
+) -> Result<Vec<bool>, AllocError>
+    ensures { IfOk result (λ answers. AllZip (IsAnswerOn committee.now) votes.now answers.items) }
+{
+    let mut answers = Vec::new(alloc);
+    for vote in votes {
+        answers.push(is_good(committee, vote.get()))?;
+    }
+    Ok(answers)
+}
+
 // Adds a report.
 fn put(reports: &mut Vec<SourceReport>, report: SourceReport) -> Result<(), AllocError>
     ensures { OnOk result (reports.new.items ≡ reports.old.items ++ report ∷ []) }
@@ -109,10 +172,10 @@ fn put(reports: &mut Vec<SourceReport>, report: SourceReport) -> Result<(), Allo
     Ok(())
 }
 
-/// The evidence of these logs, on one thread. It has genesis, both headers of each entry that a frame spells, and of the
-/// entry's own vote, taken as that of the log's replica, and the votes of its certificate those that are good; each
-/// once. A frame that spells no entry is counted and shows nothing. Refused as Memory where memory was refused, and as
-/// Collision where two different headers of the evidence have one id.
+/// The evidence of these logs, on one thread, which checks each different vote once. It has genesis, both headers of each
+/// entry that a frame spells, and of the entry's own vote, taken as that of the log's replica, and the votes of its
+/// certificate those that are good; each once. A frame that spells no entry is counted and shows nothing. Refused as Memory
+/// where memory was refused, and as Collision where two different headers of the evidence have one id.
 pub fn evidence_of_logs<'a>(
     alloc: Global,
     committee: &CommitteeView<'a>,
@@ -124,7 +187,9 @@ pub fn evidence_of_logs<'a>(
     let mut gathered = Gathered::new(alloc, committee)?;
     let mut reports = Vec::new(alloc);
     for log in logs {
-        put(&mut reports, gathered.add_log(alloc, log)?)?;
+        put(&mut reports, gathered.add_log(alloc, &Anew { alloc }, log)?)?;
     }
-    Ok(Evidence::of(alloc, gathered, reports)?)
+    let listing = gathered.in_order(alloc)?;
+    let answers = check_each(alloc, committee, listing.votes())?;
+    Ok(Evidence::of(alloc, listing, &answers, reports)?)
 }

@@ -1,30 +1,31 @@
 //! Gathering of headers and votes.
 
-ghost use Rattle.std.specs.Prelude.{◌≡◌, ◌↔◌, [], ◌∷◌, take, IfErr, IfOk, IsErrOf, IsTrue, OnOk};
+ghost use Rattle.std.specs.Prelude.{◌≡◌, ◌≢◌, ◌↔◌, [], Err, IfErr, IfOk, IsErrOf, IsFalse, IsTrue, OnOk};
 ghost use Rattle.std.specs.List.{All, AllPairs, Contains};
 ghost use Rattle.blocks.specs.Genesis.{genesis_of};
 ghost use Rattle.blocks.specs.Chains.{HasNone};
 ghost use Rattle.blocks.specs.Headers.{HasLowerId, header_id};
-ghost use Rattle.certificates.specs.declared.vote.SignedVote.{SignedVote as SignedVoteValue};
 ghost use Rattle.evidence.specs.Evidence.{IsNotBelowParent, IsReportOf};
-ghost use Rattle.evidence.specs.Gathering.{CertificateHasGood, Grows, HasGoodOwn, IsGatheringRefusal, IsNone};
+ghost use Rattle.evidence.specs.Gathering.{CertificateHas, Grows, HasOwn, IsGatheringRefusal, IsNone};
+ghost use Rattle.certificates.specs.VoteOrder.{IsLowerVote};
+ghost use Rattle.evidence.specs.declared.refusal.EvidenceRefusal.TheVariants.{Memory};
 ghost use Rattle.evidence.specs.Sets.{InSome};
-ghost use Rattle.evidence.specs.Votes.{IsLowerVote};
-ghost use Rattle.certificates.specs.Votes.{IsGoodVote};
-ghost use Rattle.evidence.specs.Logs.{FrameHasHeader, FrameHasVote, HasGoodVote, HasHeader, HaveEntries, LogHasHeader, LogHasVote, SpellsEntry};
+ghost use Rattle.evidence.specs.Logs.{FrameHasHeader, FrameNamesVote, HasHeader, HasVote, HaveEntries, LogHasHeader, LogNamesVote, SpellsEntry};
 
 use crate::headers::HeaderSet;
+use crate::keeper::Keeper;
+use crate::listing::{Listing, copies};
 use crate::refusal::EvidenceRefusal;
 use crate::source::{SourceLog, SourceReport};
 use crate::votes::VoteSet;
 use blocks::{CommitteeView, Header, NamedHeader};
-use certificates::{Certificate, SignedVote, check_vote};
+use certificates::{Certificate, SignedVote};
 use log_format::{Entry, EntryRefusal, Frames, entries_have_one_spelling};
+use shared_values::Shared;
 use std::alloc::{AllocError, Global};
 use std::marker::Model;
 
-/// Headers and good votes that were gathered under a committee, genesis first. Each vote that is gathered is
-/// checked once.
+/// Headers and votes that logs name, gathered under a committee, each once, and genesis. No vote is checked yet.
 #[derive(Drop)]
 pub struct Gathered<'a> {
     committee: CommitteeView<'a>,
@@ -48,7 +49,7 @@ impl<'a> Gathered<'a> {
         ensures votes { IfOk result (λ g. g.votes ≡ []) }
     {
         let mut headers = HeaderSet::new(alloc);
-        headers.insert(NamedHeader::of(committee.genesis()))?;
+        headers.insert(Shared::new(alloc, NamedHeader::of(committee.genesis()))?)?;
         Ok(Gathered {
             committee: committee.again(),
             headers,
@@ -56,97 +57,128 @@ impl<'a> Gathered<'a> {
         })
     }
 
+    // Whether the header is gathered already. Refused where another one of its id is.
+    fn holds(&self, header: &NamedHeader) -> Result<bool, EvidenceRefusal>
+        ensures held { IfOk result (λ held. IsTrue held → Contains self.now.headers header.now) }
+        ensures new { IfOk result (λ held. IsFalse held → HasNone self.now.headers (header_id header.now)) }
+        ensures err { IfErr result (IsGatheringRefusal self.now (λ h. h ≡ header.now)) }
+        ensures no_memory { result ≢ Err Memory }
+    {
+        let Some(held) = self.headers.get(header.id()) else {
+            return Ok(false);
+        };
+        let held = held.get();
+        if *held.header() != *header.header() {
+            return Err(EvidenceRefusal::Collision(*held.header(), *header.header()));
+        }
+        Ok(true)
+    }
+
     // Adds a header.
-    fn add_header(&mut self, header: &Header) -> Result<(), EvidenceRefusal>
+    fn add_header<K: Keeper>(&mut self, keeper: &K, header: &Header) -> Result<(), EvidenceRefusal>
         ensures ok { OnOk result (Grows self.old self.new (λ h. h ≡ header.now) IsNone) }
         ensures err { IfErr result (IsGatheringRefusal self.old (λ h. h ≡ header.now)) }
         // Nothing grows for a header that is gathered already, nor for one that collides.
         ensures memory { IsErrOf result EvidenceRefusal.Memory → HasNone self.old.headers (header_id header.now) }
     {
         let named = NamedHeader::of(*header);
-        if let Some(held) = self.headers.get(named.id()) {
-            if *held.header() != *header {
-                return Err(EvidenceRefusal::Collision(*held.header(), *header));
-            }
+        if self.holds(&named)? {
             return Ok(());
         }
-        self.headers.insert(named)?;
+        self.headers.insert(keeper.header(&named)?)?;
         Ok(())
     }
 
-    // Adds a vote, if it is good.
-    fn add_vote(&mut self, vote: &SignedVote) -> Result<(), AllocError>
-        ensures { OnOk result (Grows self.old self.new IsNone (λ v. IsGoodVote self.old.committee v × (v ≡ vote.now))) }
+    // Adds a vote.
+    fn add_vote(&mut self, vote: Shared<SignedVote>) -> Result<(), AllocError>
+        ensures { OnOk result (Grows self.old self.new IsNone (λ v. v ≡ vote)) }
     {
-        if self.votes.contains(vote) || check_vote(&self.committee, vote).is_err() {
-            return Ok(());
-        }
         self.votes.insert(vote)
     }
 
-    // Adds the good votes of a certificate.
-    fn add_certificate(&mut self, certificate: &Certificate) -> Result<(), AllocError>
-        ensures { OnOk result (Grows self.old self.new IsNone (CertificateHasGood self.old.committee certificate.now)) }
+    // Adds the votes of a certificate.
+    fn add_certificate<K: Keeper>(
+        &mut self,
+        keeper: &K,
+        certificate: &Certificate,
+    ) -> Result<(), AllocError>
+        ensures { OnOk result (Grows self.old self.new IsNone (CertificateHas certificate.now)) }
     {
         for k in 0..certificate.count() {
-            self.add_vote(&certificate.vote(k))?;
+            self.add_vote(keeper.vote(&certificate.vote(k))?)?;
         }
         Ok(())
     }
 
-    // Adds the own vote of an entry, if it has one and it is good.
-    fn add_own_vote(&mut self, replica: u16, entry: &Entry) -> Result<(), AllocError>
-        ensures { OnOk result (Grows self.old self.new IsNone (HasGoodOwn self.old.committee replica entry.now)) }
+    // Adds the own vote of an entry, if it has one.
+    fn add_own_vote<K: Keeper>(
+        &mut self,
+        keeper: &K,
+        replica: u16,
+        entry: &Entry,
+    ) -> Result<(), AllocError>
+        ensures { OnOk result (Grows self.old self.new IsNone (HasOwn replica entry.now)) }
     {
         if let Some(vote) = entry.vote(replica) {
-            self.add_vote(&vote)?;
+            self.add_vote(keeper.vote(&vote)?)?;
         }
         Ok(())
     }
 
     // Adds the headers of an entry.
-    fn add_headers(&mut self, entry: &Entry) -> Result<(), EvidenceRefusal>
+    fn add_headers<K: Keeper>(&mut self, keeper: &K, entry: &Entry) -> Result<(), EvidenceRefusal>
         ensures ok { OnOk result (Grows self.old self.new (HasHeader entry.now) IsNone) }
         ensures err { IfErr result (IsGatheringRefusal self.old (HasHeader entry.now)) }
     {
-        self.add_header(entry.block())?;
-        self.add_header(entry.parent())
+        self.add_header(keeper, entry.block())?;
+        self.add_header(keeper, entry.parent())
     }
 
-    // Adds the votes of an entry that are good.
-    fn add_votes(&mut self, replica: u16, entry: &Entry) -> Result<(), AllocError>
-        ensures { OnOk result (Grows self.old self.new IsNone (HasGoodVote self.old.committee replica entry.now)) }
+    // Adds the votes of an entry.
+    fn add_votes<K: Keeper>(
+        &mut self,
+        keeper: &K,
+        replica: u16,
+        entry: &Entry,
+    ) -> Result<(), AllocError>
+        ensures { OnOk result (Grows self.old self.new IsNone (HasVote replica entry.now)) }
     {
-        self.add_own_vote(replica, entry)?;
-        self.add_certificate(entry.certificate())
+        self.add_own_vote(keeper, replica, entry)?;
+        self.add_certificate(keeper, entry.certificate())
     }
 
-    // Adds what an entry of a replica's log shows.
-    fn add_entry(&mut self, replica: u16, entry: &Entry) -> Result<(), EvidenceRefusal>
-        ensures ok { OnOk result (Grows self.old self.new (HasHeader entry.now) (HasGoodVote self.old.committee replica entry.now)) }
+    // Adds what an entry of a replica's log names.
+    fn add_entry<K: Keeper>(
+        &mut self,
+        keeper: &K,
+        replica: u16,
+        entry: &Entry,
+    ) -> Result<(), EvidenceRefusal>
+        ensures ok { OnOk result (Grows self.old self.new (HasHeader entry.now) (HasVote replica entry.now)) }
         ensures err { IfErr result (IsGatheringRefusal self.old (HasHeader entry.now)) }
     {
-        self.add_headers(entry)?;
-        self.add_votes(replica, entry)?;
+        self.add_headers(keeper, entry)?;
+        self.add_votes(keeper, replica, entry)?;
         Ok(())
     }
 
-    /// Adds what a frame of a replica's log shows, if it is an entry. Answers whether it is. After a refusal a part of it
-    /// may have been added.
-    pub fn add_frame(
+    /// Adds what a frame of a replica's log names, if it is an entry: its headers and its votes, which are not checked.
+    /// Answers whether it is. After a refusal a part of it may have been added.
+    pub fn add_frame<K: Keeper>(
         &mut self,
         alloc: Global,
+        keeper: &K,
         replica: u16,
         frame: &[u8],
     ) -> Result<bool, EvidenceRefusal>
-        ensures ok { OnOk result (Grows self.old self.new (FrameHasHeader frame.now) (FrameHasVote self.old.committee replica frame.now)) }
+        ensures ok { OnOk result (Grows self.old self.new (FrameHasHeader frame.now) (FrameNamesVote replica frame.now)) }
         ensures entry { IfOk result (λ is. IsTrue is ↔ SpellsEntry frame.now) }
         ensures err { IfErr result (IsGatheringRefusal self.old (FrameHasHeader frame.now)) }
     {
         entries_have_one_spelling();
         match Entry::read(alloc, frame) {
             Ok(entry) => {
-                self.add_entry(replica, &entry)?;
+                self.add_entry(keeper, replica, &entry)?;
                 Ok(true)
             }
             Err(EntryRefusal::Memory) => Err(EvidenceRefusal::Memory),
@@ -154,37 +186,39 @@ impl<'a> Gathered<'a> {
         }
     }
 
-    // Adds what the frames of a replica's log show. Answers how many are entries.
-    fn add_frames(
+    // Adds what the frames of a replica's log name. Answers how many are entries.
+    fn add_frames<K: Keeper>(
         &mut self,
         alloc: Global,
+        keeper: &K,
         replica: u16,
         frames: &Frames,
     ) -> Result<usize, EvidenceRefusal>
-        ensures ok { OnOk result (Grows self.old self.new (InSome FrameHasHeader frames.now.frames) (InSome (FrameHasVote self.old.committee replica) frames.now.frames)) }
+        ensures ok { OnOk result (Grows self.old self.new (InSome FrameHasHeader frames.now.frames) (InSome (FrameNamesVote replica) frames.now.frames)) }
         ensures entries { IfOk result (HaveEntries frames.now.frames) }
         ensures err { IfErr result (IsGatheringRefusal self.old (InSome FrameHasHeader frames.now.frames)) }
     {
         let mut entries = 0;
         for k in 0..frames.len() {
-            if self.add_frame(alloc, replica, frames.payload(k))? {
+            if self.add_frame(alloc, keeper, replica, frames.payload(k))? {
                 entries += 1;
             }
         }
         Ok(entries)
     }
 
-    /// Adds what a log shows. After a refusal a part of it may have been added.
-    pub fn add_log(
+    /// Adds what a log names. After a refusal a part of it may have been added.
+    pub fn add_log<K: Keeper>(
         &mut self,
         alloc: Global,
+        keeper: &K,
         log: &SourceLog,
     ) -> Result<SourceReport, EvidenceRefusal>
-        ensures ok { OnOk result (Grows self.old self.new (LogHasHeader log.now) (LogHasVote self.old.committee log.now)) }
+        ensures ok { OnOk result (Grows self.old self.new (LogHasHeader log.now) (LogNamesVote log.now)) }
         ensures report { IfOk result (IsReportOf log.now) }
         ensures err { IfErr result (IsGatheringRefusal self.old (LogHasHeader log.now)) }
     {
-        let entries = self.add_frames(alloc, log.replica, &log.frames)?;
+        let entries = self.add_frames(alloc, keeper, log.replica, &log.frames)?;
         Ok(SourceReport {
             replica: log.replica,
             status: log.frames.status(),
@@ -193,40 +227,44 @@ impl<'a> Gathered<'a> {
         })
     }
 
+    // Adds a header that was gathered apart.
+    fn add_known_header(&mut self, header: &Shared<NamedHeader>) -> Result<(), EvidenceRefusal>
+        ensures ok { OnOk result (Grows self.old self.new (λ h. h ≡ header.now) IsNone) }
+        ensures err { IfErr result (IsGatheringRefusal self.old (λ h. h ≡ header.now)) }
+    {
+        if self.holds(header.get())? {
+            return Ok(());
+        }
+        self.headers.insert(header.again()?)?;
+        Ok(())
+    }
+
     // Adds headers.
-    fn absorb_headers(&mut self, headers: &[NamedHeader]) -> Result<(), EvidenceRefusal>
+    fn absorb_headers(&mut self, headers: &[Shared<NamedHeader>]) -> Result<(), EvidenceRefusal>
         ensures ok { OnOk result (Grows self.old self.new (Contains headers.now) IsNone) }
         ensures err { IfErr result (IsGatheringRefusal self.old (Contains headers.now)) }
     {
         for header in headers {
-            self.add_header(header.header())?;
+            self.add_known_header(header)?;
         }
         Ok(())
     }
 
-    // Adds a vote that was checked before.
-    fn add_known(&mut self, vote: &SignedVote) -> Result<(), AllocError>
-        ensures { OnOk result (Grows self.old self.new IsNone (λ v. v ≡ vote.now)) }
-    {
-        self.votes.insert(vote)
-    }
-
-    // Adds votes that were checked before.
-    fn absorb_votes(&mut self, votes: &[SignedVote]) -> Result<(), AllocError>
+    // Adds votes.
+    fn absorb_votes(&mut self, votes: &[Shared<SignedVote>]) -> Result<(), AllocError>
         ensures { OnOk result (Grows self.old self.new IsNone (Contains votes.now)) }
     {
         for vote in votes {
-            self.add_known(vote)?;
+            self.add_vote(vote.again()?)?;
         }
         Ok(())
     }
 
-    /// Adds headers and votes that were gathered apart. The votes are not checked again: they are good where they were
-    /// gathered under the same committee. After a refusal a part of them may have been added.
+    /// Adds headers and votes that were gathered apart. After a refusal a part of them may have been added.
     pub fn merge(
         &mut self,
-        headers: &[NamedHeader],
-        votes: &[SignedVote],
+        headers: &[Shared<NamedHeader>],
+        votes: &[Shared<SignedVote>],
     ) -> Result<(), EvidenceRefusal>
         ensures ok { OnOk result (Grows self.old self.new (Contains headers.now) (Contains votes.now)) }
         ensures err { IfErr result (IsGatheringRefusal self.old (Contains headers.now)) }
@@ -236,23 +274,38 @@ impl<'a> Gathered<'a> {
         Ok(())
     }
 
-    /// The committee, the headers by rising id, and the votes in order.
+    /// The headers by rising id, and the votes in order.
     pub fn into_parts(
         self,
         alloc: Global,
-    ) -> Result<(CommitteeView<'a>, Vec<NamedHeader>, Vec<SignedVote>), AllocError>
-        ensures committee { IfOk result (λ parts. parts.0 ≡ self.entry.committee) }
-        ensures headers { IfOk result (λ parts. parts.1.items ≡ self.entry.headers) }
-        ensures votes { IfOk result (λ parts. parts.2.items ≡ self.entry.votes) }
+    ) -> Result<(Vec<Shared<NamedHeader>>, Vec<Shared<SignedVote>>), AllocError>
+        ensures headers { IfOk result (λ parts. parts.0.items ≡ self.entry.headers) }
+        ensures votes { IfOk result (λ parts. parts.1.items ≡ self.entry.votes) }
         ensures headers_rise { OnOk result (AllPairs HasLowerId self.entry.headers) }
         ensures views_fall { OnOk result (All IsNotBelowParent self.entry.headers) }
         ensures votes_rise { OnOk result (AllPairs IsLowerVote self.entry.votes) }
+    {
+        let Gathered {
+            committee: _,
+            headers,
+            votes,
+        } = self;
+        Ok((headers.into_vec(alloc)?, votes.into_vec(alloc)?))
+    }
+
+    /// What was gathered, in order.
+    pub fn in_order(self, alloc: Global) -> Result<Listing<'a>, AllocError>
+        ensures { IfOk result (λ listing. listing ≡ self.entry) }
     {
         let Gathered {
             committee,
             headers,
             votes,
         } = self;
-        Ok((committee, headers.into_vec(alloc)?, votes.into_vec(alloc)?))
+        Ok(Listing {
+            committee,
+            headers: copies(alloc, &headers.into_vec(alloc)?)?,
+            votes: votes.into_vec(alloc)?,
+        })
     }
 }

@@ -8,6 +8,7 @@ ghost use Rattle.evidence.specs.Evidence.{IsNotBelowParent};
 ghost use Rattle.evidence.specs.Gathering.{Gains};
 
 use blocks::{Id, NamedHeader};
+use shared_values::Shared;
 use std::alloc::{AllocError, Global};
 use std::collections::BTreeMap;
 use std::marker::Model;
@@ -15,7 +16,7 @@ use std::marker::Model;
 /// Headers whose ids rise, so that no two have one id. Contracts see the list.
 #[derive(Drop)]
 pub struct HeaderSet {
-    headers: BTreeMap<Id, NamedHeader>,
+    headers: BTreeMap<Id, Shared<NamedHeader>>,
 }
 
 impl Model for HeaderSet {
@@ -42,26 +43,26 @@ impl HeaderSet {
     }
 
     /// The header of this id.
-    pub fn get(&self, id: &Id) -> Option<&NamedHeader>
+    pub fn get(&self, id: &Id) -> Option<&Shared<NamedHeader>>
         ensures { MatchOption result (HasNone self.now id.now) (λ h. Contains self.now h.now × (header_id h.now ≡ id.now)) }
     {
         self.headers.get(id)
     }
 
     /// Adds a header of a new id. Where memory is refused nothing changes.
-    pub fn insert(&mut self, header: NamedHeader) -> Result<(), AllocError>
+    pub fn insert(&mut self, header: Shared<NamedHeader>) -> Result<(), AllocError>
         requires { HasNone self.old (header_id header) }
         ensures ok { OnOk result (Gains self.old self.new (λ h. h ≡ header)) }
         ensures err { OnErr result (self.new ≡ self.old) }
     {
-        let block = header.header();
+        let block = header.get().header();
         prove!(block.parent_view <= block.view);
-        let _ = self.headers.insert(*header.id(), header)?;
+        let _ = self.headers.insert(*header.get().id(), header)?;
         Ok(())
     }
 
     /// The headers by rising id.
-    pub fn into_vec(self, alloc: Global) -> Result<Vec<NamedHeader>, AllocError>
+    pub fn into_vec(self, alloc: Global) -> Result<Vec<Shared<NamedHeader>>, AllocError>
         ensures headers { IfOk result (λ headers. headers.items ≡ self) }
         ensures rising { AllPairs HasLowerId self }
         ensures falling { All IsNotBelowParent self }

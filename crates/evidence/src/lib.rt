@@ -5,11 +5,15 @@
 mod evidence;
 mod gathering;
 mod headers;
+mod keeper;
+mod listing;
 mod refusal;
 mod source;
 mod votes;
 
 pub use evidence::{Evidence, evidence_of_logs};
 pub use gathering::Gathered;
+pub use keeper::{Anew, Keeper};
+pub use listing::Listing;
 pub use refusal::EvidenceRefusal;
 pub use source::{SourceLog, SourceReport};

@@ -1,11 +1,12 @@
 //! Votes in order, each once.
 
-ghost use Rattle.std.specs.Prelude.{◌≡◌, ◌↔◌, [], IfOk, IsTrue, OnOk, OnErr};
-ghost use Rattle.std.specs.List.{AllPairs, Contains};
+ghost use Rattle.std.specs.Prelude.{◌≡◌, [], IfOk, OnOk, OnErr};
+ghost use Rattle.std.specs.List.{AllPairs};
 ghost use Rattle.evidence.specs.Gathering.{Gains};
-ghost use Rattle.evidence.specs.Votes.{IsLowerVote, vote_cmp};
+ghost use Rattle.certificates.specs.VoteOrder.{IsLowerVote};
 
 use certificates::SignedVote;
+use shared_values::Shared;
 use std::alloc::{AllocError, Global};
 use std::collections::BTreeSet;
 use std::marker::Model;
@@ -13,7 +14,7 @@ use std::marker::Model;
 /// Votes that rise, so that each stands once. Contracts see the list.
 #[derive(Drop)]
 pub struct VoteSet {
-    votes: BTreeSet<SignedVote>,
+    votes: BTreeSet<Shared<SignedVote>>,
 }
 
 impl Model for VoteSet {
@@ -36,24 +37,17 @@ impl VoteSet {
         }
     }
 
-    /// Whether the vote is there.
-    pub fn contains(&self, vote: &SignedVote) -> bool
-        ensures { IsTrue result ↔ Contains self.now vote.now }
-    {
-        self.votes.contains(vote)
-    }
-
     /// Adds a vote, unless it is there. Where memory is refused nothing changes.
-    pub fn insert(&mut self, vote: &SignedVote) -> Result<(), AllocError>
-        ensures ok { OnOk result (Gains self.old self.new (λ v. v ≡ vote.now)) }
+    pub fn insert(&mut self, vote: Shared<SignedVote>) -> Result<(), AllocError>
+        ensures ok { OnOk result (Gains self.old self.new (λ v. v ≡ vote)) }
         ensures err { OnErr result (self.new ≡ self.old) }
     {
-        let _ = self.votes.insert(*vote)?;
+        let _ = self.votes.insert(vote)?;
         Ok(())
     }
 
     /// The votes, rising.
-    pub fn into_vec(self, alloc: Global) -> Result<Vec<SignedVote>, AllocError>
+    pub fn into_vec(self, alloc: Global) -> Result<Vec<Shared<SignedVote>>, AllocError>
         ensures votes { IfOk result (λ votes. votes.items ≡ self) }
         ensures rising { AllPairs IsLowerVote self }
     {

@@ -1,5 +1,6 @@
 -- The files of a replica's key, and what is printed of them.
-use Rattle.std.specs.Prelude.{◌≡◌, ◌⊎◌, ℕ, List, [], ◌∷◌, ◌++◌, Option, Some, IfSome, codes, take}
+use Rattle.std.specs.Prelude.{◌≡◌, ◌<◌, ◌⊎◌, ℕ, List, [], ◌∷◌, ◌++◌, Option, Some, IfSome, codes, take}
+use Rattle.std.specs.List.{Any}
 use Rattle.stable_log.specs.Image.{empty_journal}
 use Rattle.hex.specs.Hex.{encode_lower}
 use Rattle.lms_tree.specs.Tree.{key_text, tree_root}
@@ -48,6 +49,23 @@ key_files id seed = replica_files id seed (key_text id (tree_root id seed))
 abbrev pub key_line : List ℕ → List ℕ → List ℕ
 key_line id seed = codes "key " ++ (encode_lower (key_text id (tree_root id seed)) ++ 10 ∷ [])
 
+-- a file of this name is there
+abbrev pub IsThere : List ℕ → List FolderFile → Type 0
+IsThere name held = Any (λ file. file.name ≡ name) held
+
+-- none of the key's files that are made before this one is there
+abbrev pub IsNoneBefore : KeyFileValue → List FolderFile → Type 0
+IsNoneBefore file held = (other : KeyFileValue) → place_of other < place_of file → IsThere (file_name other) held → ⊥
+
+-- this is the first of the key's files, in the order in which they are made, that is there
+pub record IsFirstThere (file : KeyFileValue) (held : List FolderFile) : Type 0 where
+  pub there : IsThere (file_name file) held
+  pub first : IsNoneBefore file held
+
+-- this holds of the first of the key's files that is there, where the folder tells one
+abbrev pub OfFirstThere : Option (List FolderFile) → (KeyFileValue → Type 0) → Type 0
+OfFirstThere before Holds = IfSome before (λ held. (file : KeyFileValue) → IsFirstThere file held → Holds file)
+
 -- these files were made, where the folder tells its files
 abbrev pub Made : Option (List FolderFile) → Option (List FolderFile) → List FolderFile → Type 0
 Made before after files = IfSome before (λ held. after ≡ Some (held ++ files))
@@ -55,6 +73,20 @@ Made before after files = IfSome before (λ held. after ≡ Some (held ++ files)
 -- the first of them were made, up to some place
 abbrev pub MadePart : Option (List FolderFile) → Option (List FolderFile) → List FolderFile → Type 0
 MadePart before after files = IfSome before (λ held. (n : ℕ) × (after ≡ Some (held ++ take n files)))
+
+-- a look for the file found it there, or failed
+abbrev pub IsFaultOfLook : KeyFileValue → KeyFaultValue → Option (List FolderFile) → ℕ → ℕ → Type 0
+IsFaultOfLook file Memory before failures failures' = failures' ≡ one_more failures
+IsFaultOfLook file (File named) before failures failures' = (named ≡ file)
+    × ((IfSome before (IsThere (file_name file)) × (failures' ≡ failures)) ⊎ (failures' ≡ one_more failures))
+IsFaultOfLook file Output before failures failures' = ⊥
+
+-- a look for the files, in their order, found this one there, the first, or failed at it
+abbrev pub IsFaultOfLooks : KeyFaultValue → Option (List FolderFile) → ℕ → ℕ → Type 0
+IsFaultOfLooks Memory before failures failures' = failures' ≡ one_more failures
+IsFaultOfLooks (File file) before failures failures' =
+    (IfSome before (IsFirstThere file) × (failures' ≡ failures)) ⊎ (IfSome before (IsNoneBefore file) × (failures' ≡ one_more failures))
+IsFaultOfLooks Output before failures failures' = ⊥
 
 -- the file was not made, since a call of the folder failed
 abbrev pub IsFaultOf : KeyFileValue → KeyFaultValue → Option (List FolderFile) → Option (List FolderFile) → ℕ → ℕ → Type 0
@@ -68,12 +100,18 @@ LeavesSome Memory before after failures failures' files = MadePart before after 
 LeavesSome (File file) before after failures failures' files = Made before after (take (place_of file) files) × (failures' ≡ one_more failures)
 LeavesSome Output before after failures failures' files = ⊥
 
--- what it has after any fault: memory may be refused before the first file, and after `Output` all files are there
-abbrev pub LeavesFiles : KeyFaultValue → Option (List FolderFile) → Option (List FolderFile) → ℕ → ℕ → List FolderFile → Type 0
-LeavesFiles Memory before after failures failures' files =
+-- what it has after a fault that came behind the looks: memory may be refused before the first file, and after `Output`
+-- all files are there
+abbrev pub LeavesMade : KeyFaultValue → Option (List FolderFile) → Option (List FolderFile) → ℕ → ℕ → List FolderFile → Type 0
+LeavesMade Memory before after failures failures' files =
     ((after ≡ before) × (failures' ≡ failures)) ⊎ LeavesSome Memory before after failures failures' files
-LeavesFiles (File file) before after failures failures' files = LeavesSome (File file) before after failures failures' files
-LeavesFiles Output before after failures failures' files = Made before after files × (failures' ≡ failures)
+LeavesMade (File file) before after failures failures' files = LeavesSome (File file) before after failures failures' files
+LeavesMade Output before after failures failures' files = Made before after files × (failures' ≡ failures)
+
+-- what it has after any fault: just what it had, where the looks ended it
+abbrev pub LeavesFiles : KeyFaultValue → Option (List FolderFile) → Option (List FolderFile) → ℕ → ℕ → List FolderFile → Type 0
+LeavesFiles fault before after failures failures' files =
+    ((after ≡ before) × IsFaultOfLooks fault before failures failures') ⊎ LeavesMade fault before after failures failures' files
 
 -- whether a write failed, which is so of `Output` alone; with another fault nothing was written
 abbrev pub LeavesLine : KeyFaultValue → Option (List ℕ) → Option (List ℕ) → ℕ → ℕ → Type 0

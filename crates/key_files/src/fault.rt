@@ -10,7 +10,7 @@ use std::alloc::AllocError;
 pub enum KeyFault {
     /// Memory was refused.
     Memory,
-    /// This file could not be made in the folder.
+    /// This file is there already, can't be looked for, or could not be made.
     File(KeyFile),
     /// The line could not be written, or not all of it.
     Output,

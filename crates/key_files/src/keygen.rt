@@ -1,24 +1,28 @@
 //! A replica's key files, made from the seed of its key.
 
-ghost use Rattle.std.specs.Prelude.{◌≡◌, ◌++◌, ◌∷◌, [], IfErr, OnOk, OnErr};
+ghost use Rattle.std.specs.Prelude.{◌≡◌, ◌⊎◌, ◌++◌, ◌∷◌, [], Err, IfErr, IfSome, OnOk, OnErr};
+ghost use Rattle.faults.specs.Counting.{one_more};
 ghost use Rattle.streams.specs.Streams.{Wrote, WrotePart};
 ghost use Rattle.stable_log.specs.Image.{empty_journal};
-ghost use Rattle.key_files.specs.KeyFiles.{file_name, key_files, key_line, replica_files, IsFaultOf, LeavesFiles, LeavesLine, LeavesSome, Made};
+ghost use Rattle.key_files.specs.KeyFiles.{file_name, key_files, key_line, replica_files, IsFaultOf, IsFaultOfLook, IsFaultOfLooks, IsThere, LeavesFiles, LeavesLine, LeavesMade, LeavesSome, Made, OfFirstThere};
 
 use crate::fault::KeyFault;
 use crate::files::KeyFile;
 use crate::folder::{Folder, FolderFault, Readers, Store};
 use lmots::PrivateSeed;
-use lms_tree::SigningTree;
+use parallel_keys::generate_parallel;
 use std::alloc::Global;
+use std::thread::Threads;
 use streams::{Sink, write_all};
 use wire::put;
 
 /// Makes `key.seed`, `key.pub`, `index.hsj` and `log.hsj`, as new files in this order, and prints `key ` and
-/// the public key's 112 hex digits. A file that is there already is a fault; it stays as it is, and files
-/// made before it stay too. Tree and line are computed first, so that want of memory for
-/// them leaves no file.
-pub fn make_key<D: Folder, W: Sink>(
+/// the public key's 112 hex digits. It first looks for each of them, in this order: one that is there is the fault, and so
+/// is one that can't be looked for; then no key is computed, and nothing is made. A file that another process makes after
+/// that is a fault too; it stays as it is, and files made before it stay too. Tree, in threads by `generate_parallel`,
+/// and line are computed before the first file is made, so that want of memory for them leaves no file.
+pub fn make_key<R: Threads + Sync, D: Folder, W: Sink>(
+    rt: &R,
     alloc: Global,
     folder: &mut D,
     secret: PrivateSeed,
@@ -28,12 +32,66 @@ pub fn make_key<D: Folder, W: Sink>(
     ensures line { OnOk result (Wrote (W.text out.old) (W.text out.new) (key_line secret.key_id secret.seed)) }
     ensures no_failure { OnOk result ((D.failed folder.new ≡ D.failed folder.old) × (W.failed out.new ≡ W.failed out.old)) }
 
+    ensures taken { OfFirstThere (D.files folder.old) (λ file.
+        (result ≡ Err (KeyFault.File file)) ⊎ (D.failed folder.new ≡ one_more (D.failed folder.old))) }
+    ensures untouched { OfFirstThere (D.files folder.old) (λ _.
+        (D.files folder.new ≡ D.files folder.old) × (W.text out.new ≡ W.text out.old) × (W.failed out.new ≡ W.failed out.old)) }
+
     ensures part { OnErr result (WrotePart (W.text out.old) (W.text out.new) (key_line secret.key_id secret.seed)) }
     ensures fewer { IfErr result (λ fault. LeavesFiles fault (D.files folder.old) (D.files folder.new)
         (D.failed folder.old) (D.failed folder.new) (key_files secret.key_id secret.seed)) }
     ensures cause { IfErr result (λ fault. LeavesLine fault (W.text out.old) (W.text out.new) (W.failed out.old) (W.failed out.new)) }
 {
-    let public_key = SigningTree::generate(alloc, secret)?
+    look_for_files(folder)?;
+    make_new_key(rt, alloc, folder, secret, out)
+}
+
+// The first of the files that is there is the fault.
+fn look_for_files<D: Folder>(folder: &mut D) -> Result<(), KeyFault>
+    ensures same { D.files folder.new ≡ D.files folder.old }
+    ensures none { OnOk result (OfFirstThere (D.files folder.old) (λ _. ⊥)) }
+    ensures no_failure { OnOk result (D.failed folder.new ≡ D.failed folder.old) }
+    ensures err { IfErr result (λ fault. IsFaultOfLooks fault (D.files folder.old) (D.failed folder.old) (D.failed folder.new)) }
+{
+    look(folder, KeyFile::Seed)?;
+    look(folder, KeyFile::PublicKey)?;
+    look(folder, KeyFile::Indices)?;
+    look(folder, KeyFile::Log)?;
+    Ok(())
+}
+
+// A file that is there is a fault.
+fn look<D: Folder>(folder: &mut D, file: KeyFile) -> Result<(), KeyFault>
+    ensures same { D.files folder.new ≡ D.files folder.old }
+    ensures none { OnOk result (IfSome (D.files folder.old) (λ held. IsThere (file_name file) held → ⊥)) }
+    ensures kept { OnOk result (D.failed folder.new ≡ D.failed folder.old) }
+    ensures err { IfErr result (λ fault. IsFaultOfLook file fault (D.files folder.old) (D.failed folder.old) (D.failed folder.new)) }
+{
+    match folder.has(file.name()) {
+        Ok(false) => Ok(()),
+        Ok(true) => Err(KeyFault::File(file)),
+        Err(FolderFault::Memory) => Err(KeyFault::Memory),
+        Err(FolderFault::Failed) => Err(KeyFault::File(file)),
+    }
+}
+
+// Makes the key and prints its line, where none of the files was there.
+fn make_new_key<R: Threads + Sync, D: Folder, W: Sink>(
+    rt: &R,
+    alloc: Global,
+    folder: &mut D,
+    secret: PrivateSeed,
+    out: &mut W,
+) -> Result<(), KeyFault>
+    ensures files { OnOk result (Made (D.files folder.old) (D.files folder.new) (key_files secret.key_id secret.seed)) }
+    ensures line { OnOk result (Wrote (W.text out.old) (W.text out.new) (key_line secret.key_id secret.seed)) }
+    ensures no_failure { OnOk result ((D.failed folder.new ≡ D.failed folder.old) × (W.failed out.new ≡ W.failed out.old)) }
+    ensures part { OnErr result (WrotePart (W.text out.old) (W.text out.new) (key_line secret.key_id secret.seed)) }
+    ensures fewer { IfErr result (λ fault. LeavesMade fault (D.files folder.old) (D.files folder.new)
+        (D.failed folder.old) (D.failed folder.new) (key_files secret.key_id secret.seed)) }
+    ensures cause { IfErr result (λ fault. LeavesLine fault (W.text out.old) (W.text out.new) (W.failed out.old) (W.failed out.new)) }
+{
+    let public_key = generate_parallel(rt, alloc, secret)?
         .public_key()
         .to_bytes();
     let digits = hex::encode(alloc, &public_key[..])?;

@@ -1,6 +1,7 @@
 //! A folder in memory.
 
-ghost use Rattle.std.specs.Prelude.{◌≡◌, [], None, Some, IfOk};
+ghost use Rattle.std.specs.Prelude.{◌≡◌, ◌↔◌, [], None, Some, IfOk, IsTrue};
+ghost use Rattle.key_files.specs.KeyFiles.{IsThere};
 ghost use Rattle.key_files.specs.MemoryFiles.{MemoryFiles};
 
 use crate::folder::{Folder, FolderFault, Readers, Store};
@@ -35,6 +36,12 @@ impl HeldFile {
         &self.name
     }
 
+    fn is(&self, name: &[u8]) -> bool
+        ensures { IsTrue result ↔ (self.now.name ≡ name.now) }
+    {
+        self.name.as_slice() == name
+    }
+
     /// Its bytes.
     pub fn bytes(&self) -> &[u8]
         ensures { result.now ≡ self.now.bytes }
@@ -43,7 +50,7 @@ impl HeldFile {
     }
 }
 
-/// Keeps the files that it is asked to make, and fails where it is told to, or has a file of that name. Want of memory
+/// Keeps the files that it is asked to make, and fails where it is told to, or is to make one that it has. Want of memory
 /// is a failure too. A contract sees the files and the failures.
 #[derive(Drop)]
 pub struct MemoryFolder {
@@ -90,9 +97,10 @@ impl MemoryFolder {
         self.fuse = Fuse::set(pass, forever);
     }
 
-    fn has(&self, name: &str) -> bool {
-        let name = name.as_bytes();
-        self.held.iter().any(|file| file.name.as_slice() == name)
+    fn holds(&self, name: &str) -> bool
+        ensures { IsTrue result ↔ IsThere name.now self.now.files }
+    {
+        self.held.iter().any(|file| file.is(name.as_bytes()))
     }
 }
 
@@ -112,8 +120,16 @@ impl Folder for MemoryFolder {
 
     ghost failed = { λ f. f.failures };
 
+    fn has(&mut self, name: &str) -> Result<bool, FolderFault> {
+        if self.fuse.burns() {
+            self.failed = self.failed.saturating_add(1);
+            return Err(FolderFault::Failed);
+        }
+        Ok(self.holds(name))
+    }
+
     fn create(&mut self, name: &str, bytes: &[u8], readers: Readers) -> Result<(), FolderFault> {
-        if self.fuse.burns() || self.has(name) {
+        if self.fuse.burns() || self.holds(name) {
             self.failed = self.failed.saturating_add(1);
             return Err(FolderFault::Failed);
         }

@@ -6,7 +6,7 @@ ghost use Rattle.faults.specs.Counting.{Counts};
 use crate::folder::{Folder, FolderFault, Readers, Store};
 use key_index_store::IndexStore;
 use stable_log::{FileDisk, Journal};
-use std::alloc::Global;
+use std::alloc::{AllocError, Global};
 use std::fs::{File, Files, OpenOptions};
 use std::io;
 use std::io::{ErrorKind, Write};
@@ -32,10 +32,23 @@ impl<'a, F: Files<File = File>> SystemFolder<'a, F> {
         }
     }
 
+    fn path_of(&self, name: &str) -> Result<String, AllocError> {
+        let folder = self.path;
+        format!(in self.alloc; "{folder}/{name}")
+    }
+
+    // A link that leads nowhere is there too: no new file can have its name.
+    fn find(&self, name: &str) -> io::Result<bool> {
+        match self.rt.symlink_metadata(&self.path_of(name)?) {
+            Ok(_) => Ok(true),
+            Err(error) if error.kind() == ErrorKind::NotFound => Ok(false),
+            Err(error) => Err(error),
+        }
+    }
+
     // A new file for reading and writing, with these permission bits.
     fn create_new(&self, name: &str, mode: u32) -> io::Result<File> {
-        let folder = self.path;
-        let path = format!(in self.alloc; "{folder}/{name}")?;
+        let path = self.path_of(name)?;
         OpenOptions::new()
             .read(true)
             .write(true)
@@ -66,11 +79,12 @@ impl<'a, F: Files<File = File>> SystemFolder<'a, F> {
     }
 
     // Counts a call that failed.
-    fn counted(&mut self, made: io::Result<()>) -> Result<(), FolderFault>
+    fn counted<T: Drop>(&mut self, outcome: io::Result<T>) -> Result<T, FolderFault>
         ensures { Counts self.old.failed self.new.failed result }
     {
-        let Err(error) = made else {
-            return Ok(());
+        let error = match outcome {
+            Ok(value) => return Ok(value),
+            Err(error) => error,
         };
         self.failed = self.failed.saturating_add(1);
         match error.kind() {
@@ -84,6 +98,11 @@ impl<F: Files<File = File>> Folder for SystemFolder<'_, F> {
     ghost files = { λ _. None };
 
     ghost failed = { λ f. f.failed };
+
+    fn has(&mut self, name: &str) -> Result<bool, FolderFault> {
+        let found = self.find(name);
+        self.counted(found)
+    }
 
     fn create(&mut self, name: &str, bytes: &[u8], readers: Readers) -> Result<(), FolderFault> {
         let mode = match readers {

@@ -1,10 +1,11 @@
 //! Keygen over a folder and a sink in memory. Which calls fail is said by a fuse.
 
-use key_files::{Folder, KeyFault, KeyFile, MemoryFolder, make_key};
+use key_files::{Folder, KeyFault, KeyFile, MemoryFolder, Readers, make_key};
 use lmots::PrivateSeed;
 use std::alloc::Global;
 use std::process::Abort;
 use std::test::Fail;
+use std::thread::Threads;
 use streams::{MemorySink, Sink};
 
 /// The key of replica 2 of the fixtures: a key id of 16 bytes 02, and a seed of 32 bytes 12.
@@ -42,32 +43,79 @@ fn has_all(folder: &MemoryFolder) -> bool {
 fn keygen_makes_four_files_and_prints_the_key(rt: HostRuntime) -> Result<(), Fail> {
     let mut folder = MemoryFolder::new(rt.alloc());
     let mut out = MemorySink::new(rt.alloc());
-    let made = make_key(rt.alloc(), &mut folder, SECRET, &mut out);
+    let made = make_key(&rt, rt.alloc(), &mut folder, SECRET, &mut out);
     assert!(rt; made == Ok(()));
     assert!(rt; has_all(&folder) && folder.failures() == 0);
     assert!(rt; out.bytes() == LINE.as_bytes() && out.failures() == 0);
     Ok(())
 }
 
-// The folder's call behind the first `pass` fails: just those files are made, and nothing is printed.
-fn stops_at<R: Abort>(rt: &R, alloc: Global, pass: u32, file: KeyFile) -> bool {
+// The folder's call behind the first `pass` fails: just so many files are made, and nothing is printed.
+fn stops_at<R: Abort + Threads + Sync>(
+    rt: &R,
+    alloc: Global,
+    pass: u32,
+    file: KeyFile,
+    many: usize,
+) -> bool {
     let mut folder = MemoryFolder::new(alloc);
     folder.fuse(pass, false);
     let mut out = MemorySink::new(alloc);
-    let made = make_key(alloc, &mut folder, SECRET, &mut out);
+    let made = make_key(rt, alloc, &mut folder, SECRET, &mut out);
     assert!(rt; made == Err(KeyFault::File(file)), "pass {pass}");
-    folder.files().len() == pass as usize && folder.failures() == 1 && out.bytes().is_empty()
+    folder.files().len() == many && folder.failures() == 1 && out.bytes().is_empty()
 }
 
+// Four looks come first, and then the four files.
 #[test]
 fn a_file_that_fails_is_named_and_leaves_those_before_it(rt: HostRuntime) {
-    for (pass, file) in [
-        (0, KeyFile::Seed),
-        (1, KeyFile::PublicKey),
-        (2, KeyFile::Indices),
-        (3, KeyFile::Log),
+    for (pass, file, many) in [
+        (0, KeyFile::Seed, 0),
+        (3, KeyFile::Log, 0),
+        (4, KeyFile::Seed, 0),
+        (5, KeyFile::PublicKey, 1),
+        (6, KeyFile::Indices, 2),
+        (7, KeyFile::Log, 3),
     ] {
-        assert!(rt; stops_at(&rt, rt.alloc(), pass, file), "pass {pass}");
+        assert!(rt; stops_at(&rt, rt.alloc(), pass, file, many), "pass {pass}");
+    }
+}
+
+// These files are there: the first of the key's is named, and nothing is made, printed or counted.
+fn names_the_first<R: Abort + Threads + Sync>(
+    rt: &R,
+    alloc: Global,
+    there: &[KeyFile],
+    first: KeyFile,
+) -> bool {
+    let mut folder = MemoryFolder::new(alloc);
+    for file in there {
+        assert!(rt; folder.create(file.name(), b"mine", Readers::All) == Ok(()));
+    }
+    let mut out = MemorySink::new(alloc);
+    let made = make_key(rt, alloc, &mut folder, SECRET, &mut out);
+    assert!(rt; made == Err(KeyFault::File(first)));
+    folder.files().len() == there.len()
+        && folder
+            .files()
+            .iter()
+            .all(|file| file.bytes() == b"mine".as_slice())
+        && folder.failures() == 0
+        && out.bytes().is_empty()
+}
+
+const THERE: [(&[KeyFile], KeyFile); 5] = [
+    (&[KeyFile::Seed], KeyFile::Seed),
+    (&[KeyFile::PublicKey], KeyFile::PublicKey),
+    (&[KeyFile::Indices], KeyFile::Indices),
+    (&[KeyFile::Log], KeyFile::Log),
+    (&[KeyFile::Log, KeyFile::PublicKey], KeyFile::PublicKey),
+];
+
+#[test]
+fn a_file_that_is_there_is_named_before_any_is_made(rt: HostRuntime) {
+    for (there, first) in THERE {
+        assert!(rt; names_the_first(&rt, rt.alloc(), there, first));
     }
 }
 
@@ -75,8 +123,8 @@ fn a_file_that_fails_is_named_and_leaves_those_before_it(rt: HostRuntime) {
 fn a_second_keygen_in_one_folder_makes_nothing(rt: HostRuntime) -> Result<(), Fail> {
     let mut folder = MemoryFolder::new(rt.alloc());
     let mut out = MemorySink::new(rt.alloc());
-    let first = make_key(rt.alloc(), &mut folder, SECRET, &mut out);
-    let second = make_key(rt.alloc(), &mut folder, SECRET, &mut out);
+    let first = make_key(&rt, rt.alloc(), &mut folder, SECRET, &mut out);
+    let second = make_key(&rt, rt.alloc(), &mut folder, SECRET, &mut out);
     assert!(rt; first == Ok(()) && second == Err(KeyFault::File(KeyFile::Seed)));
     assert!(rt; has_all(&folder) && out.bytes() == LINE.as_bytes());
     Ok(())
@@ -87,7 +135,7 @@ fn a_line_that_fails_leaves_all_files(rt: HostRuntime) -> Result<(), Fail> {
     let mut folder = MemoryFolder::new(rt.alloc());
     let mut out = MemorySink::new(rt.alloc());
     out.fuse(0, true);
-    let made = make_key(rt.alloc(), &mut folder, SECRET, &mut out);
+    let made = make_key(&rt, rt.alloc(), &mut folder, SECRET, &mut out);
     assert!(rt; made == Err(KeyFault::Output));
     assert!(rt; has_all(&folder) && out.bytes().is_empty() && out.failures() == 1);
     Ok(())

@@ -97,6 +97,11 @@ pub record Verifies (id root message signature : List ℕ) : Type 0 where
 abbrev pub IsFilled : List ℕ → List ℕ → ℕ → List (List ℕ) → Type 0
 IsFilled id seed low nodes = (r : ℕ) (d : List ℕ) → low ≤ r → r < 2048 → slice_index_or nodes r d ≡ tree_node id seed r
 
+-- the list has the hashes of the tree's leaves, T[1024 + q] at each place q
+abbrev pub AreLeaves : List ℕ → List ℕ → List (List ℕ) → Type 0
+AreLeaves id seed leaves = (length leaves ≡ LEAVES)
+    × ((q : ℕ) (d : List ℕ) → q < LEAVES → slice_index_or leaves q d ≡ tree_node id seed (LEAVES + q))
+
 -- the list has T[r] at each place r of the tree
 abbrev pub IsTree : List ℕ → List ℕ → List (List ℕ) → Type 0
 IsTree id seed nodes = (length nodes ≡ 2048) × IsFilled id seed 1 nodes

@@ -8,7 +8,7 @@ mod signing_tree;
 mod verification;
 
 pub use public_key::{KeyRefusal, PUBLIC_KEY_LEN, PublicKey};
-pub use signing_tree::SigningTree;
+pub use signing_tree::{SigningTree, leaf};
 pub use verification::{SigRefusal, verify};
 
 /// The length of a signature, in bytes.

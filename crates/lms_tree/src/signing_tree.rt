@@ -1,8 +1,8 @@
 //! A seed's tree, from which its owner signs.
 
-ghost use Rattle.std.specs.Prelude.{◌≡◌, ◌<◌, length, IfOk};
+ghost use Rattle.std.specs.Prelude.{◌≡◌, ◌+◌, ◌<◌, length, IfOk};
 ghost use Rattle.wire.specs.Pieces.{number_at};
-ghost use Rattle.lms_tree.specs.Tree.{IsFilled, lms_signature, path_node, tree_root, Verifies};
+ghost use Rattle.lms_tree.specs.Tree.{AreLeaves, IsFilled, lms_signature, path_node, tree_node, tree_root, Verifies};
 ghost use Rattle.lms_tree.specs.declared.TheConstants.{LEAVES};
 
 use crate::nodes::{inner_hash, leaf_hash, sibling};
@@ -43,6 +43,22 @@ impl SigningTree {
     {
         let mut nodes = vec![in alloc; [0; 32]; NODES]?;
         fill_leaves(&secret, &mut nodes);
+        fill_inner(&secret, &mut nodes);
+        Ok(SigningTree { secret, nodes })
+    }
+
+    /// The tree of a seed over its 1,024 leaves, each as `leaf` gives it; so they may be computed elsewhere, in any
+    /// order. The tree takes 65,536 bytes on the heap. AllocError comes where that memory is refused.
+    pub fn from_leaves(
+        alloc: Global,
+        secret: PrivateSeed,
+        leaves: &[[u8; 32]],
+    ) -> Result<SigningTree, AllocError>
+        requires { AreLeaves secret.key_id secret.seed leaves.now }
+        ensures { IfOk result (λ tree. tree ≡ secret) }
+    {
+        let mut nodes = vec![in alloc; [0; 32]; NODES]?;
+        copy_leaves(&secret, leaves, &mut nodes);
         fill_inner(&secret, &mut nodes);
         Ok(SigningTree { secret, nodes })
     }
@@ -93,15 +109,33 @@ impl SigningTree {
     }
 }
 
-// Fills in the leaves, over the seed's one-time keys.
+/// The hash of leaf `q` of a seed's tree, over its one-time public key, whose 34 chains take 8,670 hashes (RFC 8554,
+/// section 5.3). `q` must be below 1,024.
+#[tactic(auto, using(crate::proofs::NodeLemmas::leaf_is_node))]
+pub fn leaf(secret: &PrivateSeed, q: u32) -> [u8; 32]
+    requires { q < LEAVES }
+    ensures { result ≡ tree_node secret.now.key_id secret.now.seed (LEAVES + q) }
+{
+    leaf_hash(&secret.key_id, LEAVES + q, &ots_public(secret, q))
+}
+
+// Fills in the leaves.
 fn fill_leaves(secret: &PrivateSeed, nodes: &mut [[u8; 32]])
     requires { length nodes.old ≡ 2048 }
     ensures { IsFilled secret.now.key_id secret.now.seed LEAVES nodes.new }
 {
     for q in 0..LEAVES {
-        let key = ots_public(secret, q);
-        nodes[(LEAVES + q) as usize] = leaf_hash(&secret.key_id, LEAVES + q, &key);
+        nodes[(LEAVES + q) as usize] = leaf(secret, q);
     }
+}
+
+// Fills in leaves that are computed already.
+fn copy_leaves(secret: &PrivateSeed, leaves: &[[u8; 32]], nodes: &mut [[u8; 32]])
+    requires long { length nodes.old ≡ 2048 }
+    requires leaves { AreLeaves secret.now.key_id secret.now.seed leaves.now }
+    ensures { IsFilled secret.now.key_id secret.now.seed LEAVES nodes.new }
+{
+    nodes[LEAVES as usize..].copy_from_slice(leaves);
 }
 
 // Fills in the nodes above the leaves, each after its children.

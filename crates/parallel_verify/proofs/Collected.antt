@@ -15,12 +15,12 @@ use Rattle.log_transfer.specs.declared.place.Place.{Place}
 use Rattle.log_transfer.proofs.Places.{leads_stay, leads_then, fetched_end, some_log}
 use Rattle.evidence.specs.Evidence.{IsEvidenceRefusal, IsReportOf}
 use Rattle.evidence.specs.Gathering.{Gathered, Grows, IsGatheringRefusal}
-use Rattle.evidence.specs.Logs.{ReceivedLog, FrameHasHeader, FrameHasVote, HaveEntries, LogHasHeader, LogHasVote}
+use Rattle.evidence.specs.Logs.{ReceivedLog, FrameHasHeader, FrameNamesVote, HaveEntries, LogHasHeader, LogNamesVote}
 use Rattle.evidence.specs.Sets.{InSome}
 use Rattle.evidence.specs.declared.refusal.EvidenceRefusal.{EvidenceRefusal}
 use Rattle.evidence.specs.declared.refusal.EvidenceRefusal.TheVariants.{Memory}
 use Rattle.evidence.specs.declared.source.SourceReport.{SourceReport}
-use Rattle.evidence.proofs.Gatherings.{fault_as, fault_later, grown_as, grown_start, grown_then, in_more}
+use Rattle.evidence.proofs.Gatherings.{fault_as, fault_later, grown_as, grown_both, grown_start, in_more}
 use Rattle.parallel_verify.specs.Collections.{IsGathering, IsLogFrom}
 use Rattle.parallel_verify.specs.Parts.{IsGathered, PartHasHeader}
 use Rattle.parallel_verify.specs.declared.part.Part.{Part}
@@ -30,19 +30,19 @@ Gives = ℕ → ℕ → ℕ → Connection → Type 0
 
 pub gathering_start : (gives : Gives) (left : Connection → Type 0) (p : Place) (g : Gathered) (replica : ℕ) → IsGathering gives gives left left p p g g replica 0 0
 gathering_start gives left p g replica =
-    record { given = []; leads = leads_stay gives left p; grown = grown_start g FrameHasHeader (FrameHasVote g.committee replica); have = refl; counted = refl }
+    record { given = []; leads = leads_stay gives left p; grown = grown_start g FrameHasHeader (FrameNamesVote replica); have = refl; counted = refl }
 
-grown_add : (a b c : Gathered) (replica : ℕ) (given : List (List ℕ)) (x : List ℕ) → Grows a b (InSome FrameHasHeader given) (InSome (FrameHasVote a.committee replica) given)
-    → Grows b c (FrameHasHeader x) (FrameHasVote b.committee replica x) → Grows a c (InSome FrameHasHeader (given ++ x ∷ [])) (InSome (FrameHasVote a.committee replica) (given ++ x ∷ []))
+grown_add : (a b c : Gathered) (replica : ℕ) (given : List (List ℕ)) (x : List ℕ) → Grows a b (InSome FrameHasHeader given) (InSome (FrameNamesVote replica) given)
+    → Grows b c (FrameHasHeader x) (FrameNamesVote replica x) → Grows a c (InSome FrameHasHeader (given ++ x ∷ [])) (InSome (FrameNamesVote replica) (given ++ x ∷ []))
 grown_add a b c replica given x g h =
     grown_as a c _ _ _ _
     (λ k. let all = in_more FrameHasHeader given x k in (all.1, all.0))
-    (λ v. let all = in_more (FrameHasVote a.committee replica) given x v in (all.1, all.0))
-    (grown_then a b c (InSome FrameHasHeader given) (FrameHasHeader x) (InSome (FrameHasVote a.committee replica) given) (λ (q : List ℕ). FrameHasVote q replica x) g h)
+    (λ v. let all = in_more (FrameNamesVote replica) given x v in (all.1, all.0))
+    (grown_both a b c (InSome FrameHasHeader given) (FrameHasHeader x) (InSome (FrameNamesVote replica) given) (FrameNamesVote replica x) g h)
 
 module _ (old mid new : Gives) (old_left mid_left new_left : Connection → Type 0) (p q r : Place) (a b : Gathered) (replica frames entries : ℕ) (so_far : IsGathering old mid old_left mid_left p q a b replica frames entries) where
   -- one frame more
-  pub gathering_more : (c : Gathered) (x : List ℕ) (n : ℕ) → Leads mid new mid_left new_left q r (x ∷ []) → Grows b c (FrameHasHeader x) (FrameHasVote b.committee replica x)
+  pub gathering_more : (c : Gathered) (x : List ℕ) (n : ℕ) → Leads mid new mid_left new_left q r (x ∷ []) → Grows b c (FrameHasHeader x) (FrameNamesVote replica x)
       → ((fs : List (List ℕ)) → HaveEntries fs entries → HaveEntries (fs ++ x ∷ []) n) → IsGathering old new old_left new_left p r a c replica (frames + 1) n
   gathering_more c x n leads step have = record {
     given = so_far.given ++ x ∷ [];
@@ -55,7 +55,7 @@ module _ (old mid new : Gives) (old_left mid_left new_left : Connection → Type
   -- all that came
   pub gathering_end : (status : Status) (report : SourceReport) → p.is_open ≡ false → Leads mid new mid_left new_left q r [] → IsEnd r → status ≡ r.last
       → report ≡ record { replica = replica; status = status; frames = frames; entries = entries }
-      → (l : ReceivedLog) × IsLogFrom old p replica l × Grows a b (LogHasHeader l) (LogHasVote a.committee l) × IsReportOf l report
+      → (l : ReceivedLog) × IsLogFrom old p replica l × Grows a b (LogHasHeader l) (LogNamesVote l) × IsReportOf l report
   gathering_end status report closed leads end is made =
       let l : ReceivedLog = record { replica = replica; frames = so_far.given; status = status } in (
         l,
@@ -114,7 +114,7 @@ module _ {C : Type 0} (gives : C → Gives) (failed : C → ℕ) (connector : C)
     }
 
     -- all came
-    pub gathered_all : (b : Gathered) (p : Part) (l : ReceivedLog) (after : C) → a.votes ≡ [] → IsLogFrom (gives connector) (first_place tries) replica l → Grows a b (LogHasHeader l) (LogHasVote a.committee l) → IsReportOf l p.report
+    pub gathered_all : (b : Gathered) (p : Part) (l : ReceivedLog) (after : C) → a.votes ≡ [] → IsLogFrom (gives connector) (first_place tries) replica l → Grows a b (LogHasHeader l) (LogNamesVote l) → IsReportOf l p.report
         → p.headers.items ≡ b.headers → p.votes.items ≡ b.votes → HasCause (failed connector) (failed after) p.report.status → IsGathered gives failed connector tries replica committee (Ok p)
     gathered_all b p l after none from grows report headers votes cause = record {
       log = l;
@@ -125,8 +125,8 @@ module _ {C : Type 0} (gives : C → Gives) (failed : C → ℕ) (connector : C)
           λ w. subst (λ (hs : List Header). Contains hs h) (sym headers) ((grows.headers h).1 (elim w [ inl g ↦ inl ((first h).1 g) | inr i ↦ inr i ])),
         );
         votes = λ v. (
-          λ c. subst (λ (k : List ℕ). LogHasVote k l v) under (elim ((grows.votes v).0 (subst (λ (vs : List SignedVote). Contains vs v) votes c)) [ inl o ↦ absurd (nothing v (subst (λ (vs : List SignedVote). Contains vs v) none o)) | inr i ↦ i ]),
-          λ i. subst (λ (vs : List SignedVote). Contains vs v) (sym votes) ((grows.votes v).1 (inr (subst (λ (k : List ℕ). LogHasVote k l v) (sym under) i))),
+          λ c. (elim ((grows.votes v).0 (subst (λ (vs : List SignedVote). Contains vs v) votes c)) [ inl o ↦ absurd (nothing v (subst (λ (vs : List SignedVote). Contains vs v) none o)) | inr i ↦ i ]),
+          λ i. subst (λ (vs : List SignedVote). Contains vs v) (sym votes) ((grows.votes v).1 (inr i)),
         );
         report = report;
       };

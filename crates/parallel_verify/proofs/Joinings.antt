@@ -7,25 +7,17 @@ use Rattle.blocks.specs.Headers.{Header}
 use Rattle.blocks.specs.Genesis.{genesis_of}
 use Rattle.certificates.specs.declared.vote.SignedVote.{SignedVote}
 use Rattle.log_format.specs.declared.status.Status.TheVariants.{Failed}
-use Rattle.evidence.specs.Evidence.{Evidence, IsEvidenceOf, IsEvidenceRefusal, IsHeaderInEvidence, IsReportOf}
-use Rattle.evidence.specs.Gathering.{Gathered, Grows, IsGatheringRefusal}
-use Rattle.evidence.specs.Logs.{ReceivedLog, LogHasVote}
+use Rattle.evidence.specs.Evidence.{IsEvidenceRefusal, IsHeaderInEvidence, IsReportOf}
+use Rattle.evidence.specs.Gathering.{Gathered, Grows, IsGatheringRefusal, IsUnion}
+use Rattle.evidence.specs.Logs.{ReceivedLog, LogNamesVote}
 use Rattle.evidence.specs.Sets.{InSome}
 use Rattle.evidence.specs.declared.refusal.EvidenceRefusal.{EvidenceRefusal}
 use Rattle.evidence.specs.declared.refusal.EvidenceRefusal.TheVariants.{Memory, Collision}
 use Rattle.evidence.specs.declared.source.SourceReport.{SourceReport}
-use Rattle.evidence.proofs.Gatherings.{IsUnion, fault_as, fault_at, grown_as, grown_step, zip_more}
-use Rattle.parallel_verify.specs.Collections.{IsEvidenceOfSources, IsRefusalOfSources}
+use Rattle.evidence.proofs.Gatherings.{fault_as, fault_at, grown_as, grown_step, zip_length, zip_more}
+use Rattle.parallel_verify.specs.Collections.{IsRefusalOfSources}
 use Rattle.parallel_verify.specs.Parts.{HasReport, IsJoined, IsPartOn, IsResultOn, PartHasHeader}
 use Rattle.parallel_verify.specs.declared.part.Part.{Part}
-
-pub if_ok : {A E : Type 0} (r : Result A E) (P Q : A → Type 0) → ((a : A) → P a → Q a) → IfOk r P → IfOk r Q
-if_ok (Ok a) P Q f p = f a p
-if_ok (Err e) P Q f p = tt
-
-pub if_err : {A E : Type 0} (r : Result A E) (P Q : E → Type 0) → ((e : E) → P e → Q e) → IfErr r P → IfErr r Q
-if_err (Ok a) P Q f p = tt
-if_err (Err e) P Q f p = f e p
 
 -- ---- one part
 
@@ -51,12 +43,6 @@ part_fault (Err e) a p result is fault = λ l of.
 pub no_log : ReceivedLog
 no_log = record { replica = 0; frames = []; status = Failed }
 
-pub zip_length : {A B : Type 0} (R : A → B → Type 0) (xs : List A) (ys : List B) → AllZip R xs ys → length ys ≡ length xs
-zip_length R [] [] zip = refl
-zip_length R [] (y ∷ ys) zip = absurd zip
-zip_length R (x ∷ xs) [] zip = absurd zip
-zip_length R (x ∷ xs) (y ∷ ys) zip = let k = zip_length R xs ys zip.1 in omega arith
-
 pub zip_at : {A B : Type 0} (R : A → B → Type 0) (xs : List A) (ys : List B) (i : ℕ) (d : A) (e : B) → AllZip R xs ys → i < length ys → R (get_or xs i d) (get_or ys i e)
 zip_at R [] [] i d e zip l = absurd (omega arith)
 zip_at R [] (y ∷ ys) i d e zip l = absurd zip
@@ -68,7 +54,7 @@ abbrev pub AreResults : List ℕ → List ReceivedLog → List (Result Part Evid
 AreResults committee logs parts = AllZip (IsResultOn committee) logs parts
 
 abbrev pub AllGrown : (committee : List ℕ) → (a b : Gathered) → List ReceivedLog → Type 0
-AllGrown committee a b logs = Grows a b (InSome (PartHasHeader committee) logs) (InSome (LogHasVote a.committee) logs)
+AllGrown committee a b logs = Grows a b (InSome (PartHasHeader committee) logs) (InSome LogNamesVote logs)
 
 module _ (committee : List ℕ) (logs : List ReceivedLog) (parts : List (Result Part EvidenceRefusal)) (zip : AreResults committee logs parts) (a b : Gathered) (under : a.committee ≡ committee) (i : ℕ) (so_far : AllGrown committee a b (take i logs)) where
   -- what the next part shows
@@ -80,8 +66,8 @@ module _ (committee : List ℕ) (logs : List ReceivedLog) (parts : List (Result 
   pub joined_more : (c : Gathered) (r : SourceReport) → i < length parts → IsJoined b c (get_or logs i no_log) r → AllGrown committee a c (take (i + 1) logs)
   joined_more c r l step =
       let size = zip_length (IsResultOn committee) logs parts zip in
-      grown_step a b c (PartHasHeader committee) LogHasVote logs i (get_or logs i no_log) no_log (omega (arith, size)) refl so_far
-      (subst (λ (k : List ℕ). Grows b c (PartHasHeader k (get_or logs i no_log)) (LogHasVote b.committee (get_or logs i no_log))) (so_far.committee ∙ under) step.grown)
+      grown_step a b c (PartHasHeader committee) LogNamesVote logs i (get_or logs i no_log) no_log (omega (arith, size)) refl so_far
+      (subst (λ (k : List ℕ). Grows b c (PartHasHeader k (get_or logs i no_log)) (LogNamesVote (get_or logs i no_log))) (so_far.committee ∙ under) step.grown)
 
   pub report_more : (c : Gathered) (rs : List SourceReport) (r : SourceReport) → i < length parts → AllZip IsReportOf (take i logs) rs → IsJoined b c (get_or logs i no_log) r
       → AllZip IsReportOf (take (i + 1) logs) (rs ++ r ∷ [])
@@ -95,7 +81,7 @@ module _ (committee : List ℕ) (logs : List ReceivedLog) (parts : List (Result 
       let size = zip_length (IsResultOn committee) logs parts zip in
       let x = get_or logs i no_log in
       fault_as _ _ e (λ h w. elim w [ inl o ↦ inl ((headers h).0 o) | inr k ↦ elim k.2 [ inl g ↦ inl g | inr s ↦ inr (k.0, k.1, s) ] ])
-      (fault_at a b (PartHasHeader committee) (InSome (LogHasVote a.committee) (take i logs)) logs i x no_log e (omega (arith, size)) refl so_far
+      (fault_at a b (PartHasHeader committee) (InSome LogNamesVote (take i logs)) logs i x no_log e (omega (arith, size)) refl so_far
       (subst (λ (k : List ℕ). IsGatheringRefusal b (PartHasHeader k x) e) (so_far.committee ∙ under) fault))
 
 no_votes : (vs : List SignedVote) (v : SignedVote) → vs ≡ [] → Contains vs v → ⊥
@@ -106,7 +92,7 @@ pub union_of_logs : (committee : List ℕ) (logs : List ReceivedLog) (parts : Li
 union_of_logs committee logs parts a b i zip l under headers none grown =
     let size = zip_length (IsResultOn committee) logs parts zip in
     let all : AllGrown committee a b logs = subst (λ (ls : List ReceivedLog). AllGrown committee a b ls) (take_all i logs (omega (arith, size))) grown in
-    let g = subst (λ (k : List ℕ). Grows a b (InSome (PartHasHeader committee) logs) (InSome (LogHasVote k) logs)) under all in
+    let g = all in
     record {
       under = g.committee ∙ under;
       headers = λ x. (
@@ -118,15 +104,6 @@ union_of_logs committee logs parts a b i zip l under headers none grown =
         λ k. (g.votes x).1 (inr k),
       );
     }
-
-pub evidence_from : (committee : List ℕ) (ls : List ReceivedLog) (g : Gathered) (rs : List SourceReport) (e : Evidence) → IsUnion committee ls g → AllZip IsReportOf ls rs
-    → e ≡ record { committee = g.committee; headers = g.headers; votes = g.votes; sources = rs } → IsEvidenceOf committee ls e
-evidence_from committee ls g rs e u zip is =
-    subst (IsEvidenceOf committee ls) (sym is) (record { under = u.under; headers = u.headers; votes = u.votes; reports = zip })
-
-pub reports_of : (parts : List (Result Part EvidenceRefusal)) (rs : List SourceReport) (e : Evidence) {committee : List ℕ} {hs : List Header} {vs : List SignedVote} → AllZip HasReport parts rs
-    → e ≡ record { committee = committee; headers = hs; votes = vs; sources = rs } → AllZip HasReport parts e.sources
-reports_of parts rs e zip is = subst (λ (x : Evidence). AllZip HasReport parts x.sources) (sym is) zip
 
 -- ---- the logs of sources
 
@@ -168,10 +145,6 @@ module _ {S : Type 0} (Gives : S → ReceivedLog → Type 0) (committee : List �
   pub results : AreResults committee are.logs shown
   results = subst (AreResults committee are.logs) (sym same) are.results
 
-  pub evidence_of_sources : (r : Result Evidence EvidenceRefusal) → IfOk r (λ e. (logs : List ReceivedLog) → AreResults committee logs shown → IsEvidenceOf committee logs e) → IfOk r (IsEvidenceOfSources Gives committee ss)
-  evidence_of_sources r all = if_ok r _ _ (λ e is. record { logs = are.logs; given = are.of; evidence = is are.logs results }) all
-
-  pub refusal_of_sources : (r : Result Evidence EvidenceRefusal) → IfErr r (λ e. (logs : List ReceivedLog) → AreResults committee logs shown → IsEvidenceRefusal (IsHeaderInEvidence committee logs) e) → IfErr r (IsRefusalOfSources Gives committee ss)
-  refusal_of_sources (Ok e) all = tt
-  refusal_of_sources (Err Memory) all = tt
-  refusal_of_sources (Err (Collision h k)) all = record { logs = are.logs; given = are.of; collision = all are.logs results }
+  pub refusal_of_sources : (e : EvidenceRefusal) → ((logs : List ReceivedLog) → AreResults committee logs shown → IsEvidenceRefusal (IsHeaderInEvidence committee logs) e) → IsRefusalOfSources Gives committee ss e
+  refusal_of_sources Memory all = tt
+  refusal_of_sources (Collision h k) all = record { logs = are.logs; given = are.of; collision = all are.logs results }

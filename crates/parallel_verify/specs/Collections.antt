@@ -7,7 +7,7 @@ use Rattle.log_transfer.specs.Places.{HasCause, IsFetched, IsOutcome, Leads, May
 use Rattle.log_transfer.specs.declared.place.Place.{Place}
 use Rattle.evidence.specs.Evidence.{Evidence, IsEvidenceOf, IsEvidenceRefusal, IsHeaderInEvidence}
 use Rattle.evidence.specs.Gathering.{Gathered, Grows}
-use Rattle.evidence.specs.Logs.{ReceivedLog, FrameHasHeader, FrameHasVote, HaveEntries}
+use Rattle.evidence.specs.Logs.{ReceivedLog, FrameHasHeader, FrameNamesVote, HaveEntries}
 use Rattle.evidence.specs.Sets.{InSome}
 use Rattle.evidence.specs.declared.refusal.EvidenceRefusal.{EvidenceRefusal}
 use Rattle.evidence.specs.declared.refusal.EvidenceRefusal.TheVariants.{Memory, Collision}
@@ -65,6 +65,6 @@ pub record IsLogFrom (gives : ℕ → ℕ → ℕ → Connection → Type 0) (p 
 pub record IsGathering (old new : ℕ → ℕ → ℕ → Connection → Type 0) (old_left new_left : Connection → Type 0) (p q : Place) (a b : Gathered) (replica frames entries : ℕ) : Type 0 where
   pub given : List (List ℕ)
   pub leads : Leads old new old_left new_left p q given
-  pub grown : Grows a b (InSome FrameHasHeader given) (InSome (FrameHasVote a.committee replica) given)
+  pub grown : Grows a b (InSome FrameHasHeader given) (InSome (FrameNamesVote replica) given)
   pub have : HaveEntries given entries
   pub counted : frames ≡ length given

@@ -7,7 +7,7 @@ use Rattle.certificates.specs.declared.vote.SignedVote.{SignedVote}
 use Rattle.log_transfer.specs.Connections.{Connection}
 use Rattle.evidence.specs.Evidence.{IsEvidenceRefusal, IsReportOf}
 use Rattle.evidence.specs.Gathering.{Gathered, Grows}
-use Rattle.evidence.specs.Logs.{ReceivedLog, LogHasHeader, LogHasVote}
+use Rattle.evidence.specs.Logs.{ReceivedLog, LogHasHeader, LogNamesVote}
 use Rattle.evidence.specs.Sets.{IsEither}
 use Rattle.evidence.specs.declared.refusal.EvidenceRefusal.{EvidenceRefusal}
 use Rattle.evidence.specs.declared.source.SourceReport.{SourceReport}
@@ -21,10 +21,10 @@ IsGenesisOf committee h = h ≡ genesis_of committee
 abbrev pub PartHasHeader : List ℕ → ReceivedLog → Header → Type 0
 PartHasHeader committee l = IsEither (IsGenesisOf committee) (LogHasHeader l)
 
--- the part has what the log shows, and genesis
+-- the part has what the log names, and genesis
 pub record IsPartOn (committee : List ℕ) (l : ReceivedLog) (p : Part) : Type 0 where
   pub headers : (h : Header) → Contains p.headers.items h ↔ PartHasHeader committee l h
-  pub votes : (v : SignedVote) → Contains p.votes.items v ↔ LogHasVote committee l v
+  pub votes : (v : SignedVote) → Contains p.votes.items v ↔ LogNamesVote l v
   pub report : IsReportOf l p.report
 
 abbrev pub IsResultOn : List ℕ → ReceivedLog → Result Part EvidenceRefusal → Type 0
@@ -45,5 +45,5 @@ pub record IsGathered {C : Type 0} (gives : C → ℕ → ℕ → ℕ → Connec
 
 -- a part was joined to what was gathered
 pub record IsJoined (old new : Gathered) (l : ReceivedLog) (r : SourceReport) : Type 0 where
-  pub grown : Grows old new (PartHasHeader old.committee l) (LogHasVote old.committee l)
+  pub grown : Grows old new (PartHasHeader old.committee l) (LogNamesVote l)
   pub report : IsReportOf l r

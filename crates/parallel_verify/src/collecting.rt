@@ -6,22 +6,29 @@ ghost use Rattle.log_transfer.specs.Places.{MayTry};
 ghost use Rattle.parallel_verify.specs.Collections.{IsEvidenceOfSources, IsRefusalOfSources, IsStatusCaused, MayBeTried, MayGive};
 ghost use Rattle.parallel_verify.specs.Parts.{IsGathered};
 
+use crate::batch::check_all;
 use crate::joining::join;
+use crate::keeping::{Keeping, Shelf};
 use crate::part::Part;
 use crate::reading::gather;
 use crate::source::Source;
 use blocks::CommitteeView;
+use certificates::{LmsVerifier, Verifier};
 use evidence::{Evidence, EvidenceRefusal};
 use log_transfer::Connector;
 use std::alloc::{AllocError, Global};
+use std::marker::Brand;
+use std::sync::{Mutex, Wait};
 use std::thread;
 use std::thread::Threads;
+use vote_board::{Board, Naming};
 
-// What each source shows, each read in a thread of its own.
-fn gather_all<R: Threads + Sync, C: Connector + Send>(
+// What each source names, each read in a thread of its own.
+fn gather_all<N: Naming + Send + Sync, R: Threads + Wait + Sync, C: Connector + Send>(
     rt: &R,
     alloc: Global,
     committee: &CommitteeView,
+    board: &Board<N>,
     sources: Vec<Source<C>>,
 ) -> Result<Vec<Result<Part, EvidenceRefusal>>, AllocError>
     requires tries { All (MayBeTried C.allowed) sources.items }
@@ -29,19 +36,54 @@ fn gather_all<R: Threads + Sync, C: Connector + Send>(
     ensures each { IfOk result (λ parts. (i : ℕ) (s : _) (d : _) → i < length sources.items
         → IsGathered C.gives C.failed (slice_index_or sources.items i s).connector (slice_index_or sources.items i s).tries (slice_index_or sources.items i s).replica committee.now (slice_index_or parts.items i d)) }
 {
+    let shelf = Mutex::new(Shelf::new(alloc));
+    let keeping = Keeping {
+        rt,
+        board,
+        shelf: &shelf,
+    };
     thread::map_vec(
         rt,
         sources,
         &|source: Source<C>| -> Result<Part, EvidenceRefusal>
             requires { MayTry (C.allowed source.connector) source.tries }
             ensures { IsGathered C.gives C.failed source.connector source.tries source.replica committee.entry.now result }
-        { gather(alloc, committee, source) },
+        { gather(alloc, committee, &keeping, source) },
     )
 }
 
+// The evidence, over a board of that name.
+fn collect_on<
+    'a,
+    N: Naming + Send + Sync,
+    R: Threads + Wait + Sync,
+    C: Connector + Send,
+    V: Verifier + Sync,
+>(
+    rt: &R,
+    alloc: Global,
+    committee: &CommitteeView<'a>,
+    verifier: &V,
+    sources: Vec<Source<C>>,
+) -> Result<Evidence<'a>, EvidenceRefusal>
+    requires named { committee.now ≡ N.committee }
+    requires tries { All (MayBeTried C.allowed) sources.items }
+    ensures ok { IfOk result (IsEvidenceOfSources (MayGive C.gives) committee.now sources.items) }
+    ensures cause { IfOk result (λ e. AllZip (IsStatusCaused C.failed) sources.items e.sources) }
+    ensures refused { IfErr result (IsRefusalOfSources (MayGive C.gives) committee.now sources.items) }
+{
+    let board = Board::<N>::new(alloc, committee.again());
+    let parts = gather_all(rt, alloc, committee, &board, sources)?;
+    let (listing, reports) = join(alloc, committee, &parts)?;
+    drop(parts);
+    let answers = check_all(rt, alloc, &board, verifier, listing.votes())?;
+    Ok(Evidence::of(alloc, listing, &answers, reports)?)
+}
+
 /// What sources show together under the committee. Each is read in a thread of its own, or in the calling thread where
-/// none can be made, one frame at a time, and each thread checks the votes of its source. Each source has 1 to 3
-/// tries, and no more than its connector allows.
+/// none can be made, one frame at a time; equal votes and headers of several sources stand in memory once. After the last
+/// source has ended each different vote is checked once, good or bad, in as many threads as there are processors. Each
+/// source has 1 to 3 tries, and no more than its connector allows.
 ///
 /// The evidence has genesis, both headers of each entry that a whole frame of a source spells, and of the entry's own
 /// vote, taken as that of the source's replica, and the votes of its certificate those that are good; each once. A
@@ -50,7 +92,7 @@ fn gather_all<R: Threads + Sync, C: Connector + Send>(
 ///
 /// Refused as `Memory` where memory was refused, and as `Collision` where two different headers of the evidence have
 /// one id. The connectors are gone then.
-pub fn collect<'a, R: Threads + Sync, C: Connector + Send>(
+pub fn collect<'a, R: Threads + Wait + Sync, C: Connector + Send>(
     rt: &R,
     alloc: Global,
     committee: &CommitteeView<'a>,
@@ -61,6 +103,21 @@ pub fn collect<'a, R: Threads + Sync, C: Connector + Send>(
     ensures cause { IfOk result (λ e. AllZip (IsStatusCaused C.failed) sources.items e.sources) }
     ensures refused { IfErr result (IsRefusalOfSources (MayGive C.gives) committee.now sources.items) }
 {
-    let parts = gather_all(rt, alloc, committee, sources)?;
-    join(alloc, committee, &parts)
+    collect_by(rt, alloc, committee, &LmsVerifier, sources)
+}
+
+/// The same as `collect`, with signatures checked by this verifier, which a caller may watch.
+pub fn collect_by<'a, R: Threads + Wait + Sync, C: Connector + Send, V: Verifier + Sync>(
+    rt: &R,
+    alloc: Global,
+    committee: &CommitteeView<'a>,
+    verifier: &V,
+    sources: Vec<Source<C>>,
+) -> Result<Evidence<'a>, EvidenceRefusal>
+    requires tries { All (MayBeTried C.allowed) sources.items }
+    ensures ok { IfOk result (IsEvidenceOfSources (MayGive C.gives) committee.now sources.items) }
+    ensures cause { IfOk result (λ e. AllZip (IsStatusCaused C.failed) sources.items e.sources) }
+    ensures refused { IfErr result (IsRefusalOfSources (MayGive C.gives) committee.now sources.items) }
+{
+    collect_on::<Brand, R, C, V>(rt, alloc, committee, verifier, sources)
 }

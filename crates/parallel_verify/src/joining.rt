@@ -2,17 +2,17 @@
 
 ghost use Rattle.std.specs.Prelude.{◌≡◌, ◌++◌, List, [], ◌∷◌, IfErr, IfOk, OnOk};
 ghost use Rattle.std.specs.List.{AllZip, Contains};
-ghost use Rattle.evidence.specs.Evidence.{IsEvidenceOf, IsEvidenceRefusal, IsHeaderInEvidence};
-ghost use Rattle.evidence.specs.Gathering.{Grows, IsGatheringRefusal};
+ghost use Rattle.evidence.specs.Evidence.{IsEvidenceRefusal, IsHeaderInEvidence, IsReportOf};
+ghost use Rattle.evidence.specs.Gathering.{Grows, IsGatheringRefusal, IsUnion};
 ghost use Rattle.evidence.specs.Logs.{ReceivedLog};
 ghost use Rattle.parallel_verify.specs.Parts.{HasReport, IsJoined, IsResultOn, PartHasHeader};
 
 use crate::part::Part;
 use blocks::CommitteeView;
-use evidence::{Evidence, EvidenceRefusal, Gathered, SourceReport};
+use evidence::{EvidenceRefusal, Gathered, Listing, SourceReport};
 use std::alloc::{AllocError, Global};
 
-// Adds what one source shows.
+// Adds what one source names.
 fn add_part(gathered: &mut Gathered, part: &Part) -> Result<SourceReport, EvidenceRefusal>
     ensures ok { OnOk result (Grows gathered.old gathered.new (Contains part.now.headers.items) (Contains part.now.votes.items)) }
     ensures report { IfOk result (λ r. r ≡ part.now.report) }
@@ -45,15 +45,15 @@ fn put(reports: &mut Vec<SourceReport>, report: SourceReport) -> Result<(), Allo
     Ok(())
 }
 
-// What all of them show.
+// What all of them name, and the reports.
 pub(crate) fn join<'a>(
     alloc: Global,
     committee: &CommitteeView<'a>,
     parts: &[Result<Part, EvidenceRefusal>],
-) -> Result<Evidence<'a>, EvidenceRefusal>
-    requires some { (logs : List ReceivedLog) × AllZip (IsResultOn committee.now) logs parts.now }
-    ensures ok { IfOk result (λ e. (logs : List ReceivedLog) → AllZip (IsResultOn committee.now) logs parts.now → IsEvidenceOf committee.now logs e) }
-    ensures reports { IfOk result (λ e. AllZip HasReport parts.now e.sources) }
+) -> Result<(Listing<'a>, Vec<SourceReport>), EvidenceRefusal>
+    ensures union { IfOk result (λ joined. (logs : List ReceivedLog) → AllZip (IsResultOn committee.now) logs parts.now → IsUnion committee.now logs joined.0) }
+    ensures told { IfOk result (λ joined. (logs : List ReceivedLog) → AllZip (IsResultOn committee.now) logs parts.now → AllZip IsReportOf logs joined.1.items) }
+    ensures reports { IfOk result (λ joined. AllZip HasReport parts.now joined.1.items) }
     ensures refused { IfErr result (λ e. (logs : List ReceivedLog) → AllZip (IsResultOn committee.now) logs parts.now → IsEvidenceRefusal (IsHeaderInEvidence committee.now logs) e) }
 {
     let mut gathered = Gathered::new(alloc, committee)?;
@@ -61,5 +61,5 @@ pub(crate) fn join<'a>(
     for part in parts {
         put(&mut reports, add_result(&mut gathered, part)?)?;
     }
-    Ok(Evidence::of(alloc, gathered, reports)?)
+    Ok((gathered.in_order(alloc)?, reports))
 }

@@ -3,11 +3,12 @@
 use blocks::NamedHeader;
 use certificates::SignedVote;
 use evidence::SourceReport;
+use shared_values::Shared;
 
-// What one source shows: headers by rising id, votes that rise, and its report.
+// What one source names: headers by rising id, votes that rise and were not checked, and its report.
 #[derive(Drop)]
 pub(crate) struct Part {
-    pub(crate) headers: Vec<NamedHeader>,
-    pub(crate) votes: Vec<SignedVote>,
+    pub(crate) headers: Vec<Shared<NamedHeader>>,
+    pub(crate) votes: Vec<Shared<SignedVote>>,
     pub(crate) report: SourceReport,
 }

@@ -3,7 +3,7 @@
 ghost use Rattle.std.specs.Prelude.{◌≡◌, ◌<◌, IfErr, IfOk, false};
 ghost use Rattle.evidence.specs.Evidence.{IsReportOf};
 ghost use Rattle.evidence.specs.Gathering.{Grows, IsGatheringRefusal};
-ghost use Rattle.evidence.specs.Logs.{LogHasHeader, LogHasVote, ReceivedLog};
+ghost use Rattle.evidence.specs.Logs.{LogHasHeader, LogNamesVote, ReceivedLog};
 ghost use Rattle.log_transfer.specs.Places.{HasCause, MayTry};
 ghost use Rattle.parallel_verify.specs.Collections.{IsLogFrom};
 ghost use Rattle.parallel_verify.specs.Parts.{IsGathered};
@@ -11,13 +11,14 @@ ghost use Rattle.parallel_verify.specs.Parts.{IsGathered};
 use crate::part::Part;
 use crate::source::Source;
 use blocks::CommitteeView;
-use evidence::{EvidenceRefusal, Gathered, SourceReport};
+use evidence::{EvidenceRefusal, Gathered, Keeper, SourceReport};
 use log_transfer::{Connector, FetchError, Pull, Step};
 use std::alloc::Global;
 
-// Adds what the frames of a source show, each as it comes.
-fn gather_frames<C: Connector>(
+// Adds what the frames of a source name, each as it comes.
+fn gather_frames<K: Keeper, C: Connector>(
     alloc: Global,
+    keeper: &K,
     pull: &mut Pull<C>,
     replica: u16,
     gathered: &mut Gathered,
@@ -27,7 +28,7 @@ fn gather_frames<C: Connector>(
     requires tries { 0 < pull.old.place.tries }
     requires some { (l : ReceivedLog) × IsLogFrom (C.gives pull.old.connector) pull.old.place replica l }
     ensures ok { IfOk result (λ r. (l : ReceivedLog) × IsLogFrom (C.gives pull.old.connector) pull.old.place replica l
-        × Grows gathered.old gathered.new (LogHasHeader l) (LogHasVote gathered.old.committee l) × IsReportOf l r) }
+        × Grows gathered.old gathered.new (LogHasHeader l) (LogNamesVote l) × IsReportOf l r) }
     ensures cause { IfOk result (λ r. HasCause (C.failed pull.old.connector) (C.failed pull.new.connector) r.status) }
     ensures err { IfErr result (λ e. (l : ReceivedLog) × IsLogFrom (C.gives pull.old.connector) pull.old.place replica l
         × IsGatheringRefusal gathered.old (LogHasHeader l) e) }
@@ -40,7 +41,7 @@ fn gather_frames<C: Connector>(
             Ok(Step::Frame) => {
                 // Behind what came, more may come.
                 let _ = pull.failures();
-                if gathered.add_frame(alloc, replica, &frame)? {
+                if gathered.add_frame(alloc, keeper, replica, &frame)? {
                     entries += 1;
                 }
                 frames += 1;
@@ -58,10 +59,11 @@ fn gather_frames<C: Connector>(
     }
 }
 
-// What one source shows. It holds one frame at a time, and each of its votes is checked here.
-pub(crate) fn gather<C: Connector>(
+// What one source names. It holds one frame at a time.
+pub(crate) fn gather<K: Keeper, C: Connector>(
     alloc: Global,
     committee: &CommitteeView,
+    keeper: &K,
     source: Source<C>,
 ) -> Result<Part, EvidenceRefusal>
     requires { MayTry (C.allowed source.connector) source.tries }
@@ -76,8 +78,8 @@ pub(crate) fn gather<C: Connector>(
     // Something may come of every source.
     let _ = pull.failures();
     let mut gathered = Gathered::new(alloc, committee)?;
-    let report = gather_frames(alloc, &mut pull, replica, &mut gathered)?;
-    let (_, headers, votes) = gathered.into_parts(alloc)?;
+    let report = gather_frames(alloc, keeper, &mut pull, replica, &mut gathered)?;
+    let (headers, votes) = gathered.into_parts(alloc)?;
     Ok(Part {
         headers,
         votes,

@@ -2,8 +2,8 @@
 
 use crate::vectors::{Messages, Vector, counting_key, counting_seed, key_0, key_2, seed};
 use fixtures::{keys, signatures};
-use lmots::PrivateSeed;
 use lms_tree::{PublicKey, SigRefusal, SigningTree, verify};
+use parallel_keys::generate_parallel;
 use std::alloc::Global;
 use std::process::Abort;
 use std::test::Fail;
@@ -24,35 +24,41 @@ fn signs_as_stored<R: Abort>(rt: &R, tree: &SigningTree, vector: &Vector) -> Res
 
 fn tree_is_as_stored<R: Abort>(
     rt: &R,
-    alloc: Global,
-    secret: PrivateSeed,
+    tree: &SigningTree,
     public: &[u8],
     vectors: &[Vector],
 ) -> Result<(), Fail> {
-    let tree = SigningTree::generate(alloc, secret)?;
     let key = tree.public_key();
     assert!(rt; key.to_bytes().as_slice() == public);
     assert!(rt; PublicKey::parse(public) == Ok(key));
     for vector in vectors {
-        signs_as_stored(rt, &tree, vector)?;
+        signs_as_stored(rt, tree, vector)?;
     }
     Ok(())
 }
 
 #[test]
 fn key_0_signs_as_stored(rt: HostRuntime) -> Result<(), Fail> {
-    tree_is_as_stored(&rt, rt.alloc(), seed(0), keys::key_0(), &key_0())
+    let tree = SigningTree::generate(rt.alloc(), seed(0))?;
+    tree_is_as_stored(&rt, &tree, keys::key_0(), &key_0())
 }
 
 #[test]
 fn key_2_signs_as_stored(rt: HostRuntime) -> Result<(), Fail> {
-    tree_is_as_stored(&rt, rt.alloc(), seed(2), keys::key_2(), &key_2())
+    let tree = SigningTree::generate(rt.alloc(), seed(2))?;
+    tree_is_as_stored(&rt, &tree, keys::key_2(), &key_2())
 }
 
 #[test]
 fn counting_key_signs_as_stored(rt: HostRuntime) -> Result<(), Fail> {
-    let public = keys::counting_key();
-    tree_is_as_stored(&rt, rt.alloc(), counting_seed(), public, &counting_key())
+    let tree = SigningTree::generate(rt.alloc(), counting_seed())?;
+    tree_is_as_stored(&rt, &tree, keys::counting_key(), &counting_key())
+}
+
+#[test]
+fn counting_key_made_in_threads_signs_as_stored(rt: HostRuntime) -> Result<(), Fail> {
+    let tree = generate_parallel(&rt, rt.alloc(), counting_seed())?;
+    tree_is_as_stored(&rt, &tree, keys::counting_key(), &counting_key())
 }
 
 // The stored signature of leaf 3 of key 0 over `message`, with other bytes at some places.

@@ -16,19 +16,22 @@ ghost use Rattle.source_audit.specs.declared.run_error.RunError.TheVariants.{Sin
 
 use crate::run_error::RunError;
 use blocks::CommitteeView;
+use certificates::{LmsVerifier, Verifier};
 use culprit_search::{Report, audit, write_report};
 use evidence::Evidence;
 use log_transfer::{Connector, a_complete_source_gives_its_log};
-use parallel_verify::{Source, collect};
+use parallel_verify::{Source, collect_by};
 use std::alloc::Global;
+use std::sync::Wait;
 use std::thread::Threads;
 use streams::Sink;
 
 // What the sources show together.
-fn read_sources<'a, R: Threads + Sync, C: Connector + Send>(
+fn read_sources<'a, R: Threads + Wait + Sync, C: Connector + Send, V: Verifier + Sync>(
     rt: &R,
     alloc: Global,
     committee: &'a [u8],
+    verifier: &V,
     sources: Vec<Source<C>>,
 ) -> Result<Evidence<'a>, RunError>
     requires tries { All (MayBeTried C.allowed) sources.items }
@@ -39,7 +42,7 @@ fn read_sources<'a, R: Threads + Sync, C: Connector + Send>(
     ensures unwritten { IfErr result (λ e. e ≢ NotWritten) }
 {
     let view = CommitteeView::parse(committee)?;
-    let evidence = collect(rt, alloc, &view, sources)?;
+    let evidence = collect_by(rt, alloc, &view, verifier, sources)?;
     Ok(evidence)
 }
 
@@ -64,13 +67,14 @@ fn report_on<W: Sink>(alloc: Global, evidence: &Evidence, sink: &mut W) -> Resul
 /// committee, and writes the lines of the report, as docs/FORMATS.md, "Report", lays them out. Each source has 1 to 3
 /// tries, and no more than its connector allows. Nothing is written before all else is done.
 ///
-/// In this order: `Memory`, `Committee`, `Collision`, `Sink`. After `Sink` a first part of the lines was written, and
+/// In this order: `Memory`, `Committee`, `Collision`, `Sink`; a collision among the first sources may be answered before
+/// memory that a later one was refused. After `Sink` a first part of the lines was written, and
 /// after the others nothing was. A source that fails refuses nothing: its line says so.
 ///
 /// Where each source keeps nothing of its log back, and the logs prove two commits that conflict, with no two different
 /// headers of one id, it answers `Memory` or `Sink`, or a source is reported as failed, or the report has verdicts on
 /// more than f replicas, each of which the checker accepts.
-pub fn audit_run<R: Threads + Sync, C: Connector + Send, W: Sink>(
+pub fn audit_run<R: Threads + Wait + Sync, C: Connector + Send, W: Sink>(
     rt: &R,
     alloc: Global,
     committee: &[u8],
@@ -89,7 +93,31 @@ pub fn audit_run<R: Threads + Sync, C: Connector + Send, W: Sink>(
         → MatchResult result (λ r. (e : EvidenceValue) × IsAuditRun (MayGive C.gives) (IsStatusCaused C.failed) committee.now sources.items e r
         × Wrote (W.text sink.old) (W.text sink.new) (report_text e.sources r) × IsAccounted committee.now e r) IsMemoryOrSink }
 {
+    audit_run_by(rt, alloc, committee, &LmsVerifier, sources, sink)
+}
+
+/// The same as `audit_run`, with signatures checked by this verifier, which a caller may watch.
+pub fn audit_run_by<R: Threads + Wait + Sync, C: Connector + Send, V: Verifier + Sync, W: Sink>(
+    rt: &R,
+    alloc: Global,
+    committee: &[u8],
+    verifier: &V,
+    sources: Vec<Source<C>>,
+    sink: &mut W,
+) -> Result<Report, RunError>
+    requires tries { All (MayBeTried C.allowed) sources.items }
+    ensures ok { IfOk result (λ r. (e : EvidenceValue) × IsAuditRun (MayGive C.gives) (IsStatusCaused C.failed) committee.now sources.items e r × Wrote (W.text sink.old) (W.text sink.new) (report_text e.sources r)) }
+    ensures accepted { IfOk result (λ r. All (IsProof committee.now) r.verdicts) }
+    ensures no_failure { OnOk result (W.failed sink.new ≡ W.failed sink.old) }
+    ensures refused { IfErr result (IsRunRefusal (MayGive C.gives) committee.now sources.items) }
+    ensures unwritten { IfErr result (λ e. e ≢ NotWritten → sink.new ≡ sink.old) }
+    ensures sink { IsErrOf result RunError.Sink → (e : EvidenceValue) × (r : ReportValue) × IsAuditRun (MayGive C.gives) (IsStatusCaused C.failed) committee.now sources.items e r × WrotePart (W.text sink.old) (W.text sink.new) (report_text e.sources r) }
+    ensures cause { IsErrOf result RunError.Sink → W.failed sink.new ≡ one_more (W.failed sink.old) }
+    ensures accountability { (logs : List ReceivedLog) → IsCommittee committee.now → AllZip (IsCompleteSource C.gives) sources.items logs → ProveAConflict committee.now logs
+        → MatchResult result (λ r. (e : EvidenceValue) × IsAuditRun (MayGive C.gives) (IsStatusCaused C.failed) committee.now sources.items e r
+        × Wrote (W.text sink.old) (W.text sink.new) (report_text e.sources r) × IsAccounted committee.now e r) IsMemoryOrSink }
+{
     a_complete_source_gives_its_log::<C>();
-    let evidence = read_sources(rt, alloc, committee, sources)?;
+    let evidence = read_sources(rt, alloc, committee, verifier, sources)?;
     report_on(alloc, &evidence, sink)
 }

@@ -14,6 +14,7 @@ use log_transfer::MemoryConnector;
 use parallel_verify::{Source, SourceReport, collect};
 use source_audit::{RunError, audit_run};
 use std::alloc::{AllocError, Global};
+use std::sync::Wait;
 use std::thread::Threads;
 use streams::MemorySink;
 
@@ -29,7 +30,7 @@ fn failing(alloc: Global, pass: u32) -> Result<Vec<Source<MemoryConnector>>, All
 }
 
 // How the source does.
-fn came<R: Threads + Sync + AllocGlobal>(rt: &R, pass: u32) -> Option<SourceReport> {
+fn came<R: Threads + Wait + Sync + AllocGlobal>(rt: &R, pass: u32) -> Option<SourceReport> {
     let committee = CommitteeView::parse(verdicts::committee()).ok()?;
     let sources = failing(rt.alloc(), pass).ok()?;
     let evidence = collect(rt, rt.alloc(), &committee, sources).ok()?;
@@ -60,7 +61,7 @@ fn each_read_fails(rt: HostRuntime) {
 
 // Whether an audit of the fork, whose sink fails at the write behind so many, writes a first part of the lines and says
 // so, or where no write failed all of them.
-fn writes_a_part<R: Threads + Sync + AllocGlobal>(rt: &R, pass: u32, fails: bool) -> bool {
+fn writes_a_part<R: Threads + Wait + Sync + AllocGlobal>(rt: &R, pass: u32, fails: bool) -> bool {
     let logs: [(u16, &[u8]); 2] = [(0, fork_logs::log_0()), (3, fork_logs::log_3())];
     let Ok(sources) = sources(rt.alloc(), &logs) else {
         return false;

@@ -1,6 +1,9 @@
-//! Tests of audits from their sources: bytes of an independent program, failures in turn, and sources that overlap.
+//! Tests of audits from their sources: bytes of an independent program, failures in turn, sources that overlap, and how often a
+//! vote is checked.
 #![tactic(auto)]
 
+#[cfg(test)]
+mod check_tests;
 #[cfg(test)]
 mod fault_tests;
 #[cfg(test)]

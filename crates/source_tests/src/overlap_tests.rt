@@ -13,6 +13,7 @@ use log_format::Status;
 use log_transfer::{Connector, Fault};
 use parallel_verify::{Source, collect};
 use std::alloc::{AllocError, Global};
+use std::sync::Wait;
 use std::sync::atomic::{AtomicBool, Ordering};
 use std::thread;
 use std::thread::Threads;
@@ -111,7 +112,7 @@ fn in_turn<'a>(
 }
 
 // Whether both logs come whole.
-fn come_whole<R: Threads + Sync + AllocGlobal>(rt: &R, first_waits: bool) -> bool {
+fn come_whole<R: Threads + Wait + Sync + AllocGlobal>(rt: &R, first_waits: bool) -> bool {
     let flag = AtomicBool::new(false);
     let Ok(committee) = CommitteeView::parse(verdicts::committee()) else {
         return false;

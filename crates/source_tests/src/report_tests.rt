@@ -11,6 +11,7 @@ use log_transfer::MemoryConnector;
 use parallel_verify::Source;
 use source_audit::audit_run;
 use std::alloc::{AllocError, Global};
+use std::sync::Wait;
 use std::thread::Threads;
 use streams::MemorySink;
 
@@ -54,7 +55,7 @@ culprits 0
 ";
 
 // Whether an audit of these sources writes this text.
-fn writes<R: Threads + Sync + AllocGlobal>(
+fn writes<R: Threads + Wait + Sync + AllocGlobal>(
     rt: &R,
     sources: Result<Vec<Source<MemoryConnector>>, AllocError>,
     text: &[u8],

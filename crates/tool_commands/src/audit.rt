@@ -1,6 +1,6 @@
 //! `hs_tool audit COMMITTEE OUTDIR SOURCE.. [--tries T]`: what logs prove, and whom they accuse.
 
-ghost use Rattle.std.specs.Prelude.{◌≡◌, ◌≢◌, false, true, IfErr, IfOk};
+ghost use Rattle.std.specs.Prelude.{◌≡◌, ◌≢◌, [], false, true, IfErr, IfOk};
 ghost use Rattle.std.specs.List.{All};
 ghost use Rattle.parallel_verify.specs.Collections.{MayBeTried};
 ghost use Rattle.tool_commands.specs.Audits.{AreCulpritsPrinted, IsAuditPrinted, IsNoCulpritPrinted};
@@ -13,14 +13,16 @@ use crate::new_file::replace_file;
 use crate::progress::Progress;
 use crate::sources::{open_sources, read_source_words};
 use blocks::CommitteeView;
+use certificates::Verifier;
 use culprit_search::{Report, Verdict};
 use log_transfer::Connector;
 use parallel_verify::Source;
-use source_audit::audit_run;
+use source_audit::audit_run_by;
 use std::alloc::Global;
 use std::fs;
 use std::fs::{File, Files};
 use std::net::{Net, TcpListener, TcpStream};
+use std::sync::Wait;
 use std::thread::Threads;
 use std::time::Clock;
 use streams::Sink;
@@ -32,7 +34,7 @@ use tool_words::Tries;
 pub fn audit_sources<
     'a,
     F: Files<File = File> + Sync,
-    T: Threads + Clock + Net<Listener = TcpListener, Stream = TcpStream> + Sync,
+    T: Threads + Wait + Clock + Net<Listener = TcpListener, Stream = TcpStream> + Sync,
     W: Sink,
 >(
     host: &Host<'a, F, T>,
@@ -56,16 +58,17 @@ where
     see_folder(host.files, folder)?;
     let progress = Progress::new(host.alloc, host.rt, host.console, sources.len())?;
     let sources = open_sources(host, &sources, tries, &progress)?;
-    let report = print_report(host.rt, host.alloc, &bytes, sources, out)?;
+    let report = print_report(host.rt, host.alloc, &bytes, &progress, sources, out)?;
     store_verdicts(host.files, host.alloc, folder, &report)?;
-    Ok(!report.verdicts().is_empty())
+    Ok(has_culprits(&report))
 }
 
 // Prints the report on the sources.
-fn print_report<'a, T: Threads + Sync, C: Connector + Send, W: Sink>(
+fn print_report<'a, T: Threads + Wait + Sync, C: Connector + Send, V: Verifier + Sync, W: Sink>(
     rt: &T,
     alloc: Global,
     committee: &[u8],
+    verifier: &V,
     sources: Vec<Source<C>>,
     out: &mut W,
 ) -> Result<Report, Fault<'a>>
@@ -73,10 +76,18 @@ fn print_report<'a, T: Threads + Sync, C: Connector + Send, W: Sink>(
     ensures printed { IfOk result (λ report. IsAuditPrinted committee.now (W.text out.old) (W.text out.new) report.verdicts) }
     ensures counted { CountsWrites result (W.failed out.old) (W.failed out.new) }
 {
-    match audit_run(rt, alloc, committee, sources, out) {
+    match audit_run_by(rt, alloc, committee, verifier, sources, out) {
         Ok(report) => Ok(report),
         Err(error) => Err(Fault::of_run(error)),
     }
+}
+
+// Whether the report names culprits.
+fn has_culprits(report: &Report) -> bool
+    ensures culprits { result ≡ true → report.now.verdicts ≢ [] }
+    ensures none { result ≡ false → report.now.verdicts ≡ [] }
+{
+    !report.verdicts().is_empty()
 }
 
 // Sees that there is a folder for the verdicts.

@@ -5,18 +5,18 @@ ghost use Rattle.key_files.specs.declared.files.KeyFile.{KeyFile as KeyFileValue
 ghost use Rattle.tool_commands.specs.Writes.{CountsWrites};
 
 use crate::fault::{Fault, Place};
+use crate::host::Host;
 use key_files::{KeyFault, SystemFolder, make_key};
 use lmots::PrivateSeed;
-use std::alloc::Global;
 use std::fs::{File, Files};
+use std::thread::Threads;
 use streams::Sink;
 use wire::array_at;
 
 /// Makes the key of a seed (96 hex digits, key id then seed), and writes its files into the folder at
 /// `path`, as `make_key` does.
-pub fn keygen<'a, F: Files<File = File>, W: Sink>(
-    rt: &F,
-    alloc: Global,
+pub fn keygen<'a, F: Files<File = File>, T: Threads + Sync, W: Sink>(
+    host: &Host<'a, F, T>,
     seed: &'a str,
     path: &'a str,
     out: &mut W,
@@ -31,8 +31,8 @@ pub fn keygen<'a, F: Files<File = File>, W: Sink>(
         key_id: array_at(&bytes, 0),
         seed: array_at(&bytes, 16),
     };
-    let mut folder = SystemFolder::new(rt, alloc, path);
-    match make_key(alloc, &mut folder, secret, out) {
+    let mut folder = SystemFolder::new(host.files, host.alloc, path);
+    match make_key(host.rt, host.alloc, &mut folder, secret, out) {
         Ok(()) => Ok(()),
         Err(fault) => Err(in_folder(path, fault)),
     }

@@ -1,19 +1,22 @@
 //! How far an audit has come with its sources.
 
+use certificates::{LmsVerifier, Verifier};
+use lms_tree::PublicKey;
 use log_transfer::Watch;
 use std::alloc::{AllocError, Global};
 use std::io::{Stderr, Write};
 use std::sync::atomic::{AtomicU64, Ordering};
 use std::time::{Clock, Instant};
 
-/// How many frames of each source are in. At most once a second a line of them is shown, as `frames 12 0 7`, in the order of
-/// the sources.
+/// How many frames of each source are in, and how many signatures were checked. At most once a second a line is shown: as `frames
+/// 12 0 7`, in the order of the sources, and from the first check on as `checks 1200`.
 #[derive(Drop)]
 pub(crate) struct Progress<'a, T: Clock> {
     alloc: Global,
     clock: &'a T,
     console: Option<Stderr>,
     frames: Vec<AtomicU64>,
+    checks: AtomicU64,
     // None where no one looks.
     since: Option<Instant>,
     // Up to which second it was shown.
@@ -41,6 +44,7 @@ impl<'a, T: Clock> Progress<'a, T> {
             clock,
             console,
             frames,
+            checks: AtomicU64::new(0),
             since,
             shown: AtomicU64::new(0),
         })
@@ -74,6 +78,10 @@ impl<'a, T: Clock> Progress<'a, T> {
     }
 
     fn line(&self) -> Result<String, AllocError> {
+        let checks = self.checks.load(Ordering::SeqCst);
+        if checks > 0 {
+            return format!(in self.alloc; "checks {checks}\n");
+        }
         let mut line = "frames".to_string(self.alloc)?;
         for frames in self.frames.iter() {
             let count = frames.load(Ordering::SeqCst);
@@ -92,5 +100,16 @@ impl<T: Clock> Watch for Progress<'_, T> {
         if self.begins_second() {
             self.show();
         }
+    }
+}
+
+impl<T: Clock> Verifier for Progress<'_, T> {
+    fn verify(&self, key: &PublicKey, message: &[u8], signature: &[u8]) -> bool {
+        let answer = LmsVerifier.verify(key, message, signature);
+        let _ = self.checks.fetch_add(1, Ordering::SeqCst);
+        if self.begins_second() {
+            self.show();
+        }
+        answer
     }
 }

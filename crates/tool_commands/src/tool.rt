@@ -143,7 +143,7 @@ where
     let (files, alloc) = (host.files, host.alloc);
     match command {
         Command::Usage => write_all(out, USAGE).map_err(|_| Fault::Output)?,
-        Command::Keygen { seed, folder } => keygen(files, alloc, seed, folder, out)?,
+        Command::Keygen { seed, folder } => keygen(host, seed, folder, out)?,
         Command::Committee { f, out: path, keys } => committee(files, alloc, *f, path, keys, out)?,
         Command::Replica {
             committee,

@@ -1,2 +1,1 @@
-pub mod VoteOrder
 pub mod Remembered

@@ -1,13 +1,13 @@
 //! A memo of checked votes, shared by threads.
 
 ghost use Rattle.std.specs.Prelude.{◌≡◌, ◌↔◌, IfOk, IfSome, IsTrue};
-ghost use Rattle.certificates.specs.Votes.{IsGoodVote};
-ghost use Rattle.vote_board.specs.Answers.{IsAnswerOn};
+ghost use Rattle.certificates.specs.Votes.{IsAnswerOn, IsGoodVote};
 
 use crate::memo::Memo;
 use crate::naming::Naming;
 use blocks::CommitteeView;
 use certificates::{LmsVerifier, SignedVote, Verifier, is_signed_by};
+use shared_values::Shared;
 use std::alloc::{AllocError, Global};
 use std::sync::{Mutex, Wait};
 
@@ -25,10 +25,11 @@ fn is_good<V: Verifier>(verifier: &V, committee: &CommitteeView, vote: &SignedVo
         )
 }
 
-/// The votes that were checked under a committee, each with its answer. Threads share it by reference. It keeps some
-/// 1,500 bytes for each different vote that it was asked for, and forgets none.
+/// The votes that were posted or checked under a committee, each once, with the answers of those that were checked.
+/// Threads share it by reference. It keeps some 1,540 bytes for each different vote, and forgets none.
 #[derive(Drop)]
 pub struct Board<'a, N: Naming> {
+    alloc: Global,
     committee: CommitteeView<'a>,
     // grows only
     memo: Mutex<Memo<N>>,
@@ -41,41 +42,59 @@ impl<'a, N: Naming> Board<'a, N> {
         requires { committee ≡ N.committee }
     {
         Board {
+            alloc,
             committee,
             memo: Mutex::new(Memo::new(alloc)),
         }
     }
 
     // What is remembered of a vote.
-    fn recall<R: Wait>(&self, rt: &R, vote: &SignedVote) -> Option<bool>
+    fn recall<R: Wait>(&self, rt: &R, vote: &Shared<SignedVote>) -> Option<bool>
         ensures { IfSome result (IsAnswerOn N.committee vote.now) }
     {
         self.memo.lock(rt).recall(vote)
     }
 
     // Remembers the answer to a vote.
-    fn remember<R: Wait>(&self, rt: &R, vote: &SignedVote, is_good: bool) -> Result<(), AllocError>
-        requires { IsAnswerOn N.committee vote.now is_good }
+    fn remember<R: Wait>(
+        &self,
+        rt: &R,
+        vote: Shared<SignedVote>,
+        is_good: bool,
+    ) -> Result<(), AllocError>
+        requires { IsAnswerOn N.committee vote is_good }
     {
         self.memo.lock(rt).remember(vote, is_good)
+    }
+
+    /// The vote, which stands in memory once however often it is posted. It is not checked. Where memory is refused no
+    /// answer that is remembered is lost.
+    pub fn post<R: Wait>(&self, rt: &R, vote: &SignedVote) -> Result<Shared<SignedVote>, AllocError>
+        ensures { IfOk result (λ v. v ≡ vote.now) }
+    {
+        let vote = Shared::new(self.alloc, *vote)?;
+        self.memo.lock(rt).post(vote)
     }
 
     /// Whether the vote is good: its replica is one of the committee, and signed the vote's view and id in the
     /// committee's chain. It is looked up where the vote was checked before; else the vote is checked, while no lock is
     /// held, and the answer is remembered, good or bad. Two threads that ask for one vote at the same time may both check
-    /// it. Where memory is refused no answer is given, and what is remembered stays as it was.
+    /// it. It is looked up as a copy on the heap; where memory is refused no answer is given, and what is remembered stays as it
+    /// was.
     pub fn check<R: Wait>(&self, rt: &R, vote: &SignedVote) -> Result<bool, AllocError>
         ensures { IfOk result (IsAnswerOn N.committee vote.now) }
     {
-        self.check_by(rt, &LmsVerifier, vote)
+        let vote = Shared::new(self.alloc, *vote)?;
+        self.check_by(rt, &LmsVerifier, &vote)
     }
 
-    /// The same as `check`, with signatures checked by this verifier, which a test may watch.
+    /// The same as `check`, for a vote that stands in memory already, with signatures checked by this verifier, which a
+    /// test may watch.
     pub fn check_by<R: Wait, V: Verifier>(
         &self,
         rt: &R,
         verifier: &V,
-        vote: &SignedVote,
+        vote: &Shared<SignedVote>,
     ) -> Result<bool, AllocError>
         ensures { IfOk result (IsAnswerOn N.committee vote.now) }
     {
@@ -83,8 +102,8 @@ impl<'a, N: Naming> Board<'a, N> {
             return Ok(answer);
         }
         // The lock is not held here: others look up and remember meanwhile.
-        let answer = is_good(verifier, &self.committee, vote);
-        self.remember(rt, vote, answer)?;
+        let answer = is_good(verifier, &self.committee, vote.get());
+        self.remember(rt, vote.again()?, answer)?;
         Ok(answer)
     }
 }

@@ -1,33 +1,35 @@
 //! Votes with the answers of their checks.
 
-ghost use Rattle.std.specs.Prelude.{◌≡◌, ◌≢◌, IfSome, [], OnErr, OnOk, Some};
+ghost use Rattle.std.specs.Prelude.{◌≡◌, ◌≢◌, IfOk, IfSome, [], OnErr, OnOk, Some};
 ghost use Rattle.certificates.specs.declared.vote.SignedVote.{SignedVote as SignedVoteValue};
-ghost use Rattle.vote_board.specs.Answers.{IsAnswerOn, answer_in};
+ghost use Rattle.certificates.specs.Votes.{IsAnswerOn};
+ghost use Rattle.vote_board.specs.Answers.{IsPosted, answer_in};
 
 use crate::naming::Naming;
 use certificates::SignedVote;
+use shared_values::Shared;
 use std::alloc::{AllocError, Global};
 use std::collections::BTreeMap;
 use std::marker::{Model, PhantomData};
 
-/// Votes that were checked, each with its answer under the committee that is named. A vote is told by all its fields,
-/// its signature too. Contracts see what is remembered of each vote.
+/// Votes that were posted, and of those that were checked the answer under the committee that is named. A vote is told by
+/// all its fields, its signature too. Contracts see what is remembered of each vote.
 #[derive(Drop)]
 pub(crate) struct Memo<N: Naming> {
-    answers: BTreeMap<SignedVote, bool>,
+    posted: BTreeMap<Shared<SignedVote>, Option<bool>>,
     named: PhantomData<N>,
 }
 
 impl<N: Naming> Model for Memo<N> {
-    ghost use Rattle.std.specs.Prelude.{Bool, List};
+    ghost use Rattle.std.specs.Prelude.{Bool, List, Option};
     ghost use Rattle.certificates.specs.declared.vote.SignedVote.{SignedVote as SignedVoteValue};
     ghost use Rattle.vote_board.specs.Answers.{AreAnswers};
 
-    ghost Value = { List (SignedVoteValue × Bool) };
+    ghost Value = { List (SignedVoteValue × Option Bool) };
 
-    ghost view = { λ m. m.answers.entries };
+    ghost view = { λ m. m.posted.entries };
 
-    ghost invariant = { λ m. AreAnswers N.committee m.answers.entries };
+    ghost invariant = { λ m. AreAnswers N.committee m.posted.entries };
 }
 
 impl<N: Naming> Memo<N> {
@@ -36,27 +38,48 @@ impl<N: Naming> Memo<N> {
         ensures { result ≡ [] }
     {
         Memo {
-            answers: BTreeMap::new(alloc),
+            posted: BTreeMap::new(alloc),
             named: PhantomData,
         }
     }
 
     // What is remembered of this vote.
-    pub(crate) fn recall(&self, vote: &SignedVote) -> Option<bool>
+    pub(crate) fn recall(&self, vote: &Shared<SignedVote>) -> Option<bool>
         ensures value { result ≡ answer_in self.now vote.now }
         ensures answer { IfSome result (IsAnswerOn N.committee vote.now) }
     {
-        self.answers.get(vote).copied()
+        self.posted.get(vote).copied().flatten()
+    }
+
+    // The vote, as it was posted first. What is remembered stays, of all votes.
+    pub(crate) fn post(
+        &mut self,
+        vote: Shared<SignedVote>,
+    ) -> Result<Shared<SignedVote>, AllocError>
+        ensures same { IfOk result (λ v. v ≡ vote) }
+        ensures posted { OnOk result (IsPosted self.new vote) }
+        ensures answers { (v : SignedVoteValue) → answer_in self.new v ≡ answer_in self.old v }
+    {
+        if let Some((held, _)) = self.posted.get_key_value(&vote) {
+            return held.again();
+        }
+        let again = vote.again()?;
+        self.posted.insert(vote, None)?;
+        Ok(again)
     }
 
     // Remembers the answer to a vote; what is remembered of others stays. Where memory is refused nothing changes.
-    pub(crate) fn remember(&mut self, vote: &SignedVote, is_good: bool) -> Result<(), AllocError>
-        requires { IsAnswerOn N.committee vote.now is_good }
-        ensures ok { OnOk result (answer_in self.new vote.now ≡ Some is_good) }
-        ensures others { (v : SignedVoteValue) → v ≢ vote.now → answer_in self.new v ≡ answer_in self.old v }
+    pub(crate) fn remember(
+        &mut self,
+        vote: Shared<SignedVote>,
+        is_good: bool,
+    ) -> Result<(), AllocError>
+        requires { IsAnswerOn N.committee vote is_good }
+        ensures ok { OnOk result (answer_in self.new vote ≡ Some is_good) }
+        ensures others { (v : SignedVoteValue) → v ≢ vote → answer_in self.new v ≡ answer_in self.old v }
         ensures err { OnErr result (self.new ≡ self.old) }
     {
-        self.answers.insert(*vote, is_good)?;
+        self.posted.insert(vote, Some(is_good))?;
         Ok(())
     }
 }

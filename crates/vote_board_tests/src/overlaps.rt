@@ -7,6 +7,7 @@ use crate::votes::{bad_vote, committee, good_vote};
 use blocks::CommitteeView;
 use certificates::{LmsVerifier, SignedVote, Verifier};
 use lms_tree::{PublicKey, verify};
+use shared_values::Shared;
 use std::alloc::Global;
 use std::marker::Brand;
 use std::process::Abort;
@@ -60,7 +61,7 @@ fn overtake<N: Naming, R: Wait>(
     rt: &R,
     gate: &Gate,
     board: &Board<N>,
-    vote: &SignedVote,
+    vote: &Shared<SignedVote>,
 ) -> Option<bool> {
     if !is_set(&gate.entered) {
         gate.gave_up.store(true, Ordering::SeqCst);
@@ -83,7 +84,7 @@ fn ask_both<N: Naming + Send + Sync, R: Threads + Wait + Sync>(
     rt: &R,
     alloc: Global,
     committee: &CommitteeView,
-    vote: &SignedVote,
+    vote: &Shared<SignedVote>,
 ) -> Answers
     requires { committee.now ≡ N.committee }
 {
@@ -104,7 +105,7 @@ fn ask_both<N: Naming + Send + Sync, R: Threads + Wait + Sync>(
 // Asserts what both threads are answered of a vote.
 fn overlapped<R: Threads + Wait + Abort + AllocGlobal + Sync>(
     rt: &R,
-    vote: &SignedVote,
+    vote: &Shared<SignedVote>,
     want: bool,
 ) {
     let committee = committee(rt);

@@ -6,6 +6,7 @@ use crate::votes::{bad_vote, committee, good_vote};
 use blocks::CommitteeView;
 use certificates::{LmsVerifier, SignedVote, Verifier};
 use lms_tree::PublicKey;
+use shared_values::Shared;
 use std::alloc::Global;
 use std::cell::Cell;
 use std::marker::Brand;
@@ -31,7 +32,7 @@ fn is_answered<N: Naming, R: Wait + Abort>(
     rt: &R,
     board: &Board<N>,
     verifier: &Counting,
-    vote: &SignedVote,
+    vote: &Shared<SignedVote>,
     want: (bool, u32),
 ) {
     let answer = board.check_by(rt, verifier, vote).ok();
@@ -44,8 +45,8 @@ fn ask_again<N: Naming, R: Wait + Abort>(
     rt: &R,
     alloc: Global,
     committee: &CommitteeView,
-    good: &SignedVote,
-    bad: &SignedVote,
+    good: &Shared<SignedVote>,
+    bad: &Shared<SignedVote>,
 )
     requires { committee.now ≡ N.committee }
 {
@@ -57,7 +58,7 @@ fn ask_again<N: Naming, R: Wait + Abort>(
     is_answered(rt, &board, &verifier, bad, (false, 2));
     is_answered(rt, &board, &verifier, good, (true, 2));
     is_answered(rt, &board, &verifier, bad, (false, 2));
-    let answer = board.check(rt, bad).ok();
+    let answer = board.check(rt, bad.get()).ok();
     assert!(rt; answer == Some(false));
 }
 

@@ -3,6 +3,7 @@
 use blocks::CommitteeView;
 use certificates::{Certificate, SignedVote};
 use fixtures::{certificates as texts, verdicts};
+use shared_values::Shared;
 use std::alloc::Global;
 use std::process::Abort;
 
@@ -21,14 +22,19 @@ fn stored_vote(alloc: Global) -> Option<SignedVote> {
     Some(certificate.vote(0))
 }
 
+// The vote in memory that is shared.
+fn shared<R: Abort + AllocGlobal>(rt: &R, vote: SignedVote) -> Shared<SignedVote> {
+    Shared::new(rt.alloc(), vote).ok().expect(rt, "memory")
+}
+
 /// A good vote.
-pub(crate) fn good_vote<R: Abort + AllocGlobal>(rt: &R) -> SignedVote {
-    stored_vote(rt.alloc()).expect(rt, "a vote")
+pub(crate) fn good_vote<R: Abort + AllocGlobal>(rt: &R) -> Shared<SignedVote> {
+    shared(rt, stored_vote(rt.alloc()).expect(rt, "a vote"))
 }
 
 /// The same vote, with one bit of the last byte of its signature changed: it is not good.
-pub(crate) fn bad_vote<R: Abort + AllocGlobal>(rt: &R) -> SignedVote {
-    let mut vote = good_vote(rt);
+pub(crate) fn bad_vote<R: Abort + AllocGlobal>(rt: &R) -> Shared<SignedVote> {
+    let mut vote = *good_vote(rt).get();
     vote.signature[1451] ^= 1;
-    vote
+    shared(rt, vote)
 }

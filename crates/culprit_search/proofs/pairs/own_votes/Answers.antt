@@ -3,7 +3,7 @@ use Rattle.std.specs.List.{AllPairs}
 use Rattle.std.proofs.lemmas.List.{take_rest}
 use Rattle.std.proofs.lemmas.List.Sorted.{IsNonDecreasingBy-drop, IsNonDecreasingBy-take, IsPartitionPoint-from_clause, IsPartitionedBy-leb, IsPartitionedBy-ltb}
 use Rattle.certificates.specs.declared.vote.SignedVote.{SignedVote}
-use Rattle.evidence.specs.Votes.{IsLowerVote}
+use Rattle.certificates.specs.VoteOrder.{IsLowerVote}
 use Rattle.culprit_search.proofs.VotesInOrder.{own_votes_in, parts_below, parts_up_to, replica_of, replicas_rise}
 use Rattle.culprit_search.proofs.pairs.own_votes.Goals as goal
 

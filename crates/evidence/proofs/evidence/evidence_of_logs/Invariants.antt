@@ -3,11 +3,11 @@ use Rattle.std.specs.List.{AllZip}
 use Rattle.evidence.specs.Evidence.{IsReportOf}
 use Rattle.evidence.specs.Sets.{InSome}
 use Rattle.evidence.specs.Gathering.{Grows}
-use Rattle.evidence.specs.Logs.{LogHasHeader, LogHasVote}
+use Rattle.evidence.specs.Logs.{LogHasHeader, LogNamesVote}
 use Rattle.evidence.proofs.evidence.evidence_of_logs.Given as goal
 
 abbrev pub invariant-loop-log : goal.invariant-loop-log
 invariant-loop-log l = record {
-  grown : Grows l.initial.gathered l.gathered (InSome LogHasHeader (take l.log-index l.logs)) (InSome (LogHasVote l.initial.gathered.committee) (take l.log-index l.logs));
+  grown : Grows l.initial.gathered l.gathered (InSome LogHasHeader (take l.log-index l.logs)) (InSome LogNamesVote (take l.log-index l.logs));
   reports : AllZip IsReportOf (take l.log-index l.logs) l.reports.items;
 }

@@ -5,10 +5,11 @@ use Rattle.evidence.specs.Evidence.{IsEvidenceRefusal, IsHeaderInEvidence, IsRep
 use Rattle.evidence.specs.Logs.{ReceivedLog}
 use Rattle.evidence.specs.declared.refusal.EvidenceRefusal.{EvidenceRefusal}
 use Rattle.evidence.specs.declared.source.SourceReport.{SourceReport}
-use Rattle.evidence.proofs.Gatherings.{handed_on, union_has_genesis, union_is_good, zip_more}
+use Rattle.evidence.specs.Gathering.{IsUnion}
+use Rattle.evidence.proofs.Gatherings.{handed_on, zip_length, zip_more}
 use Rattle.parallel_verify.specs.Parts.{HasReport, IsResultOn}
 use Rattle.parallel_verify.specs.declared.part.Part.{Part}
-use Rattle.parallel_verify.proofs.Joinings.{evidence_from, next_result, joined_more, report_more, joined_fault, no_log, reports_of, union_of_logs, zip_length}
+use Rattle.parallel_verify.proofs.Joinings.{next_result, joined_more, report_more, joined_fault, no_log, union_of_logs}
 use Rattle.parallel_verify.proofs.joining.join.Goals as goal
 
 pub returns-in_err-add_result-clause-refused : goal.returns-in_err-add_result-clause-refused
@@ -52,36 +53,28 @@ loop-part-preserved c =
           (subst (λ (p : Result Part EvidenceRefusal). HasReport p r) c.part-item.is c.in_ok-add_result.ensures.report));
     }
 
-pub of-requires-clause-genesis : goal.of-requires-clause-genesis
-of-requires-clause-genesis c =
-    let some = c.requires.some in
-    union_has_genesis c.args.committee.now some.0 c.loop-part.gathered
-    (union_of_logs c.args.committee.now some.0 c.args.parts.now c.in_ok-gathered.gathered c.loop-part.gathered c.loop-part.part-index some.1 (omega (arith, c.loop-part-test.false)) c.in_ok-gathered.ensures.committee c.in_ok-gathered.ensures.headers
-    c.in_ok-gathered.ensures.votes (c.loop-part.invariant.grown some.0 some.1))
+pub returns-clause-union : goal.returns-clause-union
+returns-clause-union c = λ logs zip.
+    let committee = c.args.committee.now in
+    let parts = c.args.parts.now in
+    let i = c.loop-part.part-index in
+    let l : length parts ≤ i = omega (arith, c.loop-part-test.false) in
+    subst (IsUnion committee logs) (sym c.in_ok-in_order.ensures)
+    (union_of_logs committee logs parts c.in_ok-gathered.gathered c.loop-part.gathered i zip l c.in_ok-gathered.ensures.committee c.in_ok-gathered.ensures.headers
+    c.in_ok-gathered.ensures.votes (c.loop-part.invariant.grown logs zip))
 
-pub of-requires-clause-good : goal.of-requires-clause-good
-of-requires-clause-good c =
-    let some = c.requires.some in
-    union_is_good c.args.committee.now some.0 c.loop-part.gathered
-    (union_of_logs c.args.committee.now some.0 c.args.parts.now c.in_ok-gathered.gathered c.loop-part.gathered c.loop-part.part-index some.1 (omega (arith, c.loop-part-test.false)) c.in_ok-gathered.ensures.committee c.in_ok-gathered.ensures.headers
-    c.in_ok-gathered.ensures.votes (c.loop-part.invariant.grown some.0 some.1))
-
-pub returns-clause-ok : goal.returns-clause-ok
-returns-clause-ok c = λ logs zip.
+pub returns-clause-told : goal.returns-clause-told
+returns-clause-told c = λ logs zip.
     let committee = c.args.committee.now in
     let parts = c.args.parts.now in
     let i = c.loop-part.part-index in
     let size = zip_length (IsResultOn committee) logs parts zip in
     let l : length parts ≤ i = omega (arith, c.loop-part-test.false) in
-    evidence_from committee logs c.loop-part.gathered c.loop-part.reports.items c.in_ok-of.field-0
-    (union_of_logs committee logs parts c.in_ok-gathered.gathered c.loop-part.gathered i zip l c.in_ok-gathered.ensures.committee c.in_ok-gathered.ensures.headers
-    c.in_ok-gathered.ensures.votes (c.loop-part.invariant.grown logs zip))
-    (subst (λ (ls : List ReceivedLog). AllZip IsReportOf ls c.loop-part.reports.items) (take_all i logs (omega (arith, size, l))) (c.loop-part.invariant.told logs zip)) c.in_ok-of.ensures
+    subst (λ (ls : List ReceivedLog). AllZip IsReportOf ls c.loop-part.reports.items) (take_all i logs (omega (arith, size, l))) (c.loop-part.invariant.told logs zip)
 
 pub returns-clause-reports : goal.returns-clause-reports
 returns-clause-reports c =
     let parts = c.args.parts.now in
     let i = c.loop-part.part-index in
     let l : length parts ≤ i = omega (arith, c.loop-part-test.false) in
-    reports_of parts c.loop-part.reports.items c.in_ok-of.field-0
-    (subst (λ (ps : List (Result Part EvidenceRefusal)). AllZip HasReport ps c.loop-part.reports.items) (take_all i parts l) c.loop-part.invariant.reports) c.in_ok-of.ensures
+    subst (λ (ps : List (Result Part EvidenceRefusal)). AllZip HasReport ps c.loop-part.reports.items) (take_all i parts l) c.loop-part.invariant.reports

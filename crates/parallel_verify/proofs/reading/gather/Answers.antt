@@ -4,7 +4,7 @@ use Rattle.log_transfer.specs.Pulls.{first_place}
 use Rattle.log_transfer.specs.declared.place.Place.{Place}
 use Rattle.evidence.specs.Evidence.{IsReportOf}
 use Rattle.evidence.specs.Gathering.{Grows, IsGatheringRefusal}
-use Rattle.evidence.specs.Logs.{ReceivedLog, LogHasHeader, LogHasVote}
+use Rattle.evidence.specs.Logs.{ReceivedLog, LogHasHeader, LogNamesVote}
 use Rattle.parallel_verify.specs.Collections.{IsLogFrom}
 use Rattle.parallel_verify.proofs.Collected.{some_log_of, gathered_none, gathered_fault, gathered_all}
 use Rattle.parallel_verify.proofs.reading.gather.Goals as goal
@@ -47,7 +47,7 @@ returns g c =
     let made = c.new-pull.ensures in
     let report = c.in_ok-report.report in
     let after = c.gather_frames.new.pull.connector in
-    let P : Place → Type 0 = λ p. (l : ReceivedLog) × IsLogFrom (g.C.Connector.gives s.connector) p s.replica l × Grows a b (LogHasHeader l) (LogHasVote a.committee l) × IsReportOf l report in
-    let w = subst P made.place (subst (λ x. (l : ReceivedLog) × IsLogFrom (g.C.Connector.gives x) c.new-pull.result.place s.replica l × Grows a b (LogHasHeader l) (LogHasVote a.committee l) × IsReportOf l report) made.connector c.in_ok-report.ensures.ok) in
+    let P : Place → Type 0 = λ p. (l : ReceivedLog) × IsLogFrom (g.C.Connector.gives s.connector) p s.replica l × Grows a b (LogHasHeader l) (LogNamesVote l) × IsReportOf l report in
+    let w = subst P made.place (subst (λ x. (l : ReceivedLog) × IsLogFrom (g.C.Connector.gives x) c.new-pull.result.place s.replica l × Grows a b (LogHasHeader l) (LogNamesVote l) × IsReportOf l report) made.connector c.in_ok-report.ensures.ok) in
     let cause = subst (λ x. HasCause (g.C.Connector.failed x) (g.C.Connector.failed after) report.status) made.connector c.in_ok-report.ensures.cause in
     gathered_all g.C.Connector.gives g.C.Connector.failed s.connector s.tries s.replica c.args.committee.now a c.in_ok-gathered.ensures.committee c.in_ok-gathered.ensures.headers b _ w.0 after c.in_ok-gathered.ensures.votes w.1 w.2 w.3 c.in_ok-headers.ensures.headers c.in_ok-headers.ensures.votes cause

@@ -4,7 +4,7 @@ use Rattle.log_transfer.specs.Pulls.{IsStep}
 use Rattle.log_transfer.specs.declared.pull.Step.{Step}
 use Rattle.log_transfer.proofs.Causes.{end_caused}
 use Rattle.evidence.specs.Gathering.{Grows, IsGatheringRefusal}
-use Rattle.evidence.specs.Logs.{ReceivedLog, LogHasHeader, FrameHasHeader, FrameHasVote, HaveEntries, SpellsEntry}
+use Rattle.evidence.specs.Logs.{ReceivedLog, LogHasHeader, FrameHasHeader, FrameNamesVote, HaveEntries, SpellsEntry}
 use Rattle.evidence.specs.declared.refusal.EvidenceRefusal.{EvidenceRefusal}
 use Rattle.evidence.proofs.Gatherings.{handed_on, have_one_more, have_no_more}
 use Rattle.parallel_verify.specs.Collections.{IsLogFrom}
@@ -62,7 +62,7 @@ loop-pull-preserved g c =
     let step = subst (λ (s : Step). IsStep (gives pull.connector) (gives then.connector) (left pull.connector) (left then.connector) pull.place then.place out s) c.in-Ok-Frame.field-0-is c.in-Ok-Frame.ensures.ok in
     let one = step.1 in
     let deref = c.deref.ensures.value in
-    let grown = subst (λ (t : List ℕ). Grows b d (FrameHasHeader t) (FrameHasVote b.committee replica t)) deref c.in_ok-add_frame-in-Ok-Frame.ensures.ok in
+    let grown = subst (λ (t : List ℕ). Grows b d (FrameHasHeader t) (FrameNamesVote replica t)) deref c.in_ok-add_frame-in-Ok-Frame.ensures.ok in
     let entry = c.in_ok-add_frame-in-Ok-Frame.ensures.entry in
     let more = λ (n : ℕ) (have : (fs : List (List ℕ)) → HaveEntries fs entries → HaveEntries (fs ++ out ∷ []) n). gathering_more (gives start.connector) (gives pull.connector) (gives then.connector) (left start.connector) (left pull.connector) (left then.connector) start.place pull.place then.place a b replica frames entries inv.so_far d out n step.2 grown have in
     record {

@@ -9,7 +9,7 @@ use Rattle.blocks.proofs.committee.CommitteeView.key.Goals as goal
 
 pub key_at-key-requires : goal.key_at-key-requires
 key_at-key-requires c =
-    let s = size_of c.self.inside.bytes.now c.self.invariant in
+    let s = size_of c.self.inside.bytes.now c.self.invariant.0 in
     let same : n_of c.self.inside.bytes.now ≡ n_of c.args.self.now = ap n_of c.self.view_is in
     omega (arith, c.requires)
 
@@ -17,7 +17,7 @@ pub returns-clause-text : goal.returns-clause-text
 returns-clause-text c =
     let bytes = c.self.inside.bytes.now in
     let same : n_of bytes ≡ n_of c.args.self.now = ap n_of c.self.view_is in
-    let is : IsPublicKey c.key_at-key.result.now = subst IsPublicKey (sym c.key_at-key.ensures.key) (key_here bytes c.args.r c.self.invariant (omega (arith, c.requires))) in
+    let is : IsPublicKey c.key_at-key.result.now = subst IsPublicKey (sym c.key_at-key.ensures.key) (key_here bytes c.args.r c.self.invariant.0 (omega (arith, c.requires))) in
     sym (key_spelled c.key_at-key.result.now c.array_at.result c.array_at-2.result c.key_at-key.ensures.fit is c.array_at.ensures c.array_at-2.ensures)
     ∙ c.key_at-key.ensures.key ∙ ap (λ (b : List ℕ). key_at b c.args.r) c.self.view_is
 

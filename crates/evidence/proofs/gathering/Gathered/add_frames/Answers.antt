@@ -1,21 +1,21 @@
-use Rattle.std.proofs.Common.{◌<◌, ◌+◌, List, [], ℕ, length, take, sym, subst, ◌∙◌, arith}
+use Rattle.std.proofs.Common.{◌<◌, ◌+◌, [], length, take, sym, subst, ◌∙◌, arith}
 use Rattle.std.proofs.lemmas.Bool.{false≢true}
 use Rattle.evidence.specs.Gathering.{IsGatheringRefusal}
 use Rattle.evidence.specs.Sets.{InSome}
-use Rattle.evidence.specs.Logs.{SpellsEntry, FrameHasHeader, FrameHasVote, HaveEntries}
+use Rattle.evidence.specs.Logs.{SpellsEntry, FrameHasHeader, FrameNamesVote, HaveEntries}
 use Rattle.evidence.proofs.Gatherings.{fault_at, grown_step, handed_on, next_is_entry, next_is_none}
 use Rattle.evidence.proofs.gathering.Gathered.add_frames.Goals.{then-branch, else-branch}
 use Rattle.evidence.proofs.gathering.Gathered.add_frames.Goals as goal
 
 pub returns-in_err-add_frame-clause-err : goal.returns-in_err-add_frame-clause-err
-returns-in_err-add_frame-clause-err c =
+returns-in_err-add_frame-clause-err g c =
     let fs = c.args.frames.now.frames in
     let below = c.loop-k-test.true in
     handed_on c.from_residual.result (IsGatheringRefusal c.args.self.now (InSome FrameHasHeader fs)) c.in_err-add_frame.field-0.0 c.from_residual.ensures.1
     (fault_at c.args.self.now c.loop-k.self FrameHasHeader _ fs c.loop-k.k c.payload.result.now [] c.in_err-add_frame.field-0.0 (omega (arith, below, c.len-k-end.ensures)) (sym c.payload.ensures) c.loop-k.invariant.grown c.in_err-add_frame.ensures.err)
 
 pub loop-k-preserved : goal.loop-k-preserved
-loop-k-preserved c =
+loop-k-preserved g c =
     let fs = c.args.frames.now.frames in
     let k = c.loop-k.k in
     let n = c.loop-k.entries in
@@ -24,7 +24,7 @@ loop-k-preserved c =
     let few = c.loop-k.invariant.few in
     let entry = c.in_ok-add_frame.ensures.entry in
     record {
-      grown = grown_step c.args.self.now c.loop-k.self c.add_frame.new.self FrameHasHeader (λ (q : List ℕ). FrameHasVote q c.args.replica) fs k c.payload.result.now [] l c.payload.ensures
+      grown = grown_step c.args.self.now c.loop-k.self c.add_frame.new.self FrameHasHeader (FrameNamesVote c.args.replica) fs k c.payload.result.now [] l c.payload.ensures
           c.loop-k.invariant.grown c.in_ok-add_frame.ensures.ok;
       entries =
           elim c.if-branch.branch [

@@ -1,12 +1,12 @@
 use Rattle.std.proofs.Common.{◌≤◌, take}
 use Rattle.evidence.specs.Gathering.{Grows}
 use Rattle.evidence.specs.Sets.{InSome}
-use Rattle.evidence.specs.Logs.{FrameHasHeader, FrameHasVote, HaveEntries}
+use Rattle.evidence.specs.Logs.{FrameHasHeader, FrameNamesVote, HaveEntries}
 use Rattle.evidence.proofs.gathering.Gathered.add_frames.Given as goal
 
 abbrev pub invariant-loop-k : goal.invariant-loop-k
-invariant-loop-k l = record {
-  grown : Grows l.fn.self l.self (InSome FrameHasHeader (take l.k l.frames.frames)) (InSome (FrameHasVote l.fn.self.committee l.replica) (take l.k l.frames.frames));
+invariant-loop-k g l = record {
+  grown : Grows l.fn.self l.self (InSome FrameHasHeader (take l.k l.frames.frames)) (InSome (FrameNamesVote l.replica) (take l.k l.frames.frames));
   entries : HaveEntries (take l.k l.frames.frames) l.entries;
   few : l.entries ≤ l.k;
 }

@@ -4,7 +4,7 @@ use Rattle.std.specs.List.{AllPairs}
 use Rattle.std.proofs.lemmas.Iterator.{items_from_collect}
 use Rattle.std.specs.Map.Iter.{TakesFirst}
 use Rattle.certificates.specs.declared.vote.SignedVote.{SignedVote}
-use Rattle.evidence.specs.Votes.{IsLowerVote, vote_cmp}
+use Rattle.certificates.specs.VoteOrder.{IsLowerVote, vote_cmp}
 use Rattle.evidence.proofs.Lists.{itself, given_all, pairs_from_sorted}
 use Rattle.evidence.proofs.votes.VoteSet.into_vec.Goals as goal
 

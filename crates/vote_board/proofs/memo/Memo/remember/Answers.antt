@@ -1,4 +1,4 @@
-use Rattle.std.proofs.Common.{◌≡◌, Bool, List, Some, subst}
+use Rattle.std.proofs.Common.{◌≡◌, Bool, List, Option, Some, subst}
 use Rattle.certificates.specs.declared.vote.SignedVote.{SignedVote}
 use Rattle.vote_board.specs.Answers.{answer_in}
 use Rattle.vote_board.proofs.Remembered.{others_stay, still_answers}
@@ -6,9 +6,9 @@ use Rattle.vote_board.proofs.memo.Memo.remember.Goals as goal
 
 pub invariant_of-self-2 : goal.invariant_of-self-2
 invariant_of-self-2 g c =
-    still_answers g.N.Naming.committee c.self.inside.answers c.insert.new.self c.args.vote.now c.args.is_good c.in_ok-insert.ensures.updates c.self.invariant c.requires
+    still_answers g.N.Naming.committee c.self.inside.posted c.insert.new.self c.args.vote c.args.is_good c.in_ok-insert.ensures.updates c.self.invariant c.requires
 
 pub returns-clause-others : goal.returns-clause-others
 returns-clause-others g c v other =
-    subst (λ (answers : List (SignedVote × Bool)). answer_in c.insert.new.self.entries v ≡ answer_in answers v) c.self.view_is
-    (others_stay c.self.inside.answers c.insert.new.self c.args.vote.now (Some c.args.is_good) c.in_ok-insert.ensures.updates v other)
+    subst (λ (posted : List (SignedVote × Option Bool)). answer_in c.insert.new.self.entries v ≡ answer_in posted v) c.self.view_is
+    (others_stay c.self.inside.posted c.insert.new.self c.args.vote (Some (Some c.args.is_good)) c.in_ok-insert.ensures.updates v other)

@@ -1,0 +1,237 @@
+//! The ledgers.
+
+use crate::chain::{Certified, Votes, block_on};
+use crate::export::{Export, certificate};
+use crate::keys::Keys;
+use crate::plan::{Kind, Plan};
+use blocks::{CommitteeView, NamedHeader};
+use certificates::SignedVote;
+use parallel_verify::SourceText;
+use std::alloc::Global;
+use std::io;
+use std::thread::Threads;
+
+/// How many blocks each branch of a fork has: three that commit its first, and one that shows the third's certificate.
+const BRANCH: u16 = 4;
+
+/// What came as logs of a committee's replicas.
+#[derive(Drop)]
+pub(crate) struct Ledger {
+    pub logs: Vec<SourceText>,
+    /// How many different votes in it are not good.
+    pub bad_votes: usize,
+    /// Some votes of it, or like those in it.
+    pub sample: Vec<SignedVote>,
+}
+
+/// Where ledgers are made.
+#[derive(Drop)]
+pub(crate) struct Site<'a, R> {
+    rt: &'a R,
+    alloc: Global,
+    keys: &'a Keys,
+    committee: CommitteeView<'a>,
+}
+
+/// Blocks of one chain, each on the one before, and the votes for them.
+#[derive(Drop)]
+struct Stretch {
+    blocks: Vec<Certified>,
+    votes: Votes,
+}
+
+impl Stretch {
+    // Adds the entries of a replica for these blocks, of which the first stands on `base`.
+    fn put(&self, base: &Certified, replica: u16, export: &mut Export) -> io::Result<()> {
+        let mut parent = base;
+        for (next, vote) in self.blocks.iter().zip(self.votes.of(replica)) {
+            export.put_entry(
+                next.block.header(),
+                parent.block.header(),
+                vote,
+                &parent.certificate,
+            )?;
+            parent = next;
+        }
+        Ok(())
+    }
+}
+
+fn refused() -> io::Error {
+    io::Error::from(io::ErrorKind::InvalidInput)
+}
+
+// What is sent as the log of a replica.
+fn log_of(replica: u16, export: Export) -> io::Result<SourceText> {
+    Ok(SourceText {
+        replica,
+        text: export.end()?,
+    })
+}
+
+// The log of replica 0 alone.
+fn only_log(alloc: Global, export: Export) -> io::Result<Vec<SourceText>> {
+    let mut logs = Vec::new(alloc);
+    logs.push(log_of(0, export)?)?;
+    Ok(logs)
+}
+
+impl<'a, R: Threads + Sync> Site<'a, R> {
+    pub fn of(rt: &'a R, alloc: Global, keys: &'a Keys) -> io::Result<Site<'a, R>> {
+        let Ok(committee) = CommitteeView::parse(keys.committee()) else {
+            return Err(refused());
+        };
+        Ok(Site {
+            rt,
+            alloc,
+            keys,
+            committee,
+        })
+    }
+
+    pub fn committee(&self) -> &CommitteeView<'a> {
+        &self.committee
+    }
+
+    /// The planned ledger.
+    pub fn ledger(&self, plan: Plan) -> io::Result<Ledger> {
+        match plan.kind {
+            Kind::Honest => self.honest(plan.blocks),
+            Kind::Forked => self.forked(plan.blocks),
+            Kind::Flat => self.flat(plan.blocks),
+            Kind::Copied => self.copied(plan.blocks),
+        }
+    }
+
+    fn genesis(&self) -> io::Result<Certified> {
+        let block = NamedHeader::of(self.committee.genesis());
+        Ok(Certified {
+            certificate: certificate(self.alloc, &block, &[])?,
+            block,
+        })
+    }
+
+    // So many blocks from a view on, the first on `base`. Those who sign their certificates are a quorum from a replica on.
+    fn stretch(
+        &self,
+        base: &Certified,
+        first_view: u64,
+        count: u16,
+        first_signer: u16,
+    ) -> io::Result<Stretch> {
+        let alloc = self.alloc;
+        let mut headers = Vec::new(alloc);
+        let mut parent = base.block;
+        for view in (first_view..u64::MAX).take(usize::from(count)) {
+            parent = block_on(&parent, view).ok_or_else(refused)?;
+            headers.push(parent)?;
+        }
+        let votes = self.votes(self.keys.trees().len(), &headers)?;
+        let quorum = self.committee.quorum();
+        let mut blocks = Vec::new(alloc);
+        for (place, block) in headers.iter().enumerate() {
+            blocks.push(Certified {
+                block: *block,
+                certificate: votes.certificate(alloc, block, place, first_signer, quorum)?,
+            })?;
+        }
+        Ok(Stretch { blocks, votes })
+    }
+
+    // The votes of the first `signers` replicas for these blocks.
+    fn votes(&self, signers: usize, blocks: &[NamedHeader]) -> io::Result<Votes> {
+        let trees = self.keys.trees();
+        let trees = trees.get(..signers).unwrap_or(trees);
+        Votes::sign(self.rt, self.alloc, trees, self.committee.chain(), blocks)
+    }
+
+    // All replicas vote for all blocks of one chain, and send the same entries but for their own votes.
+    fn honest(&self, blocks: u16) -> io::Result<Ledger> {
+        let genesis = self.genesis()?;
+        let trunk = self.stretch(&genesis, 1, blocks, 0)?;
+        let mut logs = Vec::new(self.alloc);
+        for replica in 0..self.committee.n() {
+            let mut export = Export::new(self.alloc)?;
+            trunk.put(&genesis, replica, &mut export)?;
+            logs.push(log_of(replica, export)?)?;
+        }
+        Ok(Ledger {
+            logs,
+            bad_votes: 0,
+            sample: trunk.votes.of(0).to_vec(self.alloc)?,
+        })
+    }
+
+    // The first 2f + 1 replicas vote for the one branch and the last 2f + 1 for the other, so that f + 1 vote for both. These
+    // send the log of the first branch alone.
+    fn forked(&self, blocks: u16) -> io::Result<Ledger> {
+        let genesis = self.genesis()?;
+        let trunk = self.stretch(&genesis, 1, blocks, 0)?;
+        let fork = trunk.blocks.last().unwrap_or(&genesis);
+        let left_view = u64::from(blocks) + 1;
+        let left = self.stretch(fork, left_view, BRANCH, 0)?;
+        let right_view = left_view + u64::from(BRANCH);
+        let right = self.stretch(fork, right_view, BRANCH, self.committee.f())?;
+        let mut logs = Vec::new(self.alloc);
+        for replica in 0..self.committee.n() {
+            let mut export = Export::new(self.alloc)?;
+            trunk.put(&genesis, replica, &mut export)?;
+            let branch = if replica < self.committee.quorum() {
+                &left
+            } else {
+                &right
+            };
+            branch.put(fork, replica, &mut export)?;
+            logs.push(log_of(replica, export)?)?;
+        }
+        Ok(Ledger {
+            logs,
+            bad_votes: 0,
+            sample: trunk.votes.of(0).to_vec(self.alloc)?,
+        })
+    }
+
+    // Replica 0 votes for one block on genesis in each view.
+    fn flat(&self, blocks: u16) -> io::Result<Ledger> {
+        let genesis = self.genesis()?;
+        let mut headers = Vec::new(self.alloc);
+        for view in 1..=u64::from(blocks) {
+            headers.push(block_on(&genesis.block, view).ok_or_else(refused)?)?;
+        }
+        let votes = self.votes(1, &headers)?;
+        let mut export = Export::new(self.alloc)?;
+        for (block, vote) in headers.iter().zip(votes.of(0)) {
+            export.put_entry(
+                block.header(),
+                genesis.block.header(),
+                vote,
+                &genesis.certificate,
+            )?;
+        }
+        Ok(Ledger {
+            logs: only_log(self.alloc, export)?,
+            bad_votes: 0,
+            sample: votes.of(0).to_vec(self.alloc)?,
+        })
+    }
+
+    // An entry whose certificate on block 1 has the signatures that a quorum made for block 2.
+    fn copied(&self, copies: u16) -> io::Result<Ledger> {
+        let genesis = self.genesis()?;
+        let Stretch { blocks, votes } = self.stretch(&genesis, 1, 2, 0)?;
+        let ([first, second], [_, vote]) = (blocks.as_slice(), votes.of(0)) else {
+            return Err(refused());
+        };
+        let quorum = self.committee.quorum();
+        let bad = votes.certificate(self.alloc, &first.block, 1, 0, quorum)?;
+        let mut export = Export::new(self.alloc)?;
+        for _ in 0..copies {
+            export.put_entry(second.block.header(), first.block.header(), vote, &bad)?;
+        }
+        Ok(Ledger {
+            logs: only_log(self.alloc, export)?,
+            bad_votes: usize::from(quorum),
+            sample: votes.of(0).to_vec(self.alloc)?,
+        })
+    }
+}

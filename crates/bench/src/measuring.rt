@@ -1,0 +1,202 @@
+//! What an audit of a ledger takes and finds.
+
+ghost use Rattle.std.specs.Prelude.{OnOk, IfOk};
+ghost use Rattle.std.specs.List.{All};
+ghost use Rattle.log_transfer.specs.declared.place.TheConstants.{MOST_TRIES};
+ghost use Rattle.parallel_verify.specs.Collections.{MayBeTried};
+
+use crate::ledger::Ledger;
+use blocks::CommitteeView;
+use certificates::{SignedVote, check_vote};
+use culprit_search::audit;
+use log_transfer::{Connector, MemoryConnector};
+use parallel_verify::{Evidence, EvidenceRefusal, Source, SourceText, collect, evidence_of};
+use std::alloc::{AllocError, Global};
+use std::io;
+use std::sync::Wait;
+use std::thread::Threads;
+use std::time::{Clock, Instant};
+
+/// The greatest number of votes whose checks are timed.
+const MOST_TIMED: usize = 200;
+
+/// How often their checks are timed.
+const PASSES: u8 = 3;
+
+/// What an audit found, and how long it took.
+#[derive(Clone, Copy)]
+pub(crate) struct Measured {
+    /// How many frames spell entries.
+    pub entries: usize,
+    /// How many different votes were shown, good or bad.
+    pub votes: usize,
+    pub commits: usize,
+    pub culprits: usize,
+    /// How long it takes to check each different vote once, in microseconds, as measured on some of them.
+    pub floor: u64,
+    /// How long the evidence takes on one thread, in microseconds.
+    pub one_thread: u64,
+    /// How long it takes with a thread for each log, in microseconds.
+    pub threads: u64,
+    /// How long it is searched, in microseconds.
+    pub audit: u64,
+}
+
+// The time since then, in microseconds.
+fn since<R: Clock>(rt: &R, start: Instant) -> io::Result<u64> {
+    let time = start.elapsed(rt)?;
+    let whole = time.as_secs().saturating_mul(1_000_000);
+    Ok(whole.saturating_add(u64::from(time.subsec_micros())))
+}
+
+fn error_of(refusal: EvidenceRefusal) -> io::Error {
+    match refusal {
+        EvidenceRefusal::Memory => io::Error::from(io::ErrorKind::OutOfMemory),
+        EvidenceRefusal::Collision(_, _) => io::Error::from(io::ErrorKind::InvalidData),
+    }
+}
+
+// How long it takes to check these votes, each of which must be good, in microseconds.
+fn time_of_checks<R: Clock>(
+    rt: &R,
+    committee: &CommitteeView,
+    votes: &[SignedVote],
+) -> io::Result<u64> {
+    let start = Instant::now(rt)?;
+    for vote in votes {
+        if check_vote(committee, vote).is_err() {
+            return Err(io::Error::from(io::ErrorKind::InvalidData));
+        }
+    }
+    since(rt, start)
+}
+
+// How long so many checks take, in microseconds: the least of some passes over votes of the sample, scaled.
+fn floor_of<R: Clock>(
+    rt: &R,
+    committee: &CommitteeView,
+    sample: &[SignedVote],
+    checks: usize,
+) -> io::Result<u64> {
+    let votes = sample.get(..MOST_TIMED).unwrap_or(sample);
+    let mut least = u64::MAX;
+    for _ in 0..PASSES {
+        least = least.min(time_of_checks(rt, committee, votes)?);
+    }
+    let all = least.saturating_mul(checks as u64);
+    Ok(all.checked_div(votes.len() as u64).unwrap_or(0))
+}
+
+// A source that sends this log, and is read once.
+fn source(alloc: Global, log: SourceText) -> Result<Source<MemoryConnector>, AllocError>
+    ensures { IfOk result (MayBeTried (λ c. MOST_TRIES)) }
+{
+    let SourceText { replica, text } = log;
+    let mut connector = MemoryConnector::new(alloc);
+    connector.add(text, false)?;
+    Ok(Source {
+        replica,
+        connector,
+        tries: 1,
+    })
+}
+
+// Adds a source.
+fn put(
+    sources: &mut Vec<Source<MemoryConnector>>,
+    source: Source<MemoryConnector>,
+) -> Result<(), AllocError>
+    requires all { All (MayBeTried (λ c. MOST_TRIES)) sources.old.items }
+    requires one { MayBeTried (λ c. MOST_TRIES) source }
+    ensures { OnOk result (All (MayBeTried (λ c. MOST_TRIES)) sources.new.items) }
+{
+    sources.push(source)?;
+    Ok(())
+}
+
+// Sources that send these logs.
+fn sources_of(
+    alloc: Global,
+    logs: Vec<SourceText>,
+) -> Result<Vec<Source<MemoryConnector>>, AllocError>
+    ensures { IfOk result (λ ss. All (MayBeTried (λ c. MOST_TRIES)) ss.items) }
+{
+    let mut sources = Vec::new(alloc);
+    for log in logs {
+        put(&mut sources, source(alloc, log)?)?;
+    }
+    Ok(sources)
+}
+
+// How long it takes to gather the evidence with a thread for each log, in microseconds. It must have so many votes.
+fn time_of_threads<R: Threads + Wait + Clock + Sync>(
+    rt: &R,
+    alloc: Global,
+    committee: &CommitteeView,
+    logs: Vec<SourceText>,
+    votes: usize,
+) -> io::Result<u64> {
+    let sources = sources_of(alloc, logs)?;
+    let start = Instant::now(rt)?;
+    let evidence = collect(rt, alloc, committee, sources).map_err(error_of)?;
+    let time = since(rt, start)?;
+    if evidence.votes().len() != votes {
+        return Err(io::Error::from(io::ErrorKind::InvalidData));
+    }
+    Ok(time)
+}
+
+fn entries_in(evidence: &Evidence) -> usize {
+    let mut entries = 0usize;
+    for source in evidence.sources() {
+        entries = entries.saturating_add(source.entries);
+    }
+    entries
+}
+
+// The evidence of the logs on one thread, and what an audit of it finds.
+fn audit_alone<R: Clock>(
+    rt: &R,
+    alloc: Global,
+    committee: &CommitteeView,
+    logs: &[SourceText],
+) -> io::Result<Measured> {
+    let start = Instant::now(rt)?;
+    let evidence = evidence_of(alloc, committee, logs).map_err(error_of)?;
+    let one_thread = since(rt, start)?;
+    let start = Instant::now(rt)?;
+    let report = audit(alloc, &evidence)?;
+    let audit = since(rt, start)?;
+    Ok(Measured {
+        entries: entries_in(&evidence),
+        votes: evidence.votes().len(),
+        commits: report.commits().len(),
+        culprits: report.verdicts().len(),
+        floor: 0,
+        one_thread,
+        threads: 0,
+        audit,
+    })
+}
+
+/// Audits the ledger: its evidence is gathered on one thread and searched, and then gathered with a thread for each log.
+pub(crate) fn measure<R: Threads + Wait + Clock + Sync>(
+    rt: &R,
+    alloc: Global,
+    committee: &CommitteeView,
+    ledger: Ledger,
+) -> io::Result<Measured> {
+    let Ledger {
+        logs,
+        bad_votes,
+        sample,
+    } = ledger;
+    let found = audit_alone(rt, alloc, committee, &logs)?;
+    let votes = found.votes.saturating_add(bad_votes);
+    Ok(Measured {
+        votes,
+        floor: floor_of(rt, committee, &sample, votes)?,
+        threads: time_of_threads(rt, alloc, committee, logs, found.votes)?,
+        ..found
+    })
+}
