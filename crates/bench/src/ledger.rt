@@ -3,16 +3,13 @@
 use crate::chain::{Certified, Votes, block_on};
 use crate::export::{Export, certificate};
 use crate::keys::Keys;
-use crate::plan::{Kind, Plan};
+use crate::plan::{BRANCH, Kind, LOG_ENTRIES, Plan};
 use blocks::{CommitteeView, NamedHeader};
 use certificates::SignedVote;
 use parallel_verify::SourceText;
 use std::alloc::Global;
 use std::io;
 use std::thread::Threads;
-
-/// How many blocks each branch of a fork has: three that commit its first, and one that shows the third's certificate.
-const BRANCH: u16 = 4;
 
 /// What came as logs of a committee's replicas.
 #[derive(Drop)]
@@ -191,7 +188,22 @@ impl<'a, R: Threads + Sync> Site<'a, R> {
         })
     }
 
-    // Replica 0 votes for one block on genesis in each view.
+    // The log of replica 0 that has its votes for these blocks on genesis.
+    fn votes_on(
+        &self,
+        genesis: &Certified,
+        blocks: &[NamedHeader],
+        votes: &[SignedVote],
+    ) -> io::Result<SourceText> {
+        let mut export = Export::new(self.alloc)?;
+        for (block, vote) in blocks.iter().zip(votes) {
+            let parent = genesis.block.header();
+            export.put_entry(block.header(), parent, vote, &genesis.certificate)?;
+        }
+        log_of(0, export)
+    }
+
+    // Replica 0 votes for one block on genesis in each view, and hands out full logs, of which the last may be shorter.
     fn flat(&self, blocks: u16) -> io::Result<Ledger> {
         let genesis = self.genesis()?;
         let mut headers = Vec::new(self.alloc);
@@ -199,19 +211,16 @@ impl<'a, R: Threads + Sync> Site<'a, R> {
             headers.push(block_on(&genesis.block, view).ok_or_else(refused)?)?;
         }
         let votes = self.votes(1, &headers)?;
-        let mut export = Export::new(self.alloc)?;
-        for (block, vote) in headers.iter().zip(votes.of(0)) {
-            export.put_entry(
-                block.header(),
-                genesis.block.header(),
-                vote,
-                &genesis.certificate,
-            )?;
+        let votes = votes.of(0);
+        let mut logs = Vec::new(self.alloc);
+        let entries = usize::from(LOG_ENTRIES);
+        for (blocks, votes) in headers.chunks(entries).zip(votes.chunks(entries)) {
+            logs.push(self.votes_on(&genesis, blocks, votes)?)?;
         }
         Ok(Ledger {
-            logs: only_log(self.alloc, export)?,
+            logs,
             bad_votes: 0,
-            sample: votes.of(0).to_vec(self.alloc)?,
+            sample: votes.to_vec(self.alloc)?,
         })
     }
 

@@ -3,8 +3,14 @@
 /// The least number of replicas of a committee.
 pub(crate) const FEWEST: u8 = 4;
 
-/// The greatest number of blocks: an audit reads 4,096 entries of a log, of which a branch takes four.
-const MOST_BLOCKS: u16 = 4_092;
+/// The greatest number of entries of a log.
+pub(crate) const LOG_ENTRIES: u16 = 4_096;
+
+/// How many blocks each branch of a fork has: three that commit its first, and one that shows the third's certificate.
+pub(crate) const BRANCH: u16 = 4;
+
+/// How many full logs one replica hands out at most.
+const LOGS_OF_ONE: u16 = 4;
 
 /// What a ledger is like.
 #[derive(Clone, Copy)]
@@ -13,7 +19,7 @@ pub(crate) enum Kind {
     Honest,
     /// One chain, and behind it two branches of four blocks each, with commits that conflict.
     Forked,
-    /// Blocks that all stand on genesis, and the log of one replica that votes for each.
+    /// Blocks that all stand on genesis, and logs of one replica that votes for each.
     Flat,
     /// The log of one replica that has the same entry again and again, on a parent whose certificate has no good vote.
     Copied,
@@ -27,6 +33,15 @@ impl Kind {
             "flat" => Some(Kind::Flat),
             "copied" => Some(Kind::Copied),
             _ => None,
+        }
+    }
+
+    // The greatest number of blocks of such a ledger.
+    fn most_blocks(self) -> u16 {
+        match self {
+            Kind::Honest | Kind::Copied => LOG_ENTRIES,
+            Kind::Forked => LOG_ENTRIES - BRANCH,
+            Kind::Flat => LOGS_OF_ONE * LOG_ENTRIES,
         }
     }
 
@@ -59,7 +74,7 @@ impl Plan {
         let kind = Kind::read(kind)?;
         let replicas = replicas.parse::<u8>().ok()?;
         let blocks = blocks.parse::<u16>().ok()?;
-        (1..=MOST_BLOCKS).contains(&blocks).then_some(Plan {
+        (1..=kind.most_blocks()).contains(&blocks).then_some(Plan {
             kind,
             replicas,
             blocks,
