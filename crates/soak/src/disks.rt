@@ -1,0 +1,268 @@
+//! The two disks of a replica: crashes, and recoveries that may fail.
+
+use crate::counts::one_more;
+use crate::desk_model::Fuses;
+use crate::failure::{Failure, same};
+use crate::random::Random;
+use crate::round::{Round, Run};
+use blocks::CommitteeView;
+use key_index_store::{IndexError, IndexStore};
+use lms_tree::SigningTree;
+use stable_log::{Choice, MemoryDisk};
+use std::alloc::{AllocError, Global};
+use vote_desk::Parts;
+use vote_log::{LogError, VoteLog};
+
+/// How many calls a disk answers at the most before one fails.
+const MOST_CALLS: u32 = 40;
+
+/// How many calls of a recovery succeed at the most before one fails.
+const MOST_READS: u32 = 8;
+
+/// What is left of a replica.
+#[derive(Drop)]
+pub(crate) struct Disks {
+    pub index: MemoryDisk,
+    pub log: MemoryDisk,
+}
+
+/// Why a disk could not be read.
+#[derive(Clone, Copy, PartialEq, Eq)]
+enum Unread {
+    Device,
+    Damaged,
+}
+
+// What is kept on a disk.
+trait Store: Sized + Drop {
+    // Finds it there, or hands the disk back.
+    fn find(
+        alloc: Global,
+        committee: &CommitteeView,
+        disk: MemoryDisk,
+    ) -> Result<Self, (Unread, MemoryDisk)>;
+
+    fn leave(self) -> MemoryDisk;
+}
+
+impl Store for VoteLog<MemoryDisk> {
+    fn find(
+        alloc: Global,
+        committee: &CommitteeView,
+        disk: MemoryDisk,
+    ) -> Result<VoteLog<MemoryDisk>, (Unread, MemoryDisk)> {
+        match VoteLog::recover(alloc, disk, committee.genesis()) {
+            Ok(log) => Ok(log),
+            Err((LogError::Device, disk)) => Err((Unread::Device, disk)),
+            Err((_, disk)) => Err((Unread::Damaged, disk)),
+        }
+    }
+
+    fn leave(self) -> MemoryDisk {
+        self.into_disk()
+    }
+}
+
+impl Store for IndexStore<MemoryDisk> {
+    fn find(
+        alloc: Global,
+        _committee: &CommitteeView,
+        disk: MemoryDisk,
+    ) -> Result<IndexStore<MemoryDisk>, (Unread, MemoryDisk)> {
+        match IndexStore::recover(alloc, disk) {
+            Ok(store) => Ok(store),
+            Err((IndexError::Device, disk)) => Err((Unread::Device, disk)),
+            Err((_, disk)) => Err((Unread::Damaged, disk)),
+        }
+    }
+
+    fn leave(self) -> MemoryDisk {
+        self.into_disk()
+    }
+}
+
+// The store on a disk whose calls do not fail.
+fn found<S: Store>(
+    alloc: Global,
+    committee: &CommitteeView,
+    disk: MemoryDisk,
+) -> Result<S, Failure> {
+    let mut disk = disk;
+    disk.fuse(u32::MAX, false);
+    S::find(alloc, committee, disk).map_err(|_| Failure::Refused("a store is found again"))
+}
+
+// The disk after a recovery a call of which may fail.
+fn tried<S: Store>(
+    alloc: Global,
+    committee: &CommitteeView,
+    disk: MemoryDisk,
+    run: &mut Run,
+) -> Result<MemoryDisk, Failure> {
+    let mut disk = disk;
+    disk.fuse(run.random.below_u32(MOST_READS), run.random.percent(50));
+    match S::find(alloc, committee, disk) {
+        Ok(store) => Ok(store.leave()),
+        Err((Unread::Device, disk)) => {
+            one_more(&mut run.counts.failed_recoveries);
+            Ok(disk)
+        }
+        Err((Unread::Damaged, _)) => Err(Failure::Refused("a disk is sound")),
+    }
+}
+
+// The store on a disk a call of which fails behind its recovery and so many more.
+fn found_with_fuse<S: Store>(
+    alloc: Global,
+    committee: &CommitteeView,
+    disk: MemoryDisk,
+    pass: u32,
+    forever: bool,
+) -> Result<S, Failure> {
+    let before = disk.calls();
+    let mut disk = found::<S>(alloc, committee, disk)?.leave();
+    let calls = disk.calls().saturating_sub(before);
+    let calls = u32::try_from(calls).unwrap_or(u32::MAX);
+    disk.fuse(calls.saturating_add(pass), forever);
+    S::find(alloc, committee, disk).map_err(|_| Failure::Refused("a store is found once more"))
+}
+
+// The store on a disk, by a second recovery if the first fails.
+fn come_up<S: Store>(
+    alloc: Global,
+    committee: &CommitteeView,
+    disk: MemoryDisk,
+    fuse: Option<u32>,
+    run: &mut Run,
+) -> Result<S, Failure> {
+    let mut disk = disk;
+    if run.random.percent(25) {
+        disk = tried::<S>(alloc, committee, disk, run)?;
+    }
+    match fuse {
+        Some(pass) => { found_with_fuse(alloc, committee, disk, pass, run.random.percent(50)) }
+        None => found(alloc, committee, disk),
+    }
+}
+
+fn fuse(random: &mut Random, percent: u64, most: u32) -> Option<u32> {
+    let calls = random.below_u32(most);
+    random.percent(percent).then_some(calls)
+}
+
+// How the disks fail in the next stay.
+fn fuses(random: &mut Random) -> Fuses {
+    Fuses {
+        index: fuse(random, 15, CALLS_OF_TWO),
+        log: fuse(random, 30, MOST_CALLS),
+    }
+}
+
+/// How many calls two reservations make.
+const CALLS_OF_TWO: u32 = 8;
+
+/// The replica comes up on its disks, and finds there what the model says. A round that is over meets no failure any more.
+pub(crate) fn recovered(
+    alloc: Global,
+    committee: &CommitteeView,
+    tree: SigningTree,
+    disks: Disks,
+    round: &mut Round,
+    run: &mut Run,
+) -> Result<Parts<MemoryDisk>, Failure> {
+    let fuses = if round.is_over(run) {
+        Fuses::NONE
+    } else {
+        fuses(&mut run.random)
+    };
+    let index = come_up::<IndexStore<MemoryDisk>>(alloc, committee, disks.index, fuses.index, run)?;
+    let log = come_up::<VoteLog<MemoryDisk>>(alloc, committee, disks.log, fuses.log, run)?;
+    let is_found = round
+        .desk
+        .restart(alloc, &round.tree, log.count(), index.left())?;
+    if is_found {
+        one_more(&mut run.counts.found);
+    }
+    judge(alloc, round, &log, &index)?;
+    round.desk.fuse(fuses);
+    Ok(Parts { tree, index, log })
+}
+
+// What was found is what the model has.
+fn judge(
+    alloc: Global,
+    round: &Round,
+    log: &VoteLog<MemoryDisk>,
+    index: &IndexStore<MemoryDisk>,
+) -> Result<(), Failure> {
+    let stored = round.desk.replica.stored().len();
+    same(alloc, "entries found", &stored, &log.count())?;
+    same(alloc, "indices left", &round.desk.left(), &index.left())?;
+    if !round.desk.has_stored(&round.tree, log.steps()) {
+        return Err(Failure::Refused("the entries found are those stored"));
+    }
+    Ok(())
+}
+
+fn choice(random: &mut Random) -> Choice {
+    match random.below(6) {
+        0 => Choice::Old,
+        1 => Choice::New,
+        2 => Choice::Half,
+        3 => Choice::Fill(0),
+        4 => Choice::Fill(1),
+        _ => Choice::Fill((random.below(256) & 0xff) as u8),
+    }
+}
+
+/// The key, and what a crash or a restart leaves of the disks.
+pub(crate) fn left(
+    parts: Parts<MemoryDisk>,
+    run: &mut Run,
+) -> Result<(SigningTree, Disks), AllocError> {
+    let Parts { tree, index, log } = parts;
+    let index = index.into_disk();
+    let log = log.into_disk();
+    if run.random.percent(40) {
+        one_more(&mut run.counts.restarts);
+        return Ok((tree, Disks { index, log }));
+    }
+    one_more(&mut run.counts.crashes);
+    let index = index.crash(choice(&mut run.random))?;
+    let log = log.crash(choice(&mut run.random))?;
+    Ok((tree, Disks { index, log }))
+}
+
+// The index disk of a key of whose indices so many reservations were given or skipped.
+fn taken_index(alloc: Global, reservations: u32) -> Result<MemoryDisk, Failure> {
+    let disk = MemoryDisk::new(alloc, Vec::new(alloc))?;
+    let Ok(mut store) = IndexStore::create(alloc, disk) else {
+        return Err(Failure::Refused("an index store is made"));
+    };
+    for _ in 0..reservations {
+        if store.next().is_err() {
+            return Err(Failure::Refused("an index is given"));
+        }
+        store = match IndexStore::recover(alloc, store.into_disk()) {
+            Ok(store) => store,
+            Err(_) => return Err(Failure::Refused("an index store is found again")),
+        };
+    }
+    Ok(store.into_disk())
+}
+
+/// The disks of a new replica, of whose key so many reservations are taken.
+pub(crate) fn new_disks(
+    alloc: Global,
+    committee: &CommitteeView,
+    reservations: u32,
+) -> Result<Disks, Failure> {
+    let disk = MemoryDisk::new(alloc, Vec::new(alloc))?;
+    let Ok(log) = VoteLog::create(alloc, disk, committee.genesis()) else {
+        return Err(Failure::Refused("a log is made"));
+    };
+    Ok(Disks {
+        index: taken_index(alloc, reservations)?,
+        log: log.into_disk(),
+    })
+}
