@@ -21,15 +21,15 @@ pub(crate) enum Operation {
     Leave,
 }
 
-// Any block.
-fn any(random: &mut Random, tree: &BlockTree) -> usize {
-    random.below(tree.count() as u64) as usize
-}
-
-// One of the youngest blocks.
-fn young(random: &mut Random, tree: &BlockTree) -> usize {
-    let back = random.below(YOUNG) as usize;
-    tree.count().saturating_sub(1).saturating_sub(back)
+// One of the youngest blocks, in so many of a hundred cases, or any.
+fn young_or_any(random: &mut Random, tree: &BlockTree, percent: u64) -> usize {
+    let count = tree.count() as u64;
+    let least = if random.percent(percent) {
+        count.saturating_sub(YOUNG)
+    } else {
+        0
+    };
+    least.saturating_add(random.below(count.saturating_sub(least))) as usize
 }
 
 // The held block of the greatest view, the first of these.
@@ -78,11 +78,7 @@ fn grown(alloc: Global, signers: &Signers, round: &mut Round, run: &mut Run) -> 
 
 // A block on a young one, or on any.
 fn forked(alloc: Global, signers: &Signers, round: &mut Round, run: &mut Run) -> io::Result<usize> {
-    let parent = if run.random.percent(70) {
-        young(&mut run.random, &round.tree)
-    } else {
-        any(&mut run.random, &round.tree)
-    };
+    let parent = young_or_any(&mut run.random, &round.tree, 70);
     let view = above(&mut run.random, round.tree.view(parent), 20);
     child(alloc, signers, round, parent, view)
 }
@@ -101,10 +97,20 @@ fn misnamed(
     round: &mut Round,
     run: &mut Run,
 ) -> io::Result<usize> {
-    let parent = young(&mut run.random, &round.tree);
+    let parent = young_or_any(&mut run.random, &round.tree, 90);
     let parent_view = above(&mut run.random, round.tree.view(parent), 3);
     let view = above(&mut run.random, parent_view, 3);
     round.tree.add(alloc, signers, parent, parent_view, view)
+}
+
+// A block that may have been delivered before, mostly a young one; a new one in the place of genesis, which is none to
+// deliver.
+fn again(alloc: Global, signers: &Signers, round: &mut Round, run: &mut Run) -> io::Result<usize> {
+    let number = young_or_any(&mut run.random, &round.tree, 80);
+    if number == 0 {
+        return grown(alloc, signers, round, run);
+    }
+    Ok(number)
 }
 
 // The block that is delivered.
@@ -114,8 +120,7 @@ fn block(alloc: Global, signers: &Signers, round: &mut Round, run: &mut Run) -> 
         55..70 => forked(alloc, signers, round, run),
         70..74 => orphan(alloc, signers, round, run),
         74..78 => misnamed(alloc, signers, round, run),
-        78..96 => Ok(young(&mut run.random, &round.tree)),
-        _ => Ok(any(&mut run.random, &round.tree)),
+        _ => again(alloc, signers, round, run),
     }
 }
 

@@ -13,8 +13,11 @@ use std::alloc::{AllocError, Global};
 use vote_desk::Parts;
 use vote_log::{LogError, VoteLog};
 
-/// How many calls a disk answers at the most before one fails.
-const MOST_CALLS: u32 = 40;
+/// How many calls of the log's disk succeed at the most before one fails: those of six entries.
+const MOST_LOG_CALLS: u32 = 24;
+
+/// The same of the index disk: those of two reservations.
+const MOST_INDEX_CALLS: u32 = 8;
 
 /// How many calls of a recovery succeed at the most before one fails.
 const MOST_READS: u32 = 8;
@@ -153,13 +156,10 @@ fn fuse(random: &mut Random, percent: u64, most: u32) -> Option<u32> {
 // How the disks fail in the next stay.
 fn fuses(random: &mut Random) -> Fuses {
     Fuses {
-        index: fuse(random, 15, CALLS_OF_TWO),
-        log: fuse(random, 30, MOST_CALLS),
+        index: fuse(random, 20, MOST_INDEX_CALLS),
+        log: fuse(random, 40, MOST_LOG_CALLS),
     }
 }
-
-/// How many calls two reservations make.
-const CALLS_OF_TWO: u32 = 8;
 
 /// The replica comes up on its disks, and finds there what the model says. A round that is over meets no failure any more.
 pub(crate) fn recovered(

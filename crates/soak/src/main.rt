@@ -41,7 +41,7 @@ struct Plan {
 /// The run where there are no words.
 const SHORT: Plan = Plan {
     seed: 1,
-    operations: 300,
+    operations: 1_000,
 };
 
 impl Plan {
