@@ -130,3 +130,11 @@ __attribute__((destructor)) static void tell(void)
     put(file, "requests", atomic_load(requests));
     close(file);
 }
+
+/* A program with threads ends by it, and then no destructor runs. */
+void _exit(int status)
+{
+    tell();
+    syscall(SYS_exit_group, status);
+    __builtin_unreachable();
+}
