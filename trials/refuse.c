@@ -5,11 +5,13 @@
  *   REFUSE_AT=N        the request of this number is refused, counted from 1 over all threads of the process
  *   REFUSE_LATER=1     and all requests behind it are, too: memory stays short
  *   REFUSE_TELL=FILE   at the end the file gets one line: how many requests came
- *   REFUSE_SWEEP=LINE  in place of REFUSE_AT: once the program writes this line, with no thread beside its first, it goes
- *                      on from there over and over, in a process of its own each time. The first is refused nothing, and
- *                      number N is refused request N of those that it makes behind the line, until one ends before it made
- *                      so many. Standard output gets what each of them writes, and where one is ended by a signal or with a
- *                      status other than 0 the line `ended N` with that number.
+ *   REFUSE_SWEEP=LINE  in place of REFUSE_AT: the sweep below, from the moment at which the program writes this line
+ *
+ * In a sweep the program, which must have one thread then, goes on from the line over and over, in a process of its own each
+ * time: at first with nothing refused, and then with request N refused of those behind the line, for N = 1, 2 and so on, up
+ * to a few more than came in any of these processes, since threads may not make as many each time. Standard output gets what
+ * they write, and behind what one wrote the line `unrefused N`, where fewer than N requests came, and the line `ended S`,
+ * where it ended by a signal or with a status other than 0.
  *
  * A request is a call of malloc, calloc, realloc or aligned_alloc, also those of the C library itself, as for a new thread.
  */
@@ -27,6 +29,9 @@
 
 /* How long one process of a sweep may take, in seconds. One that hangs is ended by SIGALRM. */
 #define MOST_SECONDS 60
+
+/* How many numbers are tried behind the greatest that came. */
+#define MARGIN 3
 
 /* What glibc calls its own functions. */
 extern void *__libc_malloc(size_t size);
@@ -85,14 +90,28 @@ static void put(int file, const char *text, long number)
     syscall(SYS_write, file, line, (size_t)length);
 }
 
+/* Waits for a process of a sweep, the one that is refused request `at`, and answers how many requests came in it. */
+static long outcome_of(pid_t child, long at)
+{
+    int status;
+    if (waitpid(child, &status, 0) != child)
+        _exit(2);
+    long came = atomic_load(requests);
+    if (came < at)
+        put(STDOUT_FILENO, "unrefused", at);
+    if (status != 0)
+        put(STDOUT_FILENO, "ended", WIFSIGNALED(status) ? 128 + WTERMSIG(status) : WEXITSTATUS(status));
+    return came;
+}
+
 /* The processes of a sweep. Returns in each of them, and ends the one that was started. */
 static void sweep(void)
 {
+    long most = 0;
     requests = mmap(NULL, sizeof *requests, PROT_READ | PROT_WRITE, MAP_SHARED | MAP_ANONYMOUS, -1, 0);
     if (requests == MAP_FAILED)
         _exit(2);
-    for (long at = 0; at == 0 || atomic_load(requests) >= at - 1; at++) {
-        int status;
+    for (long at = 0; at <= most + MARGIN; at++) {
         atomic_store(requests, 0);
         pid_t child = fork();
         if (child < 0)
@@ -102,10 +121,8 @@ static void sweep(void)
             alarm(MOST_SECONDS);
             return;
         }
-        if (waitpid(child, &status, 0) != child)
-            _exit(2);
-        if (status != 0)
-            put(STDOUT_FILENO, "ended", WIFSIGNALED(status) ? 128 + WTERMSIG(status) : WEXITSTATUS(status));
+        long came = outcome_of(child, at);
+        most = came > most ? came : most;
     }
     _exit(0);
 }

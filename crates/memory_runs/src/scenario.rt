@@ -1,0 +1,74 @@
+//! The scenarios, by their names.
+
+use crate::audit::audit_fork;
+use crate::closing::{HandedIn, close_desk};
+use crate::delivering::{run_and_leave, run_twice};
+use crate::fetching::fetch_in_two;
+use crate::outcome::Outcome;
+use std::sync::Wait;
+use std::thread::Threads;
+use streams::Sink;
+
+/// What is run.
+#[derive(Clone, Copy, Debug, PartialEq, Eq)]
+pub(crate) enum Scenario {
+    /// An audit of the stored fork by `audit_run`.
+    Audit,
+    /// The worked run by `deliver`, where each call that is refused memory is made again.
+    Deliver,
+    /// The same, where the desk is closed at the first call that is refused memory.
+    Leave,
+    /// A `fetch` that resumes.
+    Fetch,
+    /// `close` with all sessions.
+    Close,
+    /// `close` where a session is kept back.
+    Withhold,
+}
+
+/// All scenarios.
+pub(crate) const SCENARIOS: [Scenario; 6] = [
+    Scenario::Audit,
+    Scenario::Deliver,
+    Scenario::Leave,
+    Scenario::Fetch,
+    Scenario::Close,
+    Scenario::Withhold,
+];
+
+impl Scenario {
+    /// The word that names it.
+    pub fn name(self) -> &'static str {
+        match self {
+            Scenario::Audit => "audit",
+            Scenario::Deliver => "deliver",
+            Scenario::Leave => "leave",
+            Scenario::Fetch => "fetch",
+            Scenario::Close => "close",
+            Scenario::Withhold => "withhold",
+        }
+    }
+
+    /// The scenario that a word names.
+    pub fn named(word: &str) -> Option<Scenario> {
+        SCENARIOS
+            .into_iter()
+            .find(|scenario| scenario.name() == word)
+    }
+}
+
+/// Runs a scenario, and says on the stage when it is set up.
+pub(crate) fn run<R: Threads + Wait + Sync + AllocGlobal, W: Sink>(
+    rt: &R,
+    scenario: Scenario,
+    stage: &mut W,
+) -> Outcome {
+    match scenario {
+        Scenario::Audit => audit_fork(rt, stage),
+        Scenario::Deliver => run_twice(rt, stage),
+        Scenario::Leave => run_and_leave(rt, stage),
+        Scenario::Fetch => fetch_in_two(rt, stage),
+        Scenario::Close => close_desk(rt, HandedIn::All, stage),
+        Scenario::Withhold => close_desk(rt, HandedIn::AllButOne, stage),
+    }
+}
