@@ -76,10 +76,15 @@ fn grown(alloc: Global, signers: &Signers, round: &mut Round, run: &mut Run) -> 
     child(alloc, signers, round, parent, view)
 }
 
-// A block on a young one, or on any.
+// A block on a young one, or on any, in half of the cases of a view that may be voted for, so that it may be against the
+// lock.
 fn forked(alloc: Global, signers: &Signers, round: &mut Round, run: &mut Run) -> io::Result<usize> {
     let parent = young_or_any(&mut run.random, &round.tree, 70);
-    let view = above(&mut run.random, round.tree.view(parent), 20);
+    let mut view = round.tree.view(parent);
+    if run.random.percent(50) {
+        view = view.max(round.desk.replica.vote_view());
+    }
+    let view = above(&mut run.random, view, 5);
     child(alloc, signers, round, parent, view)
 }
 
@@ -116,8 +121,8 @@ fn again(alloc: Global, signers: &Signers, round: &mut Round, run: &mut Run) -> 
 // The block that is delivered.
 fn block(alloc: Global, signers: &Signers, round: &mut Round, run: &mut Run) -> io::Result<usize> {
     match run.random.below(100) {
-        0..55 => grown(alloc, signers, round, run),
-        55..70 => forked(alloc, signers, round, run),
+        0..45 => grown(alloc, signers, round, run),
+        45..70 => forked(alloc, signers, round, run),
         70..74 => orphan(alloc, signers, round, run),
         74..78 => misnamed(alloc, signers, round, run),
         _ => again(alloc, signers, round, run),
@@ -128,7 +133,7 @@ fn block(alloc: Global, signers: &Signers, round: &mut Round, run: &mut Run) -> 
 fn given_up(round: &Round, random: &mut Random) -> u64 {
     let view = round.desk.replica.vote_view();
     if random.percent(80) {
-        view.saturating_add(random.below(4))
+        view.saturating_add(random.below(10))
     } else {
         random.below(view)
     }

@@ -116,6 +116,15 @@ impl Model {
         self.vote_view
     }
 
+    pub fn stored_vote_view(&self) -> u64 {
+        self.stored_vote_view
+    }
+
+    /// The block that the replica is locked on.
+    pub fn lock(&self) -> usize {
+        self.lock
+    }
+
     pub fn stored(&self) -> &[Kept] {
         &self.stored
     }

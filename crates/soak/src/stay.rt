@@ -10,6 +10,7 @@ use crate::keys::Signers;
 use crate::round::{Round, Run};
 use crate::tree::BlockTree;
 use blocks::CommitteeView;
+use replica_core::Core;
 use stable_log::MemoryDisk;
 use std::alloc::Global;
 use std::marker::Brand;
@@ -129,6 +130,23 @@ fn work<N: Naming, R: Wait>(
     Ok(())
 }
 
+// The core that a desk leaves has the model's state, and holds the same blocks.
+fn judge(alloc: Global, round: &Round, core: &Core) -> Result<(), Failure> {
+    let Round { tree, desk, .. } = round;
+    let replica = &desk.replica;
+    let views = [replica.vote_view(), replica.stored_vote_view()];
+    let got = [core.vote_view(), core.stored_vote_view()];
+    same(alloc, "the vote view and the stored one", &views, &got)?;
+    let lock = tree.number_of(&core.lock().id);
+    same(alloc, "the lock", &Some(replica.lock()), &lock)?;
+    for number in 0..tree.count() {
+        if core.holds(&tree.block(number).id) != replica.holds(number) {
+            return Err(Failure::Refused("a core holds the blocks of the model"));
+        }
+    }
+    Ok(())
+}
+
 // A desk is opened with one session and closed again, with work in between.
 fn works<N: Naming, R: Wait>(
     rt: &R,
@@ -162,7 +180,10 @@ fn works<N: Naming, R: Wait>(
         run,
     )?;
     match desk.close(alloc, sessions) {
-        Ok(closed) => Ok(closed.parts),
+        Ok(closed) => {
+            judge(alloc, round, &closed.core)?;
+            Ok(closed.parts)
+        }
         Err(_) => Err(Failure::Refused("a desk is closed")),
     }
 }
