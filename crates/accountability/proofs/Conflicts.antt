@@ -1,21 +1,21 @@
 -- Two proved commits that conflict accuse whoever certified blocks on both sides.
-use Rattle.std.proofs.Common.{◌≡◌, ◌≢◌, ℕ, ◌<◌, ◌≤◌, ◌+◌, ◌*◌, List, [], ◌∷◌, Bool, true, ◌&&◌, Some, None, nat_eq, refl, sym, ◌∙◌, ap, subst, inl, inr, arith}
+use Rattle.std.proofs.Common.{◌≡◌, ◌≢◌, ℕ, ◌<◌, ◌≤◌, ◌+◌, ◌*◌, ◌/◌, List, [], ◌∷◌, Bool, true, false, ◌&&◌, Some, None, nat_eq, refl, sym, ◌∙◌, ap, subst, inl, inr, arith}
 use Rattle.std.specs.List.{Contains}
 use Rattle.std.specs.Str.{bytes_eq}
 use Rattle.std.proofs.lemmas.Bool.{and_parts, eqb-true, cases_lt, cases_order}
 use Rattle.std.proofs.lemmas.Slice.Eq.{bytes_eq-Decides}
 use Rattle.blocks.specs.Headers.{Header, NamesParent, IsGenesis, header_id}
 use Rattle.blocks.specs.Chains.{IsChain, NoCollision}
-use Rattle.blocks.proofs.CommitteeLaws.{size_of}
+use Rattle.blocks.specs.Committees.{has_weights, n_of, weight_at}
 use Rattle.blocks.proofs.Members.{Contains-first, Contains-later, Contains-from_Has, Has-from_Contains}
 use Rattle.certificates.specs.declared.vote.SignedVote.{SignedVote}
 use Rattle.evidence.specs.Evidence.{Evidence}
 use Rattle.ancestry.proofs.Ids.{apart_in}
-use Rattle.blocks.specs.Weights.{Committee, total_weight, weight_of, is_among, counts_once, committee_of}
+use Rattle.blocks.specs.Weights.{Committee, total_weight, weight_of, is_among, committee_of, total_of}
 use Rattle.accountability.specs.Commits.{is_vote_on, has_vote, IsCertified, IsProvedCommit}
 use Rattle.accountability.specs.Culprits.{IsCulprit}
-use Rattle.accountability.specs.AccountabilityLaws.{AConflictAccusesMoreThanAThird, AConflictNamesMoreThanF, EvidenceNamesEachHeaderOnce}
-use Rattle.accountability.proofs.Weights.{weight_both, weight_within, weight_listed, list_any-Has, weight_ones, sum_ones}
+use Rattle.accountability.specs.AccountabilityLaws.{AConflictAccusesMoreThanAThird, AThirdIsMoreThanF, AQuorumOfOnceIsTwoFPlusOne, EvidenceNamesEachHeaderOnce, EvidenceOfAConflictAccusesMoreThanAThird}
+use Rattle.accountability.proofs.Weights.{weight_both, weight_within, weight_listed, list_any-Has, weight_once, sum_once}
 
 -- ---- votes on a block
 
@@ -207,12 +207,31 @@ accused c e a b named g q apart ma mb conflict all =
 pub named_once : EvidenceNamesEachHeaderOnce
 named_once e is = apart_in e.headers is.headers_rise
 
-pub more_than_f : AConflictNamesMoreThanF
-more_than_f e a b named committee is ma mb conflict all =
-    let bytes = e.committee in
-    let size = (size_of bytes committee).n in
-    let t = weight_ones (committee_of bytes).size in
-    let s = sum_ones named in
-    let m = weight_listed counts_once named (committee_of bytes).size in
-    let k = accused (committee_of bytes) e a b named (record { view = refl; parent_view = refl }) (omega arith) (named_once e is) ma mb conflict all in
+-- a quorum has more than two thirds: it is the least such weight
+two_thirds : (w : ℕ) → 2 * w < 3 * (2 * w / 3 + 1)
+two_thirds w = omega arith
+
+pub accused_in_evidence : EvidenceOfAConflictAccusesMoreThanAThird
+accused_in_evidence e a b named is ma mb conflict all =
+    accused (committee_of e.committee) e a b named (record { view = refl; parent_view = refl }) (two_thirds (total_of e.committee)) (named_once e is) ma mb conflict all
+
+-- ---- replicas that count once
+
+once : (committee : List ℕ) → has_weights committee ≡ false → (r : ℕ) → weight_at committee r ≡ 1
+unfolding weight_at
+once committee plain r = rw plain refl
+
+pub third_of_once : AThirdIsMoreThanF
+third_of_once committee culprits f plain size third =
+    let w = weight_at committee in
+    let one = once committee plain in
+    let total = weight_once w one (n_of committee) in
+    let listed = weight_listed w culprits (n_of committee) in
+    let count = sum_once w one culprits in
     omega arith
+
+pub quorum_of_once : AQuorumOfOnceIsTwoFPlusOne
+quorum_of_once committee f plain size =
+    let one = once committee plain in
+    let total = weight_once (weight_at committee) one (n_of committee) in
+    (omega arith, one)

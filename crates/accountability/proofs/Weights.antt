@@ -4,7 +4,7 @@ use Rattle.std.specs.List.{list_any, sum_by}
 use Rattle.std.proofs.lemmas.Bool.{or_cases, eq-eqb, ne_eqb, cases_eq, false≢true}
 use Rattle.std.proofs.lemmas.List.Sums.{sum_by-cons}
 use Rattle.blocks.proofs.Members.{Has}
-use Rattle.blocks.specs.Weights.{weight_of, is_any, is_among, counts_once}
+use Rattle.blocks.specs.Weights.{weight_of, is_any, is_among}
 
 both_at : (a b : Bool) (w : ℕ) → cond a w 0 + cond b w 0 ≤ w + cond (a && b) w 0
 both_at true true w = omega arith
@@ -95,11 +95,12 @@ list_any-Has p (x ∷ xs) e =
       | inr t ↦ let r = list_any-Has p xs t in (r.0, inr r.1, r.2)
     ]
 
--- weights of one count
-pub weight_ones : (n : ℕ) → weight_of counts_once is_any n ≡ n
-weight_ones zero = refl
-weight_ones (suc n) = let k = weight_ones n in omega arith
+-- ---- weights of 1
 
-pub sum_ones : (xs : List ℕ) → sum_by counts_once xs ≡ length xs
-sum_ones [] = refl
-sum_ones (x ∷ xs) = let k = sum_ones xs in let s = sum_by-cons counts_once x xs in omega arith
+pub weight_once : (w : ℕ → ℕ) → ((r : ℕ) → w r ≡ 1) → (n : ℕ) → weight_of w is_any n ≡ n
+weight_once w one zero = refl
+weight_once w one (suc n) = let k = weight_once w one n in let o = one n in omega arith
+
+pub sum_once : (w : ℕ → ℕ) → ((r : ℕ) → w r ≡ 1) → (xs : List ℕ) → sum_by w xs ≡ length xs
+sum_once w one [] = refl
+sum_once w one (x ∷ xs) = let k = sum_once w one xs in let o = one x in let s = sum_by-cons w x xs in omega arith

@@ -90,6 +90,16 @@ impl<'a, R: Threads + Sync> Site<'a, R> {
         &self.committee
     }
 
+    // How many replicas may be faulty: they are 3f + 1, and count once.
+    fn faulty(&self) -> u16 {
+        self.committee.n() / 3
+    }
+
+    // How many replicas make a quorum.
+    fn quorum(&self) -> u16 {
+        self.committee.n() - self.faulty()
+    }
+
     /// The planned ledger.
     pub fn ledger(&self, plan: Plan) -> io::Result<Ledger> {
         match plan.kind {
@@ -124,7 +134,7 @@ impl<'a, R: Threads + Sync> Site<'a, R> {
             headers.push(parent)?;
         }
         let votes = self.votes(self.keys.trees().len(), &headers)?;
-        let quorum = self.committee.quorum();
+        let quorum = self.quorum();
         let mut blocks = Vec::new(alloc);
         for (place, block) in headers.iter().enumerate() {
             blocks.push(Certified {
@@ -168,12 +178,12 @@ impl<'a, R: Threads + Sync> Site<'a, R> {
         let left_view = u64::from(blocks) + 1;
         let left = self.stretch(fork, left_view, BRANCH, 0)?;
         let right_view = left_view + u64::from(BRANCH);
-        let right = self.stretch(fork, right_view, BRANCH, self.committee.f())?;
+        let right = self.stretch(fork, right_view, BRANCH, self.faulty())?;
         let mut logs = Vec::new(self.alloc);
         for replica in 0..self.committee.n() {
             let mut export = Export::new(self.alloc)?;
             trunk.put(&genesis, replica, &mut export)?;
-            let branch = if replica < self.committee.quorum() {
+            let branch = if replica < self.quorum() {
                 &left
             } else {
                 &right
@@ -231,7 +241,7 @@ impl<'a, R: Threads + Sync> Site<'a, R> {
         let ([first, second], [_, vote]) = (blocks.as_slice(), votes.of(0)) else {
             return Err(refused());
         };
-        let quorum = self.committee.quorum();
+        let quorum = self.quorum();
         let bad = votes.certificate(self.alloc, &first.block, 1, 0, quorum)?;
         let mut export = Export::new(self.alloc)?;
         for _ in 0..copies {

@@ -29,8 +29,8 @@ const CHAIN: &[u8; 32] =
 const A1: &[u8; 32] =
     b"\x5b\x52\x6f\x8f\xfa\x3d\x66\x24\x9b\x11\xba\x84\x31\xf9\xd9\x60\xb0\x8a\xad\x60\xe3\x3b\x28\x8a\xee\xf2\xd1\x1f\x58\xc1\xc9\x38";
 
-// The public key of a fixture: its key id is 16 bytes of its number.
-fn key(r: u8) -> [u8; PUBLIC_KEY_LEN]
+/// The public key of a fixture: its key id is 16 bytes of its number.
+pub fn key(r: u8) -> [u8; PUBLIC_KEY_LEN]
     requires { r < 5 }
 {
     PublicKey {
@@ -101,6 +101,7 @@ fn refusals_as_printed(rt: HostRuntime) -> Result<(), Fail> {
         (CommitteeRefusal::Size, "3 Size"),
         (CommitteeRefusal::Key(2), "4 Key 2"),
         (CommitteeRefusal::SameKey(1, 3), "5 SameKey 1 3"),
+        (CommitteeRefusal::Weight(2), "6 Weight 2"),
     ];
     for (refusal, text) in printed {
         let line = format!(in rt.alloc(); "{refusal}")?;

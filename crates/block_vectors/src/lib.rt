@@ -3,3 +3,5 @@
 
 #[cfg(test)]
 mod header_tests;
+#[cfg(test)]
+mod weight_tests;

@@ -1,9 +1,8 @@
--- Whose votes count, and how many make a quorum. Each replica has a weight, so that what is said here holds
--- of committees whose replicas do not all count the same.
-use Rattle.std.specs.Prelude.{ℕ, zero, suc, ◌+◌, ◌*◌, List, Bool, true, cond, nat_eq}
+-- How much each replica counts, and how much a quorum. A committee is here what these rules need of it, whatever its bytes.
+use Rattle.std.specs.Prelude.{ℕ, zero, suc, ◌+◌, ◌*◌, ◌/◌, ◌<◌, List, Bool, true, cond, nat_eq, nat_lt}
 use Rattle.std.specs.List.{list_any}
 use Rattle.blocks.specs.Headers.{Header}
-use Rattle.blocks.specs.Committees.{f_of, n_of}
+use Rattle.blocks.specs.Committees.{n_of, weight_at}
 use Rattle.blocks.specs.Genesis.{genesis_of}
 
 -- replicas are the numbers below the size
@@ -32,19 +31,19 @@ total_weight c = weight_of c.weight is_any c.size
 
 -- ---- the committee of these bytes
 
--- a replica that counts once
-abbrev pub counts_once : ℕ → ℕ
-counts_once r = 1
+-- the weight of all replicas
+abbrev pub total_of : List ℕ → ℕ
+total_of bytes = weight_of (weight_at bytes) is_any (n_of bytes)
 
--- the weight of a quorum: 2f + 1 of 3f + 1, so that any two quorums share a replica that is not faulty
+-- the weight of a quorum, the least above two thirds of all: so the replicas that any two quorums share have more than a
+-- third. Of 3f + 1 replicas of weight 1 it is 2f + 1
 abbrev pub quorum_of : List ℕ → ℕ
-quorum_of bytes = 2 * f_of bytes + 1
+quorum_of bytes = 2 * total_of bytes / 3 + 1
 
--- each replica counts once
 abbrev pub committee_of : List ℕ → Committee
 committee_of bytes = record {
   genesis = genesis_of bytes;
   size = n_of bytes;
-  weight = counts_once;
+  weight = weight_at bytes;
   quorum = quorum_of bytes;
 }

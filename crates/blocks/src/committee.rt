@@ -1,13 +1,13 @@
 //! Committees.
 
-ghost use Rattle.std.specs.Prelude.{◌≡◌, ◌+◌, ◌*◌, ◌^◌, ◌<◌, ◌≤◌, IfOk, MatchResult, length, slice_get};
+ghost use Rattle.std.specs.Prelude.{◌≡◌, ◌+◌, ◌*◌, ◌^◌, ◌++◌, ◌<◌, ◌≤◌, IfOk, IfSome, OnOk, MatchResult, length, slice_get};
 ghost use Rattle.std.specs.Str.{bytes_eq};
 ghost use Rattle.lms_tree.specs.Tree.{key_text};
 ghost use Rattle.wire.specs.Pieces.{AreBytes};
 ghost use Rattle.wire.specs.Refusals.{first_of};
-ghost use Rattle.blocks.specs.CommitteeReading.{is_key, bad_key, twin_of, committee_in, committee_refusal_number};
-ghost use Rattle.blocks.specs.Committees.{IsCommittee, WhereSpelled, committee_text, f_of, n_of, key_at, key_id_at, root_at};
-ghost use Rattle.blocks.specs.Weights.{quorum_of};
+ghost use Rattle.blocks.specs.CommitteeReading.{is_key, bad_key, twin_of, no_weight, has_size, committee_in, committee_refusal_number};
+ghost use Rattle.blocks.specs.Committees.{IsCommittee, WhereSpelled, committee_text, weighted_text, member_text, has_weights, n_of, place_of, weight_at, key_at, key_id_at, root_at};
+ghost use Rattle.blocks.specs.Weights.{total_of, quorum_of, weight_of, is_any};
 ghost use Rattle.blocks.specs.Genesis.{genesis_of, chain_id_of};
 ghost use Rattle.blocks.specs.Headers.{IsGenesis};
 
@@ -16,22 +16,31 @@ use lms_tree::{PUBLIC_KEY_LEN, PublicKey};
 use sha2::{Digest, Sha256};
 use std::alloc::{AllocError, Global};
 use std::marker::Model;
-use wire::{array_at, u16_at};
+use wire::{array_at, u16_at, u32_at};
+
+/// The length of a weight, in bytes.
+const WEIGHT_LEN: usize = 4;
+
+/// The length of a replica's weight and its public key, in bytes.
+const WEIGHTED_LEN: usize = WEIGHT_LEN + PUBLIC_KEY_LEN;
 
 /// Why bytes are no committee, in the order of the tests.
 #[derive(Clone, Copy, Debug, PartialEq, Eq)]
 pub enum CommitteeRefusal {
-    /// 1: there are fewer than 8 bytes, or not 8 and 56 for each key.
+    /// 1: there are fewer than 8 bytes, or not 8 and for each replica 56, or 60 where they begin with `HSC2`.
     Length,
-    /// 2: they do not begin with `HSC1`.
+    /// 2: they begin with neither `HSC1` nor `HSC2`.
     Magic,
-    /// 3: f is not 1 to 10, or there are not 3f + 1 keys.
+    /// 3: f is not 1 to 10, or there are not 3f + 1 replicas; of `HSC2`, what stands for f is not 0, or there are not 4 to
+    /// 31 replicas.
     Size,
     /// 4: the 56 bytes of this replica are no public key, and it is the least such replica.
     Key(u16),
     /// 5: these two replicas have one key. The second is the least replica whose key stands earlier
     /// too, and the first is the earliest that has it.
     SameKey(u16, u16),
+    /// 6: the weight of this replica is 0, and it is the least such replica.
+    Weight(u16),
 }
 
 impl CommitteeRefusal {
@@ -45,8 +54,18 @@ impl CommitteeRefusal {
             CommitteeRefusal::Size => 3,
             CommitteeRefusal::Key(_) => 4,
             CommitteeRefusal::SameKey(_, _) => 5,
+            CommitteeRefusal::Weight(_) => 6,
         }
     }
+}
+
+/// A replica of a committee.
+#[derive(Clone, Copy)]
+pub struct Member {
+    /// How much it counts.
+    pub weight: u32,
+    /// Its public key, as RFC 8554, section 5.3, lays it out.
+    pub key: [u8; PUBLIC_KEY_LEN],
 }
 
 /// A committee, read in place, made by `CommitteeView::parse` alone, which hashes the bytes once.
@@ -55,30 +74,69 @@ impl CommitteeRefusal {
 pub struct CommitteeView<'a> {
     bytes: &'a [u8],
     genesis: NamedHeader,
+    // the weight of all replicas
+    total: u64,
 }
 
 impl<'a> Model for CommitteeView<'a> {
     ghost use Rattle.std.specs.Prelude.{◌≡◌, ℕ, List};
     ghost use Rattle.blocks.specs.Committees.{IsCommittee};
     ghost use Rattle.blocks.specs.Genesis.{genesis_of};
+    ghost use Rattle.blocks.specs.Weights.{total_of};
 
     ghost Value = { List ℕ };
 
     ghost view = { λ v. v.bytes.now };
 
-    ghost invariant = { λ v. IsCommittee v.bytes.now × (v.genesis ≡ genesis_of v.bytes.now) };
+    ghost invariant = { λ v. IsCommittee v.bytes.now × (v.genesis ≡ genesis_of v.bytes.now) × (v.total ≡ total_of v.bytes.now) };
+}
+
+// Whether the format has weights.
+fn has_weights(bytes: &[u8]) -> bool
+    ensures { result ≡ has_weights bytes.now }
+{
+    bytes.starts_with(b"HSC2")
+}
+
+// Where the bytes of replica r begin.
+fn place_of(bytes: &[u8], r: u16) -> usize
+    ensures { result ≡ place_of bytes.now r }
+{
+    let width = if has_weights(bytes) {
+        WEIGHTED_LEN
+    } else {
+        PUBLIC_KEY_LEN
+    };
+    8 + width * r as usize
 }
 
 // The bytes of replica r's key.
 #[tactic(auto, unfolding(crate::specs::Committees::key_at))]
 fn key_at(bytes: &[u8], r: u16) -> &[u8]
-    requires { 64 + 56 * r ≤ length bytes.now }
+    requires { place_of bytes.now (r + 1) ≤ length bytes.now }
     ensures key { result.now ≡ key_at bytes.now r }
     ensures len { length result.now ≡ 56 }
     ensures fit { AreBytes result.now }
 {
-    let at = 8 + PUBLIC_KEY_LEN * r as usize;
+    let at = if has_weights(bytes) {
+        place_of(bytes, r) + WEIGHT_LEN
+    } else {
+        place_of(bytes, r)
+    };
     &bytes[at..at + PUBLIC_KEY_LEN]
+}
+
+// The weight of replica r.
+#[tactic(auto, unfolding(crate::specs::Committees::weight_at))]
+fn weight_at(bytes: &[u8], r: u16) -> u32
+    requires { place_of bytes.now (r + 1) ≤ length bytes.now }
+    ensures { result ≡ weight_at bytes.now r }
+{
+    if has_weights(bytes) {
+        u32_at(bytes, place_of(bytes, r))
+    } else {
+        1
+    }
 }
 
 // Whether 56 bytes are a public key.
@@ -92,7 +150,7 @@ fn is_key(key: &[u8]) -> bool
 // The least replica whose bytes are no public key.
 #[tactic(auto, using(wire::proofs::Firsts::first_none, wire::proofs::Firsts::first_more, wire::proofs::Firsts::first_at))]
 fn bad_key(bytes: &[u8], n: u16) -> Option<CommitteeRefusal>
-    requires { length bytes.now ≡ 8 + 56 * n }
+    requires { place_of bytes.now n ≤ length bytes.now }
     ensures { result ≡ first_of (bad_key bytes.now) n }
 {
     for k in 0..n {
@@ -105,8 +163,8 @@ fn bad_key(bytes: &[u8], n: u16) -> Option<CommitteeRefusal>
 
 // Whether two replicas have one key.
 fn have_one_key(bytes: &[u8], j: u16, k: u16) -> bool
-    requires first { 64 + 56 * j ≤ length bytes.now }
-    requires second { 64 + 56 * k ≤ length bytes.now }
+    requires first { place_of bytes.now (j + 1) ≤ length bytes.now }
+    requires second { place_of bytes.now (k + 1) ≤ length bytes.now }
     ensures { result ≡ bytes_eq (key_at bytes.now j) (key_at bytes.now k) }
 {
     key_at(bytes, j) == key_at(bytes, k)
@@ -115,7 +173,7 @@ fn have_one_key(bytes: &[u8], j: u16, k: u16) -> bool
 // The earliest replica before k that has its key.
 #[tactic(auto, using(wire::proofs::Firsts::first_none, wire::proofs::Firsts::first_more, wire::proofs::Firsts::first_at))]
 fn twin_of(bytes: &[u8], k: u16) -> Option<CommitteeRefusal>
-    requires { 64 + 56 * k ≤ length bytes.now }
+    requires { place_of bytes.now (k + 1) ≤ length bytes.now }
     ensures { result ≡ twin_of bytes.now k }
 {
     for j in 0..k {
@@ -129,7 +187,7 @@ fn twin_of(bytes: &[u8], k: u16) -> Option<CommitteeRefusal>
 // The least replica whose key stands earlier too.
 #[tactic(auto, using(wire::proofs::Firsts::first_none, wire::proofs::Firsts::first_more, wire::proofs::Firsts::first_at))]
 fn first_twin(bytes: &[u8], n: u16) -> Option<CommitteeRefusal>
-    requires { length bytes.now ≡ 8 + 56 * n }
+    requires { place_of bytes.now n ≤ length bytes.now }
     ensures { result ≡ first_of (twin_of bytes.now) n }
 {
     for k in 0..n {
@@ -140,30 +198,72 @@ fn first_twin(bytes: &[u8], n: u16) -> Option<CommitteeRefusal>
     None
 }
 
-// The tests of a committee in their order. A text may name up to 65,535 keys before their number is
+// The least replica that has no weight.
+#[tactic(auto, using(wire::proofs::Firsts::first_none, wire::proofs::Firsts::first_more, wire::proofs::Firsts::first_at))]
+fn first_without_weight(bytes: &[u8], n: u16) -> Option<CommitteeRefusal>
+    requires { place_of bytes.now n ≤ length bytes.now }
+    ensures { result ≡ first_of (no_weight bytes.now) n }
+{
+    for k in 0..n {
+        if weight_at(bytes, k) == 0 {
+            return Some(CommitteeRefusal::Weight(k));
+        }
+    }
+    None
+}
+
+// Whether there are as many replicas as the format allows.
+fn has_size(bytes: &[u8]) -> bool
+    requires { 8 ≤ length bytes.now }
+    ensures { result ≡ has_size bytes.now }
+{
+    let f = u16_at(bytes, 4);
+    let n = u16_at(bytes, 6);
+    if has_weights(bytes) {
+        f == 0 && 4 <= n && n <= 31
+    } else {
+        1 <= f && f <= 10 && n == 3 * f + 1
+    }
+}
+
+// The tests of a committee in their order. A text may name up to 65,535 replicas before their number is
 // judged.
 #[tactic(auto, unfolding(crate::specs::CommitteeReading::committee_in))]
 fn judge(bytes: &[u8]) -> Result<(), CommitteeRefusal>
     ensures { MatchResult result (λ _. committee_in bytes.now ≡ Ok bytes.now) (λ refusal. committee_in bytes.now ≡ Err refusal) }
 {
-    if bytes.len() < 8 || bytes.len() != 8 + PUBLIC_KEY_LEN * u16_at(bytes, 6) as usize {
+    if bytes.len() < 8 || bytes.len() != place_of(bytes, u16_at(bytes, 6)) {
         return Err(CommitteeRefusal::Length);
     }
-    if !bytes.starts_with(b"HSC1") {
+    if !has_weights(bytes) && !bytes.starts_with(b"HSC1") {
         return Err(CommitteeRefusal::Magic);
     }
-    let f = u16_at(bytes, 4);
-    let n = u16_at(bytes, 6);
-    if !(1 <= f && f <= 10 && n == 3 * f + 1) {
+    if !has_size(bytes) {
         return Err(CommitteeRefusal::Size);
     }
+    let n = u16_at(bytes, 6);
     if let Some(refusal) = bad_key(bytes, n) {
         return Err(refusal);
     }
     if let Some(refusal) = first_twin(bytes, n) {
         return Err(refusal);
     }
+    if let Some(refusal) = first_without_weight(bytes, n) {
+        return Err(refusal);
+    }
     Ok(())
+}
+
+// The weight of the first n replicas.
+fn total_of(bytes: &[u8], n: u16) -> u64
+    requires { place_of bytes.now n ≤ length bytes.now }
+    ensures { result ≡ weight_of (weight_at bytes.now) is_any n }
+{
+    let mut total = 0;
+    for r in 0..n {
+        total += u64::from(weight_at(bytes, r));
+    }
+    total
 }
 
 // The header in which each chain of the committee of these bytes ends.
@@ -181,15 +281,16 @@ fn genesis_of(bytes: &[u8]) -> Header
 }
 
 impl<'a> CommitteeView<'a> {
-    /// The committee that the bytes spell: `HSC1`, f (2 bytes at 4), n (2 at 6) and n public keys of 56
-    /// bytes each (from 8), numbers with the highest byte first. Nothing is copied. Refused in this
-    /// order: Length, Magic, Size, Key, SameKey.
+    /// The committee that the bytes spell, in one of two formats, numbers with the highest byte first. `HSC1`: f (2 bytes at
+    /// 4), n (2 at 6), which is 3f + 1, and n public keys of 56 bytes each (from 8); each replica has the weight 1. `HSC2`: 0
+    /// (2 bytes at 4), n (2 at 6), which is 4 to 31, and n times a weight of at least 1 (4 bytes) and a public key of 56.
+    /// Nothing is copied. Refused in this order: Length, Magic, Size, Key, SameKey, Weight.
     pub fn parse(bytes: &'a [u8]) -> Result<CommitteeView<'a>, CommitteeRefusal>
         // What is read is spelled so.
         ensures found { IfOk result (λ v. (v ≡ bytes.now) × IsCommittee bytes.now) }
 
         // What is spelled so is read.
-        ensures only { WhereSpelled bytes.now (λ f keys. result ≡ Ok bytes.now) }
+        ensures only { WhereSpelled bytes.now (λ members. result ≡ Ok bytes.now) }
 
         // The first test that fails refuses.
         ensures first_refusal { result ≡ committee_in bytes.now }
@@ -198,6 +299,7 @@ impl<'a> CommitteeView<'a> {
         Ok(CommitteeView {
             bytes,
             genesis: NamedHeader::of(genesis_of(bytes)),
+            total: total_of(bytes, u16_at(bytes, 6)),
         })
     }
 
@@ -209,6 +311,7 @@ impl<'a> CommitteeView<'a> {
         CommitteeView {
             bytes: self.bytes,
             genesis: self.genesis,
+            total: self.total,
         }
     }
 
@@ -220,39 +323,56 @@ impl<'a> CommitteeView<'a> {
         self.bytes
     }
 
-    /// How many replicas may be faulty, 1 to 10.
-    pub fn f(&self) -> u16
-        ensures value { result ≡ f_of self.now }
-        ensures as_written { WhereSpelled self.now (λ f keys. result ≡ f) }
-        ensures least { 1 ≤ result }
-        ensures most { result ≤ 10 }
-    {
-        u16_at(self.bytes, 4)
-    }
-
-    /// How many replicas there are, 3f + 1, so 4 to 31.
+    /// How many replicas there are, 4 to 31; where the format has no weights, 3f + 1 of which f may be faulty.
     pub fn n(&self) -> u16
         ensures value { result ≡ n_of self.now }
-        ensures as_written { WhereSpelled self.now (λ f keys. result ≡ length keys) }
-        ensures size { result ≡ 3 * f_of self.now + 1 }
+        ensures as_written { WhereSpelled self.now (λ members. result ≡ length members) }
+        ensures least { 4 ≤ result }
         ensures most { result ≤ 31 }
     {
         u16_at(self.bytes, 6)
     }
 
-    /// How much weight a quorum has: 2f + 1, where each replica counts once.
-    pub fn quorum(&self) -> u16
-        ensures value { result ≡ quorum_of self.now }
-        ensures few { n_of self.now ≤ 31 }
+    /// Whether the format has weights. Where it has none, each replica has the weight 1.
+    pub fn has_weights(&self) -> bool
+        ensures { result ≡ has_weights self.now }
     {
-        self.n() - self.f()
+        has_weights(self.bytes)
+    }
+
+    /// How much replica `r` counts, which must be below `n`.
+    pub fn weight(&self, r: u16) -> u32
+        requires { r < n_of self.now }
+        ensures value { result ≡ weight_at self.now r }
+        ensures as_written { WhereSpelled self.now (λ members. IfSome (slice_get members r) (λ m. result ≡ m.weight)) }
+        ensures least { 1 ≤ result }
+    {
+        weight_at(self.bytes, r)
+    }
+
+    /// How much all replicas count together, below 2^37.
+    pub fn total(&self) -> u64
+        ensures value { result ≡ total_of self.now }
+        ensures most { result < 2 ^ 37 }
+    {
+        self.total
+    }
+
+    /// How much a quorum counts: the least above two thirds of the weight of all replicas. Of 3f + 1 replicas of weight 1 it
+    /// is 2f + 1.
+    pub fn quorum(&self) -> u64
+        ensures value { result ≡ quorum_of self.now }
+        ensures most { result < 2 ^ 37 }
+        ensures is_committee { IsCommittee self.now }
+    {
+        2 * self.total / 3 + 1
     }
 
     /// The public key of replica `r`, which must be below `n`.
     pub fn key(&self, r: u16) -> PublicKey
         requires { r < n_of self.now }
         ensures text { key_text result.key_id result.root ≡ key_at self.now r }
-        ensures as_written { WhereSpelled self.now (λ f keys. slice_get keys r ≡ Some (key_text result.key_id result.root)) }
+        ensures as_written { WhereSpelled self.now (λ members. IfSome (slice_get members r) (λ m. m.key ≡ key_text result.key_id result.root)) }
         ensures key_id { result.key_id ≡ key_id_at self.now r }
         ensures root { result.root ≡ root_at self.now r }
     {
@@ -280,7 +400,7 @@ impl<'a> CommitteeView<'a> {
     }
 }
 
-/// The bytes of a committee with these public keys, of 56 bytes each, in this order; there must be fewer
+/// The bytes of a committee without weights with these public keys, of 56 bytes each, in this order; there must be fewer
 /// than 65,536 of them. They are judged where they are read: `CommitteeView::parse` says whether they are a
 /// committee. Answers an error where memory was refused.
 #[tactic(auto, unfolding(crate::specs::Committees::committee_text))]
@@ -298,6 +418,31 @@ pub fn write_committee(
     text.extend_from_slice(&(keys.len() as u16).to_be_bytes())?;
     for key in keys {
         text.extend_from_slice(key)?;
+    }
+    Ok(text)
+}
+
+// Adds the bytes of a replica with its weight.
+fn put_member(text: &mut Vec<u8>, member: &Member) -> Result<(), AllocError>
+    ensures { OnOk result (text.new.items ≡ text.old.items ++ member_text member.now) }
+{
+    text.extend_from_slice(&member.weight.to_be_bytes())?;
+    text.extend_from_slice(&member.key)
+}
+
+/// The bytes of a committee with weights, of these replicas in this order; there must be fewer than 65,536 of them. They are
+/// judged where they are read: `CommitteeView::parse` says whether they are a committee. Answers an error where memory was
+/// refused.
+#[tactic(auto, unfolding(crate::specs::Committees::weighted_text))]
+pub fn write_weighted_committee(alloc: Global, members: &[Member]) -> Result<Vec<u8>, AllocError>
+    requires { length members.now < 2 ^ 16 }
+    ensures { IfOk result (λ text. text.items ≡ weighted_text members.now) }
+{
+    let mut text = Vec::with_capacity(alloc, 8 + WEIGHTED_LEN * members.len())?;
+    text.extend_from_slice(b"HSC2\0\0")?;
+    text.extend_from_slice(&(members.len() as u16).to_be_bytes())?;
+    for member in members {
+        put_member(&mut text, member)?;
     }
     Ok(text)
 }

@@ -9,7 +9,9 @@ mod laws;
 mod refusal_text;
 
 pub use ballot::Ballot;
-pub use committee::{CommitteeRefusal, CommitteeView, write_committee};
+pub use committee::{
+    CommitteeRefusal, CommitteeView, Member, write_committee, write_weighted_committee,
+};
 pub use header::{HEADER_LEN, Header, HeaderRefusal, Id, NamedHeader};
 pub use laws::{
     a_block_has_one_chain, a_life_is_a_run, a_raise_without_a_vote_is_stored,

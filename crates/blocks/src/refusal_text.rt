@@ -16,6 +16,7 @@ impl Display for CommitteeRefusal {
                 f,
                 "{number} SameKey {first} {second}"
             ),
+            CommitteeRefusal::Weight(replica) => write!(f, "{number} Weight {replica}"),
         }
     }
 }

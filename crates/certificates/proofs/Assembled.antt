@@ -11,7 +11,7 @@ use Rattle.std.proofs.lemmas.List.Sorted.{All-permutation, length_permutation}
 use Rattle.certificates.specs.declared.certificate.Endorsement.{Endorsement}
 use Rattle.certificates.specs.declared.vote.SignedVote.{SignedVote}
 use Rattle.certificates.specs.Certificates.{IsBefore, IsEndorsement}
-use Rattle.certificates.specs.Assembling.{AgreeOnBlock, AreByDifferent, IsVoteFor, endorsement_of}
+use Rattle.certificates.specs.Assembling.{AgreeOnBlock, AreByDifferent, IsVoteFor, endorsement_of, votes_weight}
 use Rattle.certificates.proofs.Permuted.{AllPairs-permutation}
 
 -- ---- one view and id
@@ -111,3 +111,10 @@ passed n view votes made es most known above some is same each rises =
       most = omega arith;
       none = (λ e. absurd (omega arith), λ e. absurd (omega arith));
     }
+
+-- ---- what they weigh
+
+-- no votes weigh nothing
+pub some_votes : (committee : List ℕ) (votes : List SignedVote) → 1 ≤ votes_weight committee votes → 1 ≤ length votes
+some_votes committee [] weighs = absurd (omega arith)
+some_votes committee (v ∷ vs) weighs = omega arith

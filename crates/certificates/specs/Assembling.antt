@@ -1,7 +1,8 @@
 -- A certificate that is put together from votes, and why votes make none.
 use Rattle.std.specs.Prelude.{◌≡◌, ◌≢◌, ◌<◌, ◌≤◌, ℕ, List, length, map}
-use Rattle.std.specs.List.{All, AllPairs}
+use Rattle.std.specs.List.{All, AllPairs, sum_by}
 use Rattle.std.specs.List.Sorted.{IsPermutation}
+use Rattle.blocks.specs.Committees.{weight_at}
 use Rattle.blocks.specs.Weights.{quorum_of}
 use Rattle.certificates.specs.declared.certificate.Endorsement.{Endorsement}
 use Rattle.certificates.specs.declared.vote.SignedVote.{SignedVote}
@@ -22,6 +23,10 @@ AgreeOnBlock votes = AllPairs (λ v w. IsVoteFor v.view v.id w) votes
 abbrev pub AreByDifferent : List SignedVote → Type 0
 AreByDifferent votes = AllPairs (λ v w. v.replica ≢ w.replica) votes
 
+-- the weight of the votes, each with that of its replica
+abbrev pub votes_weight : List ℕ → List SignedVote → ℕ
+votes_weight committee votes = sum_by (λ v. weight_at committee v.replica) votes
+
 -- what a certificate keeps of a vote beside its own view and id
 abbrev pub endorsement_of : SignedVote → Endorsement
 endorsement_of v = record { replica = v.replica; signature = v.signature }
@@ -36,16 +41,16 @@ pub record IsAssembled (votes : List SignedVote) (c : Certificate) : Type 0 wher
 
 -- the votes pass the tests before this one, and fail this one; memory is asked for behind all of them
 abbrev pub IsAssembleRefusal : AssembleRefusal → List ℕ → List SignedVote → Type 0
-IsAssembleRefusal Memory committee votes = AgreeOnBlock votes × (quorum_of committee ≤ length votes) × AreByDifferent votes
+IsAssembleRefusal Memory committee votes = AgreeOnBlock votes × (quorum_of committee ≤ votes_weight committee votes) × AreByDifferent votes
 IsAssembleRefusal Mixed committee votes = AgreeOnBlock votes → ⊥
-IsAssembleRefusal TooFew committee votes = AgreeOnBlock votes × (length votes < quorum_of committee)
+IsAssembleRefusal TooFew committee votes = AgreeOnBlock votes × (votes_weight committee votes < quorum_of committee)
 IsAssembleRefusal Double committee votes =
-    AgreeOnBlock votes × (quorum_of committee ≤ length votes) × (AreByDifferent votes → ⊥)
+    AgreeOnBlock votes × (quorum_of committee ≤ votes_weight committee votes) × (AreByDifferent votes → ⊥)
 
 -- the votes pass each test
 pub record AreAssemblable (committee : List ℕ) (votes : List SignedVote) : Type 0 where
   pub agree : AgreeOnBlock votes
-  pub enough : quorum_of committee ≤ length votes
+  pub enough : quorum_of committee ≤ votes_weight committee votes
   pub different : AreByDifferent votes
 
 -- the number that docs/REFUSALS.md gives a refusal

@@ -1,7 +1,7 @@
 -- When a block's certificate is good and on the block's parent, and why a block is refused.
-use Rattle.std.specs.Prelude.{◌≡◌, ◌⊎◌, ◌<◌, ◌≤◌, ℕ, List, length, take}
-use Rattle.std.specs.List.{All}
-use Rattle.blocks.specs.Committees.{n_of}
+use Rattle.std.specs.Prelude.{◌≡◌, ◌⊎◌, ◌<◌, ◌≤◌, ℕ, List, length, take, nat_lt, if◌then◌else◌}
+use Rattle.std.specs.List.{All, sum_by}
+use Rattle.blocks.specs.Committees.{n_of, weight_at}
 use Rattle.blocks.specs.Weights.{quorum_of}
 use Rattle.blocks.specs.Headers.{Header}
 use Rattle.certificates.specs.declared.certificate.Endorsement.{Endorsement}
@@ -30,9 +30,16 @@ pub record CheckedBlock : Type 0 where
 
 -- ---- refusals
 
--- a quorum to n entries
+-- how much an entry counts: what its replica does, and 1 where the committee has no such replica, which another test finds
+abbrev pub counted : List ℕ → Endorsement → ℕ
+counted committee e = if nat_lt e.replica (n_of committee) then weight_at committee e.replica else 1
+
+abbrev pub counted_weight : List ℕ → Certificate → ℕ
+counted_weight committee c = sum_by (counted committee) c.entries
+
+-- entries of a quorum's weight, n at the most
 pub record IsBetween (committee : List ℕ) (c : Certificate) : Type 0 where
-  pub least : quorum_of committee ≤ length c.entries
+  pub least : quorum_of committee ≤ counted_weight committee c
   pub most : length c.entries ≤ n_of committee
 
 -- as many entries as a good certificate has

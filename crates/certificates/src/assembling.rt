@@ -4,7 +4,8 @@ ghost use Rattle.std.specs.Prelude.{◌≡◌, ◌≢◌, ◌+◌, ◌*◌, ◌<
 ghost use Rattle.std.specs.List.{All};
 ghost use Rattle.std.specs.List.Sorted.{IsNonDecreasingBy, IsPermutation};
 ghost use Rattle.blocks.specs.Committees.{n_of};
-ghost use Rattle.certificates.specs.Assembling.{AreAssemblable, AreByDifferent, IsAssembleRefusal, IsAssembled, IsVoteFor, assemble_refusal_number, endorsement_of};
+ghost use Rattle.blocks.specs.Weights.{quorum_of};
+ghost use Rattle.certificates.specs.Assembling.{AreAssemblable, AreByDifferent, IsAssembleRefusal, IsAssembled, IsVoteFor, assemble_refusal_number, endorsement_of, votes_weight};
 ghost use Rattle.certificates.specs.Certificates.{IsEndorsement};
 ghost use Rattle.certificates.specs.declared.assembling.AssembleRefusal.TheVariants.{Memory};
 
@@ -21,7 +22,7 @@ pub enum AssembleRefusal {
     Memory = 1,
     /// Two votes are for different views or ids.
     Mixed = 2,
-    /// There are fewer than 2f + 1 votes.
+    /// The votes weigh less than a quorum, two votes of one replica twice its weight.
     TooFew = 3,
     /// Two votes are by one replica.
     Double = 4,
@@ -59,6 +60,23 @@ fn are_for(votes: &[SignedVote], block: &Ballot) -> bool
     votes
         .iter()
         .all(|v| v.view == block.view && v.id == block.id)
+}
+
+// Whether the votes weigh as much as a quorum. No more are looked at than it takes.
+fn weigh_enough(committee: &CommitteeView, votes: &[SignedVote]) -> bool
+    requires { All (λ v. v.replica < n_of committee.now) votes.now }
+    ensures enough { IsTrue result ↔ (quorum_of committee.now ≤ votes_weight committee.now votes.now) }
+    ensures few { n_of committee.now ≤ 31 }
+{
+    let quorum = committee.quorum();
+    let mut weight = 0;
+    for vote in votes {
+        if quorum <= weight {
+            return true;
+        }
+        weight += u64::from(committee.weight(vote.replica));
+    }
+    quorum <= weight
 }
 
 // Whether none of the votes is by this replica.
@@ -131,7 +149,7 @@ pub fn assemble(
     if !are_for(votes, &first.ballot()) {
         return Err(AssembleRefusal::Mixed);
     }
-    if votes.len() < committee.quorum() as usize {
+    if !weigh_enough(committee, votes) {
         return Err(AssembleRefusal::TooFew);
     }
     if !are_by_different(votes) {

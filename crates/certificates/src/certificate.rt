@@ -304,7 +304,8 @@ impl Certificate {
 
     // The votes as they are kept.
     pub(crate) fn entries(&self) -> &[Endorsement]
-        ensures { result.now ≡ self.now.entries }
+        ensures value { result.now ≡ self.now.entries }
+        ensures is_certificate { IsCertificate self.now }
     {
         &self.entries
     }

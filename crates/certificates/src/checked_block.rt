@@ -3,7 +3,7 @@
 ghost use Rattle.std.specs.Prelude.{◌≡◌, ◌<◌, ◌↔◌, IsOk, IsTrue, IfErr, IfNone, IfOk, IfSome, OnOk};
 ghost use Rattle.std.specs.List.{All, AllPairs};
 ghost use Rattle.blocks.specs.Committees.{n_of};
-ghost use Rattle.certificates.specs.BlockChecks.{CheckedBlock as CheckedBlockValue, AreInCommittee, HasCount, IsBlockRefusal, IsChecked, IsFirstUnsigned, IsOnParent, IsSignedEntry, block_refusal_number};
+ghost use Rattle.certificates.specs.BlockChecks.{CheckedBlock as CheckedBlockValue, counted, counted_weight, AreInCommittee, HasCount, IsBlockRefusal, IsChecked, IsFirstUnsigned, IsOnParent, IsSignedEntry, block_refusal_number};
 ghost use Rattle.certificates.specs.Certificates.{IsBefore};
 ghost use Rattle.certificates.specs.GoodCertificates.{IsOnGenesis};
 
@@ -17,8 +17,8 @@ use std::marker::Model;
 pub enum BlockRefusal {
     /// 1: the certificate is not on the parent's id and view, or the block's view is 0.
     WrongBlock,
-    /// 2: there are no votes and the parent is not genesis with view 0, or there are some, but fewer than
-    /// 2f + 1 or more than n.
+    /// 2: there are no votes and the parent is not genesis with view 0, or there are some, but more than n, or of less
+    /// weight than a quorum. Here a vote counts 1 where the committee has no such replica.
     Count,
     /// 3: the committee has no replica of some vote's number.
     UnknownReplica,
@@ -75,13 +75,36 @@ fn is_on_genesis(committee: &CommitteeView, certificate: &Certificate) -> bool
     certificate.count() == 0 && certificate.view() == 0 && *certificate.id() == committee.chain()
 }
 
-// Whether the certificate has as many votes as a good one.
+// How much an entry counts.
+fn counted(committee: &CommitteeView, entry: &Endorsement) -> u32
+    ensures { result ≡ counted committee.now entry.now }
+{
+    if entry.replica < committee.n() {
+        committee.weight(entry.replica)
+    } else {
+        1
+    }
+}
+
+// How much all entries count.
+fn counted_weight(committee: &CommitteeView, certificate: &Certificate) -> u64
+    ensures { result ≡ counted_weight committee.now certificate.now }
+{
+    let mut weight = 0;
+    for entry in certificate.entries() {
+        weight += u64::from(counted(committee, entry));
+    }
+    weight
+}
+
+// Whether the certificate has as many votes as a good one, and of as much weight.
 fn has_count(committee: &CommitteeView, certificate: &Certificate) -> bool
     ensures value { IsTrue result ↔ HasCount committee.now certificate.now }
     ensures rising { AllPairs IsBefore certificate.now.entries }
 {
     let count = certificate.count();
-    if committee.quorum() as usize <= count && count <= committee.n() as usize {
+    let weight = counted_weight(committee, certificate);
+    if committee.quorum() <= weight && count <= committee.n() as usize {
         return true;
     }
     is_on_genesis(committee, certificate)
@@ -140,7 +163,7 @@ fn judge<V: Verifier>(
     header: &Header,
     certificate: &Certificate,
 ) -> Result<(), BlockRefusal>
-    ensures ok { OnOk result (IsChecked committee.now header.now certificate.now) }
+    ensures exact { IsOk result ↔ IsChecked committee.now header.now certificate.now }
     ensures first_refusal { IfErr result (λ refusal. IsBlockRefusal refusal committee.now header.now certificate.now) }
 {
     if !is_on_parent(header, certificate) {
@@ -159,8 +182,8 @@ fn judge<V: Verifier>(
 }
 
 /// The block, if its view is above 0 and the certificate is good under the committee and on the parent
-/// that the header names. A good certificate has 2f + 1 to n votes by different replicas, each signed by
-/// its replica, or none and is on genesis. Refused in this order: WrongBlock, Count, UnknownReplica,
+/// that the header names. A good certificate has votes by different replicas, n at the most, that weigh as much as a quorum,
+/// each signed by its replica, or none and is on genesis. Refused in this order: WrongBlock, Count, UnknownReplica,
 /// Signature; a refusal drops the header and the certificate. It costs one signature check for each vote
 /// at the most, takes no memory and does not wait.
 pub fn check_block<'a, V: Verifier>(

@@ -4,11 +4,12 @@ ghost use Rattle.std.specs.Prelude.{◌≡◌, ◌≤◌, ◌↔◌, IfOk, IsTru
 ghost use Rattle.std.specs.List.{AllPairs};
 ghost use Rattle.blocks.specs.Headers.{header_id};
 ghost use Rattle.certificates.specs.VoteOrder.{IsLowerVote};
-ghost use Rattle.blocks.specs.Weights.{committee_of, counts_once, weight_of};
+ghost use Rattle.blocks.specs.Committees.{n_of, weight_at};
+ghost use Rattle.blocks.specs.Weights.{committee_of, weight_of};
 ghost use Rattle.accountability.specs.Commits.{IsCertified, has_vote};
 ghost use Rattle.commit_search.specs.Chosen.{AreThose};
 
-use blocks::NamedHeader;
+use blocks::{CommitteeView, NamedHeader};
 use certificates::SignedVote;
 use evidence::Evidence;
 use shared_values::Shared;
@@ -27,18 +28,18 @@ fn has_vote(votes: &[Shared<SignedVote>], b: &NamedHeader, replica: u16) -> bool
         .is_ok()
 }
 
-// How many of the replicas below n have a vote on this block.
-fn count_voters(votes: &[Shared<SignedVote>], b: &NamedHeader, n: u16) -> u16
+// The weight of the committee's replicas that have a vote on this block.
+fn voters_weight(committee: &CommitteeView, votes: &[Shared<SignedVote>], b: &NamedHeader) -> u64
     requires { AllPairs IsLowerVote votes.now }
-    ensures { result ≡ weight_of counts_once (has_vote votes.now b.now.view (header_id b.now)) n }
+    ensures { result ≡ weight_of (weight_at committee.now) (has_vote votes.now b.now.view (header_id b.now)) (n_of committee.now) }
 {
-    let mut count = 0;
-    for replica in 0..n {
+    let mut weight = 0;
+    for replica in 0..committee.n() {
         if has_vote(votes, b, replica) {
-            count += 1;
+            weight += u64::from(committee.weight(replica));
         }
     }
-    count
+    weight
 }
 
 /// Whether the replicas that voted for the block are a quorum.
@@ -47,8 +48,7 @@ pub fn is_certified(evidence: &Evidence, b: &NamedHeader) -> bool
     ensures { IsTrue result ↔ IsCertified (committee_of evidence.now.committee) evidence.now b.now }
 {
     let committee = evidence.committee();
-    let voters = count_voters(evidence.votes(), b, committee.n());
-    committee.quorum() <= voters
+    committee.quorum() <= voters_weight(&committee, evidence.votes(), b)
 }
 
 /// The certified headers of the evidence by rising id. Memory is refused where they could not be copied.

@@ -7,3 +7,4 @@ pub mod Written
 pub mod NamedPairs
 pub mod LinesMore
 pub mod Named
+pub mod Accused

@@ -5,7 +5,7 @@ use Rattle.hex.specs.Hex.{encode_lower}
 use Rattle.faults.specs.Counting.{one_more}
 use Rattle.streams.specs.Streams.{Wrote, WrotePart}
 use Rattle.blocks.specs.declared.committee.CommitteeRefusal.{CommitteeRefusal}
-use Rattle.blocks.specs.declared.committee.CommitteeRefusal.TheVariants.{Length, Magic, Size, Key, SameKey}
+use Rattle.blocks.specs.declared.committee.CommitteeRefusal.TheVariants.{Length, Magic, Size, Key, SameKey, Weight}
 
 -- whether a byte is printed as it is: no control character, and no backslash
 abbrev pub is_plain : ℕ → Bool
@@ -33,6 +33,7 @@ refusal_text Magic = codes "2 Magic"
 refusal_text Size = codes "3 Size"
 refusal_text (Key k) = codes "4 Key " ++ decimal k
 refusal_text (SameKey j k) = codes "5 SameKey " ++ decimal j ++ codes " " ++ decimal k
+refusal_text (Weight k) = codes "6 Weight " ++ decimal k
 
 -- "fault committee N NAME"
 abbrev pub committee_line : CommitteeRefusal → List ℕ

@@ -38,6 +38,10 @@ pub fn refusal_text(refusal: CommitteeRefusal) -> Line
             line.push(b" ");
             line.push(Buffer::new().format(second).as_bytes());
         }
+        CommitteeRefusal::Weight(replica) => {
+            line.push(b"6 Weight ");
+            line.push(Buffer::new().format(replica).as_bytes());
+        }
     }
     line
 }

@@ -2,13 +2,12 @@
 use Rattle.std.proofs.Common.{◌≡◌, ◌≤◌, ℕ, suc, Result, Ok, Err, OnOk, ◌+◌, ◌<◌, List, [], ◌∷◌, ◌++◌, length, take, get_or, refl, sym, ap, ◌∙◌, subst, arith, add-one, append_assoc, codes, lit≤}
 use Rattle.std.proofs.Math.Seq.{take-suc}
 use Rattle.std.proofs.lemmas.List.{append-nil, length-take-le, take-take}
-use Rattle.blocks.specs.Committees.{key_id_at}
 use Rattle.hex.specs.Hex.{encode_lower}
-use Rattle.show_command.specs.Lines.{replica_line, replica_lines, seed_line}
+use Rattle.show_command.specs.Lines.{member_line, replica_lines, seed_line}
 use Rattle.show_command.specs.Series.{AddsText, AreOf}
 use Rattle.show_command.specs.declared.mark.Mark.{Mark}
 
-pub replicas_more : (committee : List ℕ) (r : ℕ) → replica_lines committee (r + 1) ≡ replica_lines committee r ++ replica_line r (key_id_at committee r)
+pub replicas_more : (committee : List ℕ) (r : ℕ) → replica_lines committee (r + 1) ≡ replica_lines committee r ++ member_line committee r
 replicas_more committee r = rw add-one refl
 
 -- one item more behind those of a list
@@ -35,6 +34,14 @@ pub five_pieces : (old a b c d e t1 t2 t3 t4 t5 : List ℕ) → t1 ≡ old ++ a 
 five_pieces old a b c d e t1 t2 t3 t4 t5 one two three four five =
     let joined : ((((old ++ a) ++ b) ++ c) ++ d) ++ e ≡ old ++ (a ++ b ++ c ++ d ++ e) = simp append_assoc in
     let whole : t5 ≡ ((((old ++ a) ++ b) ++ c) ++ d) ++ e = cc in
+    whole ∙ joined
+
+-- two more
+pub seven_pieces : (old a b c d e f g t1 t2 t3 t4 t5 t6 t7 : List ℕ) → t1 ≡ old ++ a → t2 ≡ t1 ++ b → t3 ≡ t2 ++ c → t4 ≡ t3 ++ d → t5 ≡ t4 ++ e
+    → t6 ≡ t5 ++ f → t7 ≡ t6 ++ g → t7 ≡ old ++ (a ++ b ++ c ++ d ++ e ++ f ++ g)
+seven_pieces old a b c d e f g t1 t2 t3 t4 t5 t6 t7 one two three four five six seven =
+    let joined : ((((((old ++ a) ++ b) ++ c) ++ d) ++ e) ++ f) ++ g ≡ old ++ (a ++ b ++ c ++ d ++ e ++ f ++ g) = simp append_assoc in
+    let whole : t7 ≡ ((((((old ++ a) ++ b) ++ c) ++ d) ++ e) ++ f) ++ g = cc in
     whole ∙ joined
 
 pub on_ok : {T E : Type 0} (r : Result T E) (P Q : Type 0) → OnOk r P → (P → Q) → OnOk r Q

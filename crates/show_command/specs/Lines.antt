@@ -1,10 +1,11 @@
 -- The lines that are printed, as docs/hs_show.md lays them out. Each ends with a line feed.
-use Rattle.std.specs.Prelude.{ℕ, zero, suc, ◌==◌, ◌++◌, List, [], length, count_by, codes, decimal, Option, None, Some, Result, Ok, Err, if◌then◌else◌}
+use Rattle.std.specs.Prelude.{ℕ, zero, suc, ◌/◌, ◌==◌, ◌++◌, List, [], length, count_by, codes, decimal, Option, None, Some, Result, Ok, Err, if◌then◌else◌}
 use Rattle.hex.specs.Hex.{encode_lower}
 use Rattle.wire.specs.Pieces.{piece, number_at}
 use Rattle.blocks.specs.Headers.{Header, header_id}
-use Rattle.blocks.specs.Committees.{f_of, n_of, key_id_at}
+use Rattle.blocks.specs.Committees.{has_weights, n_of, weight_at, key_id_at}
 use Rattle.blocks.specs.Genesis.{chain_id_of}
+use Rattle.blocks.specs.Weights.{total_of, quorum_of}
 use Rattle.blocks.specs.declared.committee.CommitteeRefusal.{CommitteeRefusal}
 use Rattle.verdict_format.specs.Verdicts.{VotedHeaders, chain_in, earlier_in, headers_in, verdict_kind_in, later_in, replica_in}
 use Rattle.printed_lines.specs.Printed.{printed, refusal_text}
@@ -41,18 +42,41 @@ chain_line chain = codes "chain " ++ encode_lower chain ++ codes "\n"
 unfoldable pub size_line : ℕ → ℕ → List ℕ
 size_line f n = codes "committee f " ++ decimal f ++ codes " n " ++ decimal n ++ codes "\n"
 
+-- "committee n N weight W quorum Q"
+unfoldable pub weighted_size_line : ℕ → ℕ → ℕ → List ℕ
+weighted_size_line n total quorum =
+    codes "committee n " ++ decimal n ++ codes " weight " ++ decimal total ++ codes " quorum " ++ decimal quorum ++ codes "\n"
+
+-- of 3f + 1 replicas f, where the format has no weights
+abbrev pub first_line : List ℕ → List ℕ
+first_line committee =
+    if has_weights committee
+    then weighted_size_line (n_of committee) (total_of committee) (quorum_of committee)
+    else size_line (n_of committee / 3) (n_of committee)
+
 -- "replica R key ID"
 unfoldable pub replica_line : ℕ → List ℕ → List ℕ
 replica_line r id = codes "replica " ++ decimal r ++ codes " key " ++ encode_lower id ++ codes "\n"
 
+-- "replica R weight S key ID"
+unfoldable pub weighted_replica_line : ℕ → ℕ → List ℕ → List ℕ
+weighted_replica_line r weight id =
+    codes "replica " ++ decimal r ++ codes " weight " ++ decimal weight ++ codes " key " ++ encode_lower id ++ codes "\n"
+
+abbrev pub member_line : List ℕ → ℕ → List ℕ
+member_line committee r =
+    if has_weights committee
+    then weighted_replica_line r (weight_at committee r) (key_id_at committee r)
+    else replica_line r (key_id_at committee r)
+
 -- of the first replicas, so many
 abbrev pub replica_lines : List ℕ → ℕ → List ℕ
 replica_lines committee zero = []
-replica_lines committee (suc r) = replica_lines committee r ++ replica_line r (key_id_at committee r)
+replica_lines committee (suc r) = replica_lines committee r ++ member_line committee r
 
 abbrev pub committee_lines : List ℕ → List ℕ
 committee_lines committee =
-    size_line (f_of committee) (n_of committee) ++ chain_line (chain_id_of committee) ++ replica_lines committee (n_of committee)
+    first_line committee ++ chain_line (chain_id_of committee) ++ replica_lines committee (n_of committee)
 
 -- "refused committee WHY"
 unfoldable pub refused_committee_line : List ℕ → List ℕ

@@ -1,9 +1,9 @@
 //! Committees and keys as lines.
 
-ghost use Rattle.std.specs.Prelude.{◌≡◌, ◌++◌, OnOk, decimal, length};
+ghost use Rattle.std.specs.Prelude.{◌≡◌, ◌<◌, ◌++◌, OnOk, decimal, length};
 ghost use Rattle.hex.specs.Hex.{encode_lower};
 ghost use Rattle.blocks.specs.Committees.{n_of};
-ghost use Rattle.show_command.specs.Lines.{chain_line, committee_lines, shown_key_line, refused_committee_line, replica_line, replica_lines, seed_line, size_line};
+ghost use Rattle.show_command.specs.Lines.{chain_line, committee_lines, first_line, member_line, shown_key_line, refused_committee_line, replica_line, replica_lines, seed_line, size_line, weighted_replica_line, weighted_size_line};
 
 use crate::digits::{put_id, put_key_id, put_number};
 use blocks::{CommitteeView, Id};
@@ -15,9 +15,38 @@ use wire::{append, array_at};
 pub(crate) fn put_committee(text: &mut Vec<u8>, committee: &CommitteeView) -> Result<(), AllocError>
     ensures { OnOk result (text.new.items ≡ text.old.items ++ committee_lines committee.now) }
 {
-    put_size(text, committee.f(), committee.n())?;
+    put_first_line(text, committee)?;
     put_chain(text, &committee.chain())?;
     put_replicas(text, committee)
+}
+
+fn put_first_line(text: &mut Vec<u8>, committee: &CommitteeView) -> Result<(), AllocError>
+    ensures { OnOk result (text.new.items ≡ text.old.items ++ first_line committee.now) }
+{
+    let n = committee.n();
+    if committee.has_weights() {
+        put_weighted_size(text, n, committee.total(), committee.quorum())
+    } else {
+        put_size(text, n / 3, n)
+    }
+}
+
+#[tactic(auto, unfolding(crate::specs::Lines::weighted_size_line))]
+fn put_weighted_size(
+    text: &mut Vec<u8>,
+    n: u16,
+    total: u64,
+    quorum: u64,
+) -> Result<(), AllocError>
+    ensures { OnOk result (text.new.items ≡ text.old.items ++ weighted_size_line n total quorum) }
+{
+    append(text, b"committee n ")?;
+    put_number(text, n)?;
+    append(text, b" weight ")?;
+    put_number(text, total)?;
+    append(text, b" quorum ")?;
+    put_number(text, quorum)?;
+    append(text, b"\n")
 }
 
 #[tactic(auto, unfolding(crate::specs::Lines::size_line))]
@@ -62,11 +91,41 @@ fn put_replica(text: &mut Vec<u8>, r: u16, key_id: &[u8; 16]) -> Result<(), Allo
     append(text, b"\n")
 }
 
+#[tactic(auto, unfolding(crate::specs::Lines::weighted_replica_line))]
+fn put_weighted_replica(
+    text: &mut Vec<u8>,
+    r: u16,
+    weight: u32,
+    key_id: &[u8; 16],
+) -> Result<(), AllocError>
+    ensures { OnOk result (text.new.items ≡ text.old.items ++ weighted_replica_line r weight key_id.now) }
+{
+    append(text, b"replica ")?;
+    put_number(text, r)?;
+    append(text, b" weight ")?;
+    put_number(text, weight)?;
+    append(text, b" key ")?;
+    put_key_id(text, key_id)?;
+    append(text, b"\n")
+}
+
+fn put_member(text: &mut Vec<u8>, committee: &CommitteeView, r: u16) -> Result<(), AllocError>
+    requires { r < n_of committee.now }
+    ensures { OnOk result (text.new.items ≡ text.old.items ++ member_line committee.now r) }
+{
+    let key = committee.key(r);
+    if committee.has_weights() {
+        put_weighted_replica(text, r, committee.weight(r), &key.key_id)
+    } else {
+        put_replica(text, r, &key.key_id)
+    }
+}
+
 fn put_replicas(text: &mut Vec<u8>, committee: &CommitteeView) -> Result<(), AllocError>
     ensures { OnOk result (text.new.items ≡ text.old.items ++ replica_lines committee.now (n_of committee.now)) }
 {
     for r in 0..committee.n() {
-        put_replica(text, r, &committee.key(r).key_id)?;
+        put_member(text, committee, r)?;
     }
     Ok(())
 }

@@ -13,7 +13,7 @@ const SEED_LEN: usize = 48;
 pub(crate) enum Kind {
     /// 48 bytes, whatever they are: nothing else of the bytes is looked at.
     Seed,
-    /// They begin with `HSC1`.
+    /// They begin with `HSC1` or `HSC2`.
     Committee,
     /// They begin with `HSX1`.
     Verdict,
@@ -40,7 +40,7 @@ pub(crate) fn kind_of(bytes: &[u8]) -> Kind
 {
     if bytes.len() == SEED_LEN {
         Kind::Seed
-    } else if bytes.starts_with(b"HSC1") {
+    } else if bytes.starts_with(b"HSC1") || bytes.starts_with(b"HSC2") {
         Kind::Committee
     } else if bytes.starts_with(b"HSX1") {
         Kind::Verdict

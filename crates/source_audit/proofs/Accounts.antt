@@ -4,7 +4,7 @@ use Rattle.std.specs.Prelude.{IfErr, IfOk, IsErrAnd, IsSome, MatchResult}
 use Rattle.std.specs.List.{All, AllZip, Contains, list_any}
 use Rattle.std.proofs.lemmas.List.Elements.{Contains-append_left}
 use Rattle.blocks.specs.Chains.{Conflict, IsAncestor, IsChainIn, IsLinked}
-use Rattle.blocks.specs.Committees.{IsCommittee, f_of}
+use Rattle.blocks.specs.Committees.{IsCommittee}
 use Rattle.blocks.specs.Genesis.{genesis_of}
 use Rattle.blocks.specs.Headers.{Header, header_id}
 use Rattle.blocks.specs.Weights.{Committee, committee_of}
@@ -25,9 +25,9 @@ use Rattle.parallel_verify.specs.Collections.{IsEvidenceOfSources, MayGive}
 use Rattle.parallel_verify.specs.declared.source.Source.{Source}
 use Rattle.accountability.specs.Commits.{IsCertified, IsProvedCommit, Stands, has_vote}
 use Rattle.accountability.proofs.Weights.{list_any-Has, weight_more}
-use Rattle.culprit_search.specs.Reports.{IsAudit, IsConflictOf, Report}
+use Rattle.culprit_search.specs.Reports.{AreMoreThanAThird, IsAudit, IsConflictOf, Report}
 use Rattle.culprit_search.specs.declared.report.Conflict.{Conflict as ConflictOf}
-use Rattle.source_audit.specs.Runs.{AccuseMoreThanF, HaveFailed, IsAccounted, IsAuditRun, IsCompleteSource, IsMemoryOrSink, IsRunRefusal, ProveAConflict}
+use Rattle.source_audit.specs.Runs.{AccusesMoreThanAThird, HaveFailed, IsAccounted, IsAuditRun, IsCompleteSource, IsMemoryOrSink, IsRunRefusal, ProveAConflict}
 use Rattle.source_audit.specs.declared.run_error.RunError.{RunError}
 use Rattle.source_audit.specs.declared.run_error.RunError.TheVariants.{Memory, Committee as NoCommittee, Collision, Sink}
 
@@ -207,17 +207,17 @@ module _ (committee : List ℕ) (ls ws : List ReceivedLog) (zip : AllZip IsCutOf
       (subst (λ (k : List ℕ). IsProvedCommit (committee_of k) e prove.second) under (proved (committee_of committee) w e hs vs prove.second prove.second_proved))
       (subst (λ (k : List ℕ). Conflict e.headers (genesis_of k) prove.first prove.second) under (conflict_in w.headers e.headers hs (genesis_of committee) prove.first prove.second prove.conflict))
 
-  pub accounted : (e : Evidence) (r : Report) → IsEvidenceOf committee ls e → IsAudit e r → (IsSome r.conflict → f_of e.committee + 1 ≤ length r.verdicts) → All (IsProof e.committee) r.verdicts → IsAccounted committee e r
+  pub accounted : (e : Evidence) (r : Report) → IsEvidenceOf committee ls e → IsAudit e r → (IsSome r.conflict → AreMoreThanAThird e.committee r) → All (IsProof e.committee) r.verdicts → IsAccounted committee e r
   accounted e r of audit many proofs =
       elim (failed_or_same ls ws zip) as (λ _. IsAccounted committee e r) [
         | inl x ↦ inl (failed_source e of x.0 x.1 x.2)
-        | inr same ↦ inr (subst (λ (k : List ℕ). AccuseMoreThanF k r.verdicts) of.under (record { many = many (same_conflict e r of audit same); apart = audit.verdicts.rising; proofs = proofs }))
+        | inr same ↦ inr (subst (λ (k : List ℕ). AccusesMoreThanAThird k r) of.under (record { many = many (same_conflict e r of audit same); weight = audit.weight; apart = audit.verdicts.rising; proofs = proofs }))
       ]
 
 module _ {S : Type 0} (Gives Complete : S → ReceivedLog → Type 0) (step : (s : S) (l w : ReceivedLog) → Gives s l → Complete s w → IsCutOf l w) (committee : List ℕ) (ss : List S) (ws : List ReceivedLog) (complete : AllZip Complete ss ws) (prove : ProveAConflict committee ws) where
   -- a report
   pub run_accounted : (Caused : S → SourceReport → Type 0) (Wrote : Evidence → Report → Type 0) (e : Evidence) (result : Result Report RunError) → IsCommittee committee → IsEvidenceOfSources Gives committee ss e → AllZip Caused ss e.sources
-      → IfOk result (IsAudit e) → IfOk result (λ r. IsSome r.conflict → f_of e.committee + 1 ≤ length r.verdicts) → IfOk result (λ r. All (IsProof e.committee) r.verdicts) → IfOk result (Wrote e) → IfErr result IsMemoryOrSink
+      → IfOk result (IsAudit e) → IfOk result (λ r. IsSome r.conflict → AreMoreThanAThird e.committee r) → IfOk result (λ r. All (IsProof e.committee) r.verdicts) → IfOk result (Wrote e) → IfErr result IsMemoryOrSink
       → MatchResult result (λ r. (x : Evidence) × IsAuditRun Gives Caused committee ss x r × Wrote x r × IsAccounted committee x r) IsMemoryOrSink
   run_accounted Caused Wrote e (Err x) under of caused audit many proofs wrote refused = refused
   run_accounted Caused Wrote e (Ok r) under of caused audit many proofs wrote refused = (
@@ -231,7 +231,7 @@ module _ {S : Type 0} (Gives Complete : S → ReceivedLog → Type 0) (step : (s
   refused_as : (x : RunError) → IsCommittee committee → IsRunRefusal Gives committee ss x → IsMemoryOrSink x
   refused_as Memory is fault = inl refl
   refused_as Sink is fault = inr refl
-  refused_as (NoCommittee refusal) is fault = absurd (ok_or_err (sym (committee_again is.f is.keys committee is.members is.text) ∙ fault))
+  refused_as (NoCommittee refusal) is fault = absurd (ok_or_err (sym (committee_again is.members committee is.spelled) ∙ fault))
     where
       ok_or_err : {A E : Type 0} {a : A} {e : E} → Ok a ≡ Err e → ⊥
       ok_or_err same = cc

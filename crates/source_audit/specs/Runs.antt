@@ -1,9 +1,9 @@
 -- What a run of the audit gives, from the sources to the lines. docs/DEFINITIONS.md, "Reports".
-use Rattle.std.specs.Prelude.{◌≡◌, ◌⊎◌, ◌≤◌, ◌+◌, ℕ, List, length, Err, ⊤}
+use Rattle.std.specs.Prelude.{◌≡◌, ◌⊎◌, List, Err, ⊤, ℕ}
 use Rattle.std.specs.List.{All, AllPairs, AllZip, Contains}
 use Rattle.blocks.specs.Chains.{Conflict, NoCollision}
 use Rattle.blocks.specs.CommitteeReading.{committee_in}
-use Rattle.blocks.specs.Committees.{IsCommittee, f_of}
+use Rattle.blocks.specs.Committees.{IsCommittee}
 use Rattle.blocks.specs.Headers.{Header}
 use Rattle.blocks.specs.Weights.{committee_of}
 use Rattle.log_format.specs.declared.status.Status.TheVariants.{Failed}
@@ -17,7 +17,7 @@ use Rattle.evidence.specs.declared.source.SourceReport.{SourceReport}
 use Rattle.parallel_verify.specs.Collections.{HaveCollision, IsEvidenceOfSources}
 use Rattle.parallel_verify.specs.declared.source.Source.{Source}
 use Rattle.accountability.specs.Commits.{IsProvedCommit}
-use Rattle.culprit_search.specs.Reports.{IsAudit, Report}
+use Rattle.culprit_search.specs.Reports.{AreMoreThanAThird, IsAudit, Report, accused_weight}
 use Rattle.culprit_search.specs.Verdicts.{IsOnLowerReplica}
 use Rattle.source_audit.specs.declared.run_error.RunError.{RunError}
 use Rattle.source_audit.specs.declared.run_error.RunError.TheVariants.{Memory, Committee, Collision, Sink}
@@ -60,15 +60,16 @@ pub record ProveAConflict (committee : List ℕ) (logs : List ReceivedLog) : Typ
 abbrev pub HaveFailed : List SourceReport → Type 0
 HaveFailed sources = (s : SourceReport) × Contains sources s × (s.status ≡ Failed)
 
--- verdicts on more than f replicas, each of them a proof
-pub record AccuseMoreThanF (committee : List ℕ) (verdicts : List (List ℕ)) : Type 0 where
-  pub many : f_of committee + 1 ≤ length verdicts
-  pub apart : AllPairs IsOnLowerReplica verdicts
-  pub proofs : All (IsProof committee) verdicts
+-- verdicts on different replicas of more than a third of the weight, each of them a proof
+pub record AccusesMoreThanAThird (committee : List ℕ) (r : Report) : Type 0 where
+  pub many : AreMoreThanAThird committee r
+  pub weight : r.weight ≡ accused_weight committee r.verdicts
+  pub apart : AllPairs IsOnLowerReplica r.verdicts
+  pub proofs : All (IsProof committee) r.verdicts
 
--- a source failed, or more than f replicas are accused
+-- a source failed, or replicas of more than a third of the weight are accused
 abbrev pub IsAccounted : List ℕ → Evidence → Report → Type 0
-IsAccounted committee e r = HaveFailed e.sources ⊎ AccuseMoreThanF committee r.verdicts
+IsAccounted committee e r = HaveFailed e.sources ⊎ AccusesMoreThanAThird committee r
 
 -- memory was refused, or a write failed
 abbrev pub IsMemoryOrSink : RunError → Type 0

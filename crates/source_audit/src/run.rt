@@ -1,15 +1,15 @@
 //! A run of the audit, from the sources to the lines.
 
-ghost use Rattle.std.specs.Prelude.{◌≡◌, ◌≢◌, ◌+◌, ◌≤◌, List, IfErr, IfOk, IsErrOf, IsSome, MatchResult, OnOk, length};
+ghost use Rattle.std.specs.Prelude.{◌≡◌, ◌≢◌, List, IfErr, IfOk, IsErrOf, IsSome, MatchResult, OnOk};
 ghost use Rattle.std.specs.List.{All, AllZip};
 ghost use Rattle.faults.specs.Counting.{one_more};
 ghost use Rattle.streams.specs.Streams.{Wrote, WrotePart};
-ghost use Rattle.blocks.specs.Committees.{IsCommittee, f_of};
+ghost use Rattle.blocks.specs.Committees.{IsCommittee};
 ghost use Rattle.verdict_format.specs.Proofs.{IsProof};
 ghost use Rattle.evidence.specs.Evidence.{Evidence as EvidenceValue};
 ghost use Rattle.evidence.specs.Logs.{ReceivedLog};
 ghost use Rattle.parallel_verify.specs.Collections.{IsEvidenceOfSources, IsStatusCaused, MayBeTried, MayGive};
-ghost use Rattle.culprit_search.specs.Reports.{IsAudit, Report as ReportValue};
+ghost use Rattle.culprit_search.specs.Reports.{AreMoreThanAThird, IsAudit, Report as ReportValue};
 ghost use Rattle.culprit_search.specs.ReportText.{report_text};
 ghost use Rattle.source_audit.specs.Runs.{IsAccounted, IsAuditRun, IsCompleteSource, IsMemoryOrSink, IsRunRefusal, ProveAConflict};
 ghost use Rattle.source_audit.specs.declared.run_error.RunError.TheVariants.{Sink as NotWritten};
@@ -50,7 +50,7 @@ fn read_sources<'a, R: Threads + Wait + Sync, C: Connector + Send, V: Verifier +
 fn report_on<W: Sink>(alloc: Global, evidence: &Evidence, sink: &mut W) -> Result<Report, RunError>
     ensures audit { IfOk result (IsAudit evidence.now) }
     ensures accepted { IfOk result (λ r. All (IsProof evidence.now.committee) r.verdicts) }
-    ensures more_than_f { IfOk result (λ r. IsSome r.conflict → f_of evidence.now.committee + 1 ≤ length r.verdicts) }
+    ensures more_than_a_third { IfOk result (λ r. IsSome r.conflict → AreMoreThanAThird evidence.now.committee r) }
     ensures wrote { IfOk result (λ r. Wrote (W.text sink.old) (W.text sink.new) (report_text evidence.now.sources r)) }
     ensures no_failure { OnOk result (W.failed sink.new ≡ W.failed sink.old) }
     ensures refused { IfErr result IsMemoryOrSink }
@@ -73,7 +73,7 @@ fn report_on<W: Sink>(alloc: Global, evidence: &Evidence, sink: &mut W) -> Resul
 ///
 /// Where each source keeps nothing of its log back, and the logs prove two commits that conflict, with no two different
 /// headers of one id, it answers `Memory` or `Sink`, or a source is reported as failed, or the report has verdicts on
-/// more than f replicas, each of which the checker accepts.
+/// replicas of more than a third of the weight, each of which the checker accepts.
 pub fn audit_run<R: Threads + Wait + Sync, C: Connector + Send, W: Sink>(
     rt: &R,
     alloc: Global,

@@ -1,16 +1,18 @@
-//! `hs_tool committee F OUT KEY..`: a committee's file from its replicas' key files.
+//! `hs_tool committee F OUT KEY..` and `hs_tool weighted OUT WEIGHT=PATH..`: a committee's file from its replicas' key
+//! files.
 
 ghost use Rattle.std.specs.Prelude.{◌≢◌, IfErr};
 ghost use Rattle.tool_commands.specs.Writes.{CountsWrites};
 
 use crate::fault::{Fault, Place};
 use crate::new_file::replace_file;
-use blocks::{CommitteeView, write_committee};
+use blocks::{CommitteeView, Member, write_committee, write_weighted_committee};
 use file_input::read_file;
 use lms_tree::PUBLIC_KEY_LEN;
 use std::alloc::Global;
 use std::fs::{File, Files};
 use streams::{Sink, write_all};
+use tool_words::WeightedKey;
 use wire::array_at;
 
 /// Reads the key files, 56 bytes each, the key of replica 0 first. Where they make a committee of f
@@ -38,14 +40,53 @@ pub fn committee<'a, F: Files<File = File>, W: Sink>(
     if texts.len() > 65_535 {
         return Err(Fault::Usage);
     }
-    let bytes = write_committee(alloc, f, &texts)?;
-    let chain = match CommitteeView::parse(&bytes) {
+    publish(rt, alloc, path, &write_committee(alloc, f, &texts)?, out)
+}
+
+/// The same of replicas that have weights: each key file with its weight, that of replica 0 first.
+pub fn weighted<'a, F: Files<File = File>, W: Sink>(
+    rt: &F,
+    alloc: Global,
+    path: &'a str,
+    keys: &[WeightedKey<'a>],
+    out: &mut W,
+) -> Result<(), Fault<'a>>
+    ensures { CountsWrites result (W.failed out.old) (W.failed out.new) }
+{
+    if keys.iter().any(|key| key.path == path) {
+        return Err(Fault::File(Place::Path(path)));
+    }
+    let mut members = Vec::new(alloc);
+    for key in keys {
+        members.push(Member {
+            weight: key.weight,
+            key: read_key(rt, alloc, key.path)?,
+        })?;
+    }
+    // There are 4 to 31 of them; the writer asks for that bound.
+    if members.len() > 65_535 {
+        return Err(Fault::Usage);
+    }
+    publish(rt, alloc, path, &write_weighted_committee(alloc, &members)?, out)
+}
+
+// Writes the bytes where they are a committee, and prints its chain id.
+fn publish<'a, F: Files<File = File>, W: Sink>(
+    rt: &F,
+    alloc: Global,
+    path: &'a str,
+    bytes: &[u8],
+    out: &mut W,
+) -> Result<(), Fault<'a>>
+    ensures { CountsWrites result (W.failed out.old) (W.failed out.new) }
+{
+    let chain = match CommitteeView::parse(bytes) {
         Ok(committee) => committee.chain(),
         Err(refusal) => return Err(Fault::Committee(refusal)),
     };
     let digits = hex::encode(alloc, &chain[..])?;
     let line = format!(in alloc; "chain {digits}\n")?;
-    if let Err(error) = replace_file(rt, alloc, path, &bytes) {
+    if let Err(error) = replace_file(rt, alloc, path, bytes) {
         return Err(Fault::unless_memory(&error, Fault::File(Place::Path(path))));
     }
     write_all(out, line.as_bytes()).map_err(|_| Fault::Output)

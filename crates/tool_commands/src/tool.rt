@@ -6,7 +6,7 @@ ghost use Rattle.tool_commands.specs.Stays.{IsStopPrinted};
 ghost use Rattle.tool_commands.specs.Writes.{CountsWrites, TellsFault};
 
 use crate::audit::audit_sources;
-use crate::committee::committee;
+use crate::committee::{committee, weighted};
 use crate::fault::Fault;
 use crate::host::Host;
 use crate::keygen::keygen;
@@ -34,6 +34,7 @@ const USAGE: &[u8] = b"hs_tool keygen SEED DIR
 hs_tool committee F OUT KEY..
 hs_tool replica COMMITTEE R DIR
 hs_tool audit COMMITTEE OUTDIR SOURCE..
+hs_tool weighted OUT WEIGHT=PATH..
 ";
 
 /// Does what the words ask for, and answers the exit status: `DONE`, `CULPRITS` or `FAULT`. Facts go to `out`, and with
@@ -145,6 +146,7 @@ where
         Command::Usage => write_all(out, USAGE).map_err(|_| Fault::Output)?,
         Command::Keygen { seed, folder } => keygen(host, seed, folder, out)?,
         Command::Committee { f, out: path, keys } => committee(files, alloc, *f, path, keys, out)?,
+        Command::Weighted { out: path, keys } => weighted(files, alloc, path, keys, out)?,
         Command::Replica {
             committee,
             replica: number,

@@ -18,6 +18,11 @@ pub enum Command<'a> {
         out: &'a str,
         keys: Vec<&'a str>,
     },
+    /// `weighted OUT WEIGHT=PATH..`
+    Weighted {
+        out: &'a str,
+        keys: Vec<WeightedKey<'a>>,
+    },
     /// `replica COMMITTEE R DIR [--workers W] [--serve ADDRESS] [--requests N]`
     Replica {
         committee: &'a str,
@@ -33,6 +38,14 @@ pub enum Command<'a> {
         sources: Vec<&'a str>,
         tries: Tries,
     },
+}
+
+/// The key file of a replica that has a weight.
+#[derive(Clone, Copy, Debug)]
+pub struct WeightedKey<'a> {
+    /// At least 1.
+    pub weight: u32,
+    pub path: &'a str,
 }
 
 /// Where a replica hands out its log when its work is done, and how often.

@@ -7,6 +7,7 @@ use std::alloc::{AllocError, Global};
 pub(crate) fn parsed<'a>(alloc: Global, words: &'a [String]) -> Result<ArgMatches<'a>, Error> {
     let grammar = with_keygen(alloc, grammar(alloc))?;
     let grammar = with_committee(alloc, grammar)?;
+    let grammar = with_weighted(alloc, grammar)?;
     let grammar = with_replica(alloc, grammar)?;
     let grammar = with_audit(alloc, grammar)?;
     grammar.try_get_matches_from(words)
@@ -36,6 +37,17 @@ fn with_committee<'a>(alloc: Global, grammar: Grammar<'a>) -> Result<Grammar<'a>
         .arg(Arg::new(alloc, "OUT").required(true))?
         .arg(keys)?;
     grammar.subcommand(committee)
+}
+
+fn with_weighted<'a>(alloc: Global, grammar: Grammar<'a>) -> Result<Grammar<'a>, AllocError> {
+    let keys = Arg::new(alloc, "KEY")
+        .required(true)
+        .num_args(1..)
+        .action(ArgAction::Append);
+    let weighted = Grammar::new(alloc, "weighted")
+        .arg(Arg::new(alloc, "OUT").required(true))?
+        .arg(keys)?;
+    grammar.subcommand(weighted)
 }
 
 fn with_replica<'a>(alloc: Global, grammar: Grammar<'a>) -> Result<Grammar<'a>, AllocError> {

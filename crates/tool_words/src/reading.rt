@@ -1,10 +1,10 @@
 //! From words to what they ask for.
 
-use crate::command::{Command, Service, Tries, Workers};
+use crate::command::{Command, Service, Tries, WeightedKey, Workers};
 use crate::grammar::parsed;
 use clap::ArgMatches;
 use clap::error::ErrorKind;
-use std::alloc::{AllocError, Global};
+use std::alloc::{AllocError, AllocFailed, Global};
 
 /// Why words ask for nothing.
 #[derive(Clone, Copy, Debug)]
@@ -17,6 +17,12 @@ pub enum WordsFault {
 
 impl From<AllocError> for WordsFault {
     fn from(_error: AllocError) -> WordsFault {
+        WordsFault::Memory
+    }
+}
+
+impl<T: Drop> From<AllocFailed<T>> for WordsFault {
+    fn from(_refused: AllocFailed<T>) -> WordsFault {
         WordsFault::Memory
     }
 }
@@ -42,6 +48,7 @@ fn command<'a>(alloc: Global, matches: &ArgMatches<'a>) -> Result<Command<'a>, W
     match matches.subcommand() {
         Some(("keygen", given)) => keygen(given),
         Some(("committee", given)) => committee(alloc, given),
+        Some(("weighted", given)) => weighted(alloc, given),
         Some(("replica", given)) => replica(given),
         Some(("audit", given)) => audit(alloc, given),
         _ => Err(WordsFault::Usage),
@@ -74,6 +81,36 @@ fn committee<'a>(alloc: Global, given: &ArgMatches<'a>) -> Result<Command<'a>, W
         f,
         out,
         keys: keys.to_vec(alloc)?,
+    })
+}
+
+// 4 to 31 key files, each with its weight.
+fn weighted<'a>(alloc: Global, given: &ArgMatches<'a>) -> Result<Command<'a>, WordsFault> {
+    let (Some(out), Some(words)) = (given.get_str("OUT"), given.get_strs("KEY")) else {
+        return Err(WordsFault::Usage);
+    };
+    if out.is_empty() || !(4..=31).contains(&words.len()) {
+        return Err(WordsFault::Usage);
+    }
+    let mut keys = Vec::new(alloc);
+    for word in words {
+        let Some(key) = weighted_key(word) else {
+            return Err(WordsFault::Usage);
+        };
+        keys.push(key)?;
+    }
+    Ok(Command::Weighted { out, keys })
+}
+
+// What `WEIGHT=PATH` says. The first `=` ends the weight, so a path may have one.
+fn weighted_key<'a>(word: &'a str) -> Option<WeightedKey<'a>> {
+    let (digits, path) = word.split_once('=')?;
+    if path.is_empty() {
+        return None;
+    }
+    Some(WeightedKey {
+        weight: weight(digits)?,
+        path,
     })
 }
 
@@ -148,6 +185,14 @@ pub fn number(word: &str) -> Option<u16> {
         return None;
     }
     word.parse::<u16>().ok()
+}
+
+// 1 to 2^32 - 1, in its one spelling.
+fn weight(word: &str) -> Option<u32> {
+    if word.starts_with('+') || word.starts_with('0') {
+        return None;
+    }
+    word.parse::<u32>().ok()
 }
 
 // 1 to 10.

@@ -16,4 +16,4 @@ loop-k-preserved g c =
 pub returns-clause-none : goal.returns-clause-none
 returns-clause-none g c =
     subst (All (IsSignedEntry c.args.committee.now c.args.certificate.now))
-    (take_all c.loop-k.k c.entries-entries.result.now c.loop-k-test.false ∙ c.entries-entries.ensures) c.loop-k.invariant
+    (take_all c.loop-k.k c.entries-entries.result.now c.loop-k-test.false ∙ c.entries-entries.ensures.value) c.loop-k.invariant

@@ -27,4 +27,4 @@ returns-clause-accountability g c logs is complete prove =
     let done = c.report_on.ensures in
     run_accounted (MayGive gives) (IsCompleteSource gives) (cut_of_source gives c.a_complete_source_gives_its_log.ensures) c.args.committee.now c.args.sources.items logs complete prove (IsStatusCaused g.C.Connector.failed)
     (λ (e : Evidence) (r : Report). Wrote (g.W.Sink.text c.args.sink.now) (g.W.Sink.text c.report_on.new.sink) (report_text e.sources r)) c.in_ok-evidence.evidence c.report_on.result is shown.ok shown.cause
-    done.audit done.more_than_f done.accepted done.wrote done.refused
+    done.audit done.more_than_a_third done.accepted done.wrote done.refused

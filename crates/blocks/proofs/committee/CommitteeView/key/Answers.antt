@@ -1,17 +1,15 @@
 use Rattle.std.proofs.Common.{◌≡◌, ℕ, List, sym, ◌∙◌, ap, arith, subst}
-use Rattle.std.proofs.lemmas.Option.{slice_get_read}
 use Rattle.lms_tree.specs.Keys.{IsPublicKey}
 use Rattle.lms_tree.specs.Tree.{key_text}
 use Rattle.lms_tree.proofs.KeyLemmas.{key_spelled}
 use Rattle.blocks.specs.Committees.{n_of, key_at}
-use Rattle.blocks.proofs.CommitteeLaws.{parts_in, size_of, key_here}
+use Rattle.blocks.specs.declared.committee.Member.{Member}
+use Rattle.blocks.proofs.CommitteeLaws.{some_member, member_found, place_within, key_here}
 use Rattle.blocks.proofs.committee.CommitteeView.key.Goals as goal
 
 pub key_at-key-requires : goal.key_at-key-requires
 key_at-key-requires c =
-    let s = size_of c.self.inside.bytes.now c.self.invariant.0 in
-    let same : n_of c.self.inside.bytes.now ≡ n_of c.args.self.now = ap n_of c.self.view_is in
-    omega (arith, c.requires)
+    place_within c.self.inside.bytes.now c.args.r c.self.invariant.0 (omega (arith, c.requires, ap n_of c.self.view_is))
 
 pub returns-clause-text : goal.returns-clause-text
 returns-clause-text c =
@@ -22,8 +20,7 @@ returns-clause-text c =
     ∙ c.key_at-key.ensures.key ∙ ap (λ (b : List ℕ). key_at b c.args.r) c.self.view_is
 
 pub returns-clause-as_written : goal.returns-clause-as_written
-returns-clause-as_written c f keys is e =
+returns-clause-as_written c members is =
     let text = key_text c.array_at.result c.array_at-2.result in
-    let parts = parts_in f keys c.args.self.now is e in
-    let n = parts.n_here in
-    slice_get_read keys (n_of c.args.self.now) c.args.r text n c.requires (returns-clause-text c ∙ parts.keys_here c.args.r text (omega (arith, c.requires)))
+    member_found members c.args.self.now c.args.r (λ m. m.key ≡ text) is c.requires (λ parts.
+    sym (parts.1) ∙ sym (returns-clause-text c))
