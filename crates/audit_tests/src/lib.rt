@@ -13,3 +13,5 @@ mod offence_tests;
 mod pair_tests;
 #[cfg(test)]
 mod sources;
+#[cfg(test)]
+mod weight_tests;

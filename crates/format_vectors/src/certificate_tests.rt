@@ -57,8 +57,8 @@ fn thirty_two_entries_are_refused(rt: HostRuntime) -> Result<(), Fail> {
     Ok(())
 }
 
-// The certificate of these votes, which have to be by replicas of the committee.
-fn assembled(
+/// The certificate of these votes, which have to be by replicas of the committee.
+pub fn assembled(
     alloc: Global,
     committee: &CommitteeView,
     votes: &[SignedVote],

@@ -9,3 +9,5 @@ mod certificate_tests;
 mod stored;
 #[cfg(test)]
 mod verdict_tests;
+#[cfg(test)]
+mod weight_tests;

@@ -32,10 +32,14 @@ pub fn with_byte(alloc: Global, at: usize, byte: u8) -> Result<Vec<u8>, Fail> {
 
 /// The entries at these places of the certificate of A1, under a head that names as many.
 pub fn with_entries(alloc: Global, places: &[usize]) -> Result<Vec<u8>, Fail> {
-    let from = texts::of_a1();
+    entries_of(alloc, texts::of_a1(), places)
+}
+
+/// The entries at these places of a certificate, under a head that names as many.
+pub fn entries_of(alloc: Global, from: &[u8], places: &[usize]) -> Result<Vec<u8>, Fail> {
     let mut bytes = from.get(..HEAD).ok_or("too short")?.to_vec(alloc)?;
     for k in places {
-        let entry = from.get(HEAD + ENTRY * (*k % 3)..).ok_or("no such entry")?;
+        let entry = from.get(HEAD + ENTRY * (*k % 32)..).ok_or("no such entry")?;
         bytes.extend_from_slice(entry.get(..ENTRY).ok_or("no such entry")?)?;
     }
     *bytes.get_mut(41).ok_or("no count")? = (places.len() % 256) as u8;
