@@ -21,12 +21,6 @@
 extern "C" {
 #endif
 
-#if defined(__GNUC__)
-#define HS_CHECK_NO_NULL __attribute__((nonnull))
-#else
-#define HS_CHECK_NO_NULL
-#endif
-
 /* The lengths of texts that can be accepted, in bytes. Every other length is refused. */
 enum {
     HS_DOUBLE_VOTE_LEN = 3023,    /* a verdict of rule 1 */
@@ -80,15 +74,17 @@ struct hs_finding {
  * Take your own copy of the committee's file, never one that came with the verdict: whoever made the file can have put
  * keys of their own in it.
  *
- * No pointer may be NULL, nor one to a text of length 0. A length is that of the memory at its pointer: no byte behind
- * it is read. The texts may be one, but finding may lie in neither.
+ * A length is that of the memory at its pointer: no byte behind it is read. The pointer to a text of length 0 may be
+ * NULL; no other pointer may be. The two texts may be one, but finding may lie in neither.
  *
  * The call writes nothing but *finding and keeps nothing: so any number of threads may call it at once, each with a
  * finding of its own, also on the same texts, as long as no thread writes to these. It takes no memory but the stack,
  * of which 96 KB are enough, waits for nothing, and does no input or output. It costs two signature checks, some 9,000
  * SHA-256 compressions, at the most.
  */
-HS_CHECK_NO_NULL
+#ifdef __GNUC__
+__attribute__((nonnull(5)))
+#endif
 int hs_check(const uint8_t *committee, size_t committee_len, const uint8_t *verdict, size_t verdict_len,
              struct hs_finding *finding);
 

@@ -97,7 +97,8 @@ impl<'a, R: Threads + Sync> Site<'a, R> {
 
     // How many replicas make a quorum.
     fn quorum(&self) -> u16 {
-        self.committee.n() - self.faulty()
+        let n = self.committee.n();
+        n - n / 3
     }
 
     /// The planned ledger.

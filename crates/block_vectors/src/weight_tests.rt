@@ -2,9 +2,7 @@
 //! independent program, from the seeds that the crate `fixtures` names.
 
 use crate::header_tests::key;
-use blocks::{
-    CommitteeRefusal, CommitteeView, Member, write_committee, write_weighted_committee,
-};
+use blocks::{CommitteeRefusal, CommitteeView, Member, write_committee, write_weighted_committee};
 use lms_tree::{PUBLIC_KEY_LEN, PublicKey};
 use std::alloc::{AllocError, Global};
 use std::test::Fail;

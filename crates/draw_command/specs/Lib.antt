@@ -1,0 +1,2 @@
+pub use Rattle.printed_lines.specs.Printed
+pub mod FaultLines

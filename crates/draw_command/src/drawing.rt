@@ -1,0 +1,68 @@
+//! A picture as SVG. The text has digits, hex digits and the words of this program alone, so nothing in it has to be escaped.
+
+use crate::blocks_drawn::{put_blocks, put_columns, put_links};
+use crate::lanes::put_lanes;
+use crate::layout::Layout;
+use crate::notes::{put_head, put_legend, put_sources};
+use crate::scene::Scene;
+use std::alloc::{AllocError, Global};
+use std::fmt::Write;
+
+/// How each class looks. Frames differ in width and dashes as well as in colour.
+const STYLE: &str = "<style>
+text { font-family: Arial, Helvetica, sans-serif; font-size: 13px; fill: #1a1a1a; }
+.id { font-family: 'DejaVu Sans Mono', Menlo, Consolas, monospace; text-anchor: middle; }
+.in, .view, .gap { text-anchor: middle; }
+.view, .part, .culprit { font-weight: bold; }
+.beside { text-anchor: end; }
+.finding { font-size: 18px; font-weight: bold; }
+.block .alarm { text-anchor: middle; }
+.alarm { fill: #b00020; font-weight: bold; }
+.guide { stroke: #e2e2e2; fill: none; }
+.link { stroke: #444444; stroke-width: 2; fill: none; }
+.outside { stroke: #444444; stroke-width: 2; stroke-dasharray: 3 3; fill: none; }
+.joint { fill: #444444; }
+.block rect { fill: #ffffff; stroke: #444444; stroke-width: 1.5; }
+.genesis rect { fill: #eeeeee; }
+.uncertified rect { stroke-dasharray: 5 4; }
+.committed rect { fill: #d6e8f5; stroke: #005a9c; stroke-width: 2.5; }
+.conflict rect { fill: #fde3e3; stroke: #b00020; stroke-width: 4; }
+rect.lane { fill: #f5f5f5; }
+.pair { stroke: #b00020; stroke-width: 2; fill: none; }
+.vote rect { fill: #ffffff; stroke: #b00020; stroke-width: 1.5; }
+</style>
+";
+
+fn put_frame(text: &mut String, layout: &Layout) -> Result<(), AllocError> {
+    let width = layout.width();
+    let height = layout.height();
+    writeln!(
+        text,
+        "<svg xmlns=\"http://www.w3.org/2000/svg\" width=\"{width}\" height=\"{height}\" viewBox=\"0 0 {width} {height}\" role=\"img\">"
+    )?;
+    writeln!(
+        text,
+        "<title>Blocks, commits and culprits of an audit</title>"
+    )?;
+    text.push_str(STYLE)?;
+    writeln!(
+        text,
+        "<rect width=\"{width}\" height=\"{height}\" fill=\"#ffffff\"/>"
+    )
+}
+
+/// The text of the picture. AllocError comes where memory is refused.
+pub fn draw(alloc: Global, scene: &Scene) -> Result<String, AllocError> {
+    let layout = Layout::of(scene);
+    let mut text = String::new(alloc);
+    put_frame(&mut text, &layout)?;
+    put_head(&mut text, alloc, scene)?;
+    put_columns(&mut text, &layout, scene)?;
+    put_links(&mut text, &layout, scene)?;
+    put_blocks(&mut text, alloc, &layout, scene)?;
+    put_lanes(&mut text, alloc, &layout, scene)?;
+    put_legend(&mut text, &layout)?;
+    put_sources(&mut text, &layout, scene)?;
+    text.push_str("</svg>\n")?;
+    Ok(text)
+}

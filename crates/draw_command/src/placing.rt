@@ -1,0 +1,221 @@
+//! Where everything stands: a column for each view, a row for each branch.
+
+use crate::choosing::choose;
+use crate::rows::Rows;
+use crate::scene::{Block, Column, Culprit, Link, Mark, Place, Scene, Standing};
+use crate::standing::{standing_of, support_of};
+use ancestry::Ancestry;
+use blocks::{Id, NamedHeader};
+use commit_search::certified_chains;
+use culprit_search::{Report, Verdict};
+use evidence::Evidence;
+use std::alloc::{AllocError, Global};
+use std::collections::BTreeMap;
+use verdict_format::{VerdictView, VoteView};
+
+// A block that was placed.
+#[derive(Clone, Copy)]
+struct Placed {
+    view: u64,
+    place: Place,
+}
+
+// The culprit of a verdict. Its columns are set once there are any.
+fn culprit_of(verdict: &Verdict) -> Option<Culprit> {
+    let view = VerdictView::parse(verdict.as_bytes()).ok()?;
+    Some(Culprit {
+        replica: view.replica(),
+        rule: view.rule(),
+        earlier: mark_of(&view.earlier()),
+        later: mark_of(&view.later()),
+    })
+}
+
+fn mark_of(vote: &VoteView) -> Mark {
+    Mark {
+        view: vote.view,
+        id: vote.id,
+        column: 0,
+    }
+}
+
+fn culprits_of(alloc: Global, verdicts: &[Verdict]) -> Result<Vec<Culprit>, AllocError> {
+    let mut culprits = Vec::new(alloc);
+    for verdict in verdicts {
+        if let Some(culprit) = culprit_of(verdict) {
+            culprits.push(culprit)?;
+        }
+    }
+    Ok(culprits)
+}
+
+// The views of these blocks and votes, rising, each once.
+fn views_of(
+    alloc: Global,
+    headers: &[NamedHeader],
+    culprits: &[Culprit],
+) -> Result<Vec<u64>, AllocError> {
+    let mut views = Vec::new(alloc);
+    for header in headers {
+        views.push(header.header().view)?;
+    }
+    for culprit in culprits {
+        views.push(culprit.earlier.view)?;
+        views.push(culprit.later.view)?;
+    }
+    views.sort_unstable();
+    views.dedup();
+    Ok(views)
+}
+
+// A column for each view.
+fn columns_of(alloc: Global, views: &[u64]) -> Result<Vec<Column>, AllocError> {
+    let mut columns = Vec::new(alloc);
+    let mut next = 0;
+    let mut gaps: usize = 0;
+    for view in views {
+        let skipped = view.saturating_sub(next);
+        if 0 < skipped {
+            gaps = gaps.saturating_add(1);
+        }
+        columns.push(Column {
+            view: *view,
+            skipped,
+            gaps,
+        })?;
+        next = view.saturating_add(1);
+    }
+    Ok(columns)
+}
+
+// The column of a view.
+fn column_of(columns: &[Column], view: u64) -> usize {
+    columns.partition_point(|column| column.view < view)
+}
+
+fn set_columns(columns: &[Column], culprits: &mut [Culprit]) {
+    for culprit in culprits {
+        culprit.earlier.column = column_of(columns, culprit.earlier.view);
+        culprit.later.column = column_of(columns, culprit.later.view);
+    }
+}
+
+// The place of a block's parent, if that is drawn, in the view that the block says.
+fn parent_place(placed: &BTreeMap<Id, Placed>, block: &NamedHeader) -> Option<Place> {
+    let header = block.header();
+    let parent = placed.get(&header.parent)?;
+    let is_parent = parent.view == header.parent_view && parent.view < header.view;
+    is_parent.then_some(parent.place)
+}
+
+// Places a block behind its parent.
+fn place_block(
+    rows: &mut Rows,
+    placed: &mut BTreeMap<Id, Placed>,
+    column: usize,
+    header: &NamedHeader,
+    standing: Standing,
+) -> Result<(Place, Link), AllocError> {
+    let (link, preferred, first) = match parent_place(placed, header) {
+        Some(parent) => (
+            Link::To(parent),
+            parent.row,
+            parent.column.saturating_add(1),
+        ),
+        None if standing == Standing::Genesis => (Link::None, 0, column),
+        None => (Link::Outside, 0, column),
+    };
+    let row = rows.take(preferred, first, column)?;
+    let place = Place { column, row };
+    let view = header.header().view;
+    let _ = placed.insert(*header.id(), Placed { view, place })?;
+    Ok((place, link))
+}
+
+// A block, and what is proved of it.
+#[derive(Clone, Copy)]
+struct Judged {
+    header: NamedHeader,
+    standing: Standing,
+}
+
+impl Judged {
+    // By view, those that are not certified behind the others, then by id.
+    fn rank(&self) -> (u64, bool, Id) {
+        let is_weak = self.standing == Standing::Uncertified;
+        (self.header.header().view, is_weak, *self.header.id())
+    }
+}
+
+// The blocks in the order in which they are placed.
+fn in_order(
+    alloc: Global,
+    certified: &Ancestry,
+    report: &Report,
+    headers: &[NamedHeader],
+) -> Result<Vec<Judged>, AllocError> {
+    let mut order = Vec::new(alloc);
+    for header in headers {
+        order.push(Judged {
+            header: *header,
+            standing: standing_of(certified, report, header),
+        })?;
+    }
+    order.sort_unstable_by_key(|block: &Judged| block.rank());
+    Ok(order)
+}
+
+// The blocks in their places.
+fn blocks_of(
+    alloc: Global,
+    evidence: &Evidence,
+    columns: &[Column],
+    order: &[Judged],
+    rows: &mut Rows,
+) -> Result<Vec<Block>, AllocError> {
+    let mut placed = BTreeMap::new(alloc);
+    let mut blocks = Vec::new(alloc);
+    for Judged { header, standing } in order {
+        let column = column_of(columns, header.header().view);
+        let (place, link) = place_block(rows, &mut placed, column, header, *standing)?;
+        blocks.push(Block {
+            header: *header,
+            standing: *standing,
+            support: support_of(evidence, header),
+            place,
+            link,
+        })?;
+    }
+    Ok(blocks)
+}
+
+/// The picture of evidence, of which this is the report. AllocError comes where memory is refused.
+pub(crate) fn scene_of(
+    alloc: Global,
+    evidence: &Evidence,
+    report: &Report,
+) -> Result<Scene, AllocError> {
+    let certified = certified_chains(alloc, evidence)?;
+    let mut culprits = culprits_of(alloc, report.verdicts())?;
+    let chosen = choose(alloc, evidence, report.conflict(), &culprits)?;
+    let columns = columns_of(alloc, &views_of(alloc, &chosen, &culprits)?)?;
+    set_columns(&columns, &mut culprits);
+    let order = in_order(alloc, &certified, report, &chosen)?;
+    let mut rows = Rows::new(alloc);
+    let blocks = blocks_of(alloc, evidence, &columns, &order, &mut rows)?;
+    let committee = evidence.committee();
+    Ok(Scene {
+        chain: committee.chain(),
+        replicas: committee.n(),
+        total: report.total(),
+        columns,
+        rows: rows.len(),
+        left_out: evidence.headers().len().saturating_sub(blocks.len()),
+        blocks,
+        commits: report.commits().to_vec(alloc)?,
+        conflict: report.conflict(),
+        culprits,
+        weight: report.weight(),
+        sources: evidence.sources().to_vec(alloc)?,
+    })
+}

@@ -1,0 +1,68 @@
+//! Replicas that run at the same time, each in a thread of its own, and the leader in one more.
+
+use crate::branch::Branch;
+use crate::fault::Fault;
+use crate::leader::{Decided, Voter, lead};
+use crate::replica::{Line, Replica, run};
+use blocks::CommitteeView;
+use std::alloc::{AllocError, Global};
+use std::sync::Wait;
+use std::thread;
+use std::thread::Threads;
+use std::time::Clock;
+
+// A replica, and its end of the connection to the leader.
+#[derive(Drop)]
+struct Seat {
+    replica: Replica,
+    line: Line,
+}
+
+// The two ends of a connection.
+fn connection(alloc: Global) -> Result<(Voter, Line), AllocError> {
+    let (proposals, proposed) = crossbeam_channel::unbounded(alloc)?;
+    let (reactions, reacted) = crossbeam_channel::unbounded(alloc)?;
+    let voter = Voter {
+        proposals,
+        reactions: reacted,
+    };
+    let line = Line {
+        proposals: proposed,
+        reactions,
+    };
+    Ok((voter, line))
+}
+
+/// Runs these replicas for as long as it takes them to vote for a branch. Answers what was decided, and the replicas as they
+/// are then.
+pub(crate) fn vote_for<R: Threads + Wait + Clock + Sync + AllocGlobal>(
+    rt: &R,
+    committee: &CommitteeView,
+    branch: Branch,
+    replicas: Vec<Replica>,
+) -> Result<(Vec<Decided>, Vec<Replica>), Fault> {
+    let alloc = rt.alloc();
+    let mut voters = Vec::new(alloc);
+    let mut seats = Vec::new(alloc);
+    for replica in replicas {
+        let (voter, line) = connection(alloc)?;
+        voters.push(voter)?;
+        seats.push(Seat { replica, line })?;
+    }
+    let (decided, stayed) = thread::join(
+        rt,
+        move || lead(rt, committee, branch, voters),
+        move || {
+            thread::map_vec(
+                rt,
+                seats,
+                &|seat: Seat| { run(rt, committee, seat.replica, &seat.line) },
+            )
+        },
+    );
+    let mut replicas = Vec::new(alloc);
+    for replica in stayed? {
+        replicas.push(replica?)?;
+    }
+    Ok((decided?, replicas))
+}

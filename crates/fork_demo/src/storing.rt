@@ -1,0 +1,65 @@
+//! What a replica stores, and a backup of it.
+
+use crate::fault::Fault;
+use crate::replica::Replica;
+use blocks::CommitteeView;
+use key_index_store::IndexStore;
+use lms_tree::SigningTree;
+use stable_log::MemoryDisk;
+use std::alloc::Global;
+use vote_desk::Parts;
+use vote_log::VoteLog;
+
+/// The bytes of a replica's log at some moment.
+#[derive(Drop)]
+pub(crate) struct Backup {
+    log: Vec<u8>,
+}
+
+fn recovered_log(
+    alloc: Global,
+    committee: &CommitteeView,
+    disk: MemoryDisk,
+) -> Result<VoteLog<MemoryDisk>, Fault> {
+    VoteLog::recover(alloc, disk, committee.genesis()).map_err(|_| Fault::Store)
+}
+
+/// A replica that has done nothing yet, and a backup of its log at that moment.
+pub(crate) fn new_replica(
+    alloc: Global,
+    committee: &CommitteeView,
+    number: u16,
+    tree: SigningTree,
+) -> Result<(Replica, Backup), Fault> {
+    let disk = MemoryDisk::new(alloc, Vec::new(alloc))?;
+    let index = IndexStore::create(alloc, disk).map_err(|_| Fault::Store)?;
+    let disk = MemoryDisk::new(alloc, Vec::new(alloc))?;
+    let log = VoteLog::create(alloc, disk, committee.genesis()).map_err(|_| Fault::Store)?;
+    let disk = log.into_disk();
+    let backup = Backup {
+        log: disk.bytes().to_vec(alloc)?,
+    };
+    let log = recovered_log(alloc, committee, disk)?;
+    let parts = Parts { tree, index, log };
+    Ok((Replica { number, parts }, backup))
+}
+
+/// The replica after its log was put back to an older moment. Its key indices are as they were, so that no one-time key is
+/// used twice.
+pub(crate) fn restored(
+    alloc: Global,
+    committee: &CommitteeView,
+    replica: Replica,
+    backup: Backup,
+) -> Result<Replica, Fault> {
+    let Replica { number, parts } = replica;
+    let Parts {
+        tree,
+        index,
+        log: _lost,
+    } = parts;
+    let index = IndexStore::recover(alloc, index.into_disk()).map_err(|_| Fault::Store)?;
+    let log = recovered_log(alloc, committee, MemoryDisk::new(alloc, backup.log)?)?;
+    let parts = Parts { tree, index, log };
+    Ok(Replica { number, parts })
+}
