@@ -9,7 +9,8 @@
  *
  *     cc -shared -o libhs_check.so -Wl,--whole-archive libhs_check.a -Wl,--no-whole-archive
  *
- * It is built for Linux on x86-64.
+ * It is built for Linux on x86-64, for processors of x86-64-v2 unless `rt lib --cpu=..` or `./install --cpu=..` named
+ * another. Unlike the programs it does not look whether it runs on such a one.
  */
 #ifndef HS_CHECK_H
 #define HS_CHECK_H

@@ -10,7 +10,7 @@
 #include <stdbool.h>
 #include <stdio.h>
 
-/* No text that is longer can be accepted, and one that is cut here is refused as the whole one would be. */
+/* As much of a file is read, as by hs_check: no text that is longer can be accepted. */
 enum { MOST = 16384 };
 
 struct text {

@@ -9,8 +9,8 @@ use std::alloc::{AllocError, Global};
 /// How many blocks are drawn at most.
 pub const MOST_BLOCKS: usize = 1_000;
 
-// Where a block stands when not all can be drawn: what the report names first, then the others by their distance from it,
-// later views before earlier ones. Blocks alike go by id.
+// Where a block stands when not all can be drawn: what the report names first, then the others by their distance from
+// it, later views before earlier ones. Blocks alike go by id.
 type Rank = (u8, u64, Id);
 
 // The blocks that the report names.
@@ -56,9 +56,9 @@ fn rank(named: &Named, lowest: u64, header: &NamedHeader) -> Rank {
     }
 }
 
-/// The blocks that are drawn: all of the evidence, or so many of them as may be. Genesis, the conflict and the blocks for
-/// which culprits voted go first, then the views from the lowest of these on, then the views below it, the nearest first.
-/// With no conflict and no culprit the latest views are drawn. In no order that means something.
+/// The blocks that are drawn: all of the evidence, or so many of them as may be. Genesis, the conflict and the blocks
+/// for which culprits voted go first, then the views from the lowest of these on, then the views below it, the
+/// nearest first. With no conflict and no culprit the latest views are drawn. In no order that means something.
 pub(crate) fn choose(
     alloc: Global,
     evidence: &Evidence,

@@ -1,4 +1,5 @@
-//! A picture as SVG. The text has digits, hex digits and the words of this program alone, so nothing in it has to be escaped.
+//! A picture as SVG. The text has digits, hex digits and the words of this program alone, so nothing in it has to be
+//! escaped.
 
 use crate::blocks_drawn::{put_blocks, put_columns, put_links};
 use crate::lanes::put_lanes;
@@ -38,7 +39,8 @@ fn put_frame(text: &mut String, layout: &Layout) -> Result<(), AllocError> {
     let height = layout.height();
     writeln!(
         text,
-        "<svg xmlns=\"http://www.w3.org/2000/svg\" width=\"{width}\" height=\"{height}\" viewBox=\"0 0 {width} {height}\" role=\"img\">"
+        "<svg xmlns=\"http://www.w3.org/2000/svg\" width=\"{width}\" height=\"{height}\" \
+        viewBox=\"0 0 {width} {height}\" role=\"img\">"
     )?;
     writeln!(
         text,

@@ -1,5 +1,5 @@
-//! Pictures of what an audit finds: the blocks of the evidence, the conflict among them and the culprits' votes as SVG, from
-//! words and files to the text. Needs threads that wait; files and streams are handed in.
+//! Pictures of what an audit finds: the blocks of the evidence, the conflict among them and the culprits' votes as
+//! SVG, from words and files to the text. Needs threads that wait; files and streams are handed in.
 #![tactic(auto)]
 
 mod blocks_drawn;

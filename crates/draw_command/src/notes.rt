@@ -19,7 +19,8 @@ fn put_finding(text: &mut String, alloc: Global, scene: &Scene) -> Result<(), Al
     let second = short(alloc, &conflict.second)?;
     writeln!(
         text,
-        "<text class=\"finding alarm\" x=\"{MARGIN}\" y=\"26\">Conflict: {first} and {second} are both committed</text>"
+        "<text class=\"finding alarm\" x=\"{MARGIN}\" y=\"26\">\
+        Conflict: {first} and {second} are both committed</text>"
     )
 }
 
@@ -31,7 +32,8 @@ fn put_counts(text: &mut String, alloc: Global, scene: &Scene) -> Result<(), All
     let culprits = scene.culprits.len();
     write!(
         text,
-        "<text class=\"small\" x=\"{MARGIN}\" y=\"46\">replicas {replicas}, chain {chain}, commits {commits}, culprits {culprits}"
+        "<text class=\"small\" x=\"{MARGIN}\" y=\"46\">\
+        replicas {replicas}, chain {chain}, commits {commits}, culprits {culprits}"
     )?;
     if let Some(total) = scene.total {
         let weight = scene.weight;
@@ -49,7 +51,8 @@ pub(crate) fn put_head(text: &mut String, alloc: Global, scene: &Scene) -> Resul
         let left_out = scene.left_out;
         writeln!(
             text,
-            "<text class=\"small\" x=\"{MARGIN}\" y=\"64\">{drawn} blocks are drawn, and {left_out} more of the evidence are not</text>"
+            "<text class=\"small\" x=\"{MARGIN}\" y=\"64\">\
+            {drawn} blocks are drawn, and {left_out} more of the evidence are not</text>"
         )?;
     }
     Ok(())
@@ -104,7 +107,8 @@ pub(crate) fn put_legend(text: &mut String, layout: &Layout) -> Result<(), Alloc
     writeln!(text, "<path class=\"outside\" d=\"M{left} {line}H{end}\"/>")?;
     writeln!(
         text,
-        "<text class=\"small\" x=\"{behind}\" y=\"{y}\">the parent is not drawn; between views, ... stands for views of which no block is drawn</text>"
+        "<text class=\"small\" x=\"{behind}\" y=\"{y}\">\
+        the parent is not drawn; between views, ... stands for views of which no block is drawn</text>"
     )
 }
 
@@ -120,7 +124,8 @@ fn put_source(
     let entries = source.entries;
     writeln!(
         text,
-        "<text class=\"small\" x=\"{MARGIN}\" y=\"{y}\">source {index} replica {replica} {status} frames {frames} entries {entries}</text>"
+        "<text class=\"small\" x=\"{MARGIN}\" y=\"{y}\">\
+        source {index} replica {replica} {status} frames {frames} entries {entries}</text>"
     )
 }
 

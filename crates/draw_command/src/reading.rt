@@ -74,7 +74,8 @@ fn first_failed<'a>(words: &[SourceFile<'a>], reports: &[SourceReport]) -> Optio
     None
 }
 
-/// What the logs in these files show together under the committee. A file that can't be read is a fault, the first of them.
+/// What the logs in these files show together under the committee. A file that can't be read is a fault, the first of
+/// them.
 pub(crate) fn read_evidence<'a, 'c, F: Files<File = File> + Sync, T: Threads + Wait + Sync>(
     files: &'a F,
     rt: &T,

@@ -24,8 +24,8 @@ impl Rows {
         self.free_from.get(row).is_some_and(|from| *from <= column)
     }
 
-    /// Takes a row up to a block's column: the preferred one, if it is free from `first` on, or else the first that is, or
-    /// a new one.
+    /// Takes a row up to a block's column: the preferred one, if it is free from `first` on, or else the first that
+    /// is, or a new one.
     pub fn take(
         &mut self,
         preferred: usize,

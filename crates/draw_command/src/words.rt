@@ -45,9 +45,9 @@ fn number(word: &str) -> Option<u16> {
     word.parse::<u16>().ok()
 }
 
-/// Reads `COMMITTEE SOURCE..`, without the program's name, or no words. The committee's path is not empty and begins with
-/// no `-`, and there is a source at least; else they are refused as usage. The first source that is not as written is told
-/// by its number, from 0.
+/// Reads `COMMITTEE SOURCE..`, without the program's name, or no words. The committee's path is not empty and begins
+/// with no `-`, and there is a source at least; else they are refused as usage. The first source that is not as
+/// written is told by its number, from 0.
 pub(crate) fn read_words<'a>(alloc: Global, words: &'a [String]) -> Result<Words<'a>, Fault<'a>> {
     let [committee, rest @ ..] = words else {
         return Ok(Words::Usage);

@@ -1,4 +1,5 @@
-//! Draws what logs show and whom they accuse: `hs_draw COMMITTEE R=file:PATH.. > fork.svg`. docs/hs_draw.md is its manual page.
+//! Draws what logs show and whom they accuse: `hs_draw COMMITTEE R=file:PATH.. > fork.svg`. docs/hs_draw.md is its
+//! manual page.
 #![tactic(auto)]
 
 use draw_command::{FAULT, Fault, run_draw};
@@ -12,8 +13,8 @@ use streams::StdSink;
 const NOTHING: &str = "/dev/null";
 
 fn main(rt: HostRuntime) -> ExitCode {
-    // A file that is opened takes the first free number. Where a standard stream is closed that is the stream's. So these
-    // three take the numbers first, and keep them.
+    // A file that is opened takes the first free number. Where a standard stream is closed that is the stream's. So
+    // these three take the numbers first, and keep them.
     let _first = File::open(&rt, NOTHING);
     let _second = File::open(&rt, NOTHING);
     let _third = File::open(&rt, NOTHING);
