@@ -5,6 +5,6 @@
 mod laws;
 
 pub use laws::{
-    a_conflict_accuses_more_than_a_third, a_culprit_has_one_named_pair, a_quorum_of_once_is_two_f_plus_one, a_third_is_more_than_f,
-    evidence_names_each_header_once,
+    a_conflict_accuses_more_than_a_third, a_culprit_has_one_named_pair,
+    a_quorum_of_once_is_two_f_plus_one, a_third_is_more_than_f, evidence_names_each_header_once,
 };

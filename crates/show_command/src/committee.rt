@@ -32,12 +32,7 @@ fn put_first_line(text: &mut Vec<u8>, committee: &CommitteeView) -> Result<(), A
 }
 
 #[tactic(auto, unfolding(crate::specs::Lines::weighted_size_line))]
-fn put_weighted_size(
-    text: &mut Vec<u8>,
-    n: u16,
-    total: u64,
-    quorum: u64,
-) -> Result<(), AllocError>
+fn put_weighted_size(text: &mut Vec<u8>, n: u16, total: u64, quorum: u64) -> Result<(), AllocError>
     ensures { OnOk result (text.new.items ≡ text.old.items ++ weighted_size_line n total quorum) }
 {
     append(text, b"committee n ")?;

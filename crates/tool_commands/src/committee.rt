@@ -67,7 +67,13 @@ pub fn weighted<'a, F: Files<File = File>, W: Sink>(
     if members.len() > 65_535 {
         return Err(Fault::Usage);
     }
-    publish(rt, alloc, path, &write_weighted_committee(alloc, &members)?, out)
+    publish(
+        rt,
+        alloc,
+        path,
+        &write_weighted_committee(alloc, &members)?,
+        out,
+    )
 }
 
 // Writes the bytes where they are a committee, and prints its chain id.
