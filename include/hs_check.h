@@ -24,10 +24,10 @@ extern "C" {
 
 /* The lengths of texts that can be accepted, in bytes. Every other length is refused. */
 enum {
-    HS_DOUBLE_VOTE_LEN = 3023,    /* a verdict of rule 1 */
-    HS_LOCK_VIOLATION_LEN = 3275, /* a verdict of rule 2 */
+    HS_DOUBLE_VOTE_LEN = 3025,    /* a verdict of rule 1 */
+    HS_LOCK_VIOLATION_LEN = 3277, /* a verdict of rule 2 */
     HS_COMMITTEE_MIN_LEN = 232,   /* a committee of 4 replicas that count once: 8, and 56 for each */
-    HS_COMMITTEE_MAX_LEN = 1868   /* one of 31 replicas that have weights: 8, and 60 for each */
+    HS_COMMITTEE_MAX_LEN = 7200   /* one of 31 replicas that may have several keys: 8, and 232 for each */
 };
 
 /* The rules that may be broken. */
@@ -42,22 +42,24 @@ enum {
 
     /* The verdict is refused: the first of these whose case holds. */
     HS_REFUSED_SHORT = 1,           /* it has fewer than 39 bytes */
-    HS_REFUSED_MAGIC = 2,           /* it does not begin with HSX1 */
+    HS_REFUSED_MAGIC = 2,           /* it does not begin with HSX2 */
     HS_REFUSED_KIND = 3,            /* its kind is neither 1 nor 2 */
     HS_REFUSED_LENGTH = 4,          /* it has not as many bytes as its kind asks for */
     HS_REFUSED_CHAIN = 5,           /* its chain id is not the committee's */
     HS_REFUSED_REPLICA = 6,         /* the committee has no such replica */
+    HS_REFUSED_KEY_NUMBER = 11,     /* one of its votes names a key that the replica has not */
     HS_REFUSED_HEADER_MISMATCH = 7, /* of kind 2: a header can't be read, or is not the one that the votes ask for */
     HS_REFUSED_NO_RULE_BROKEN = 8,  /* its votes do not break the rule of its kind */
-    HS_REFUSED_SIGNATURE_E = 9,     /* the first vote's signature does not verify */
-    HS_REFUSED_SIGNATURE_W = 10,    /* the second vote's signature does not verify */
+    HS_REFUSED_SIGNATURE_E = 9,     /* the first vote's signature does not verify under its key */
+    HS_REFUSED_SIGNATURE_W = 10,    /* the second vote's signature does not verify under its key */
 
     /* The committee is refused, whatever the verdict: the first of these whose case holds. */
     HS_COMMITTEE_LENGTH = -1,   /* it has fewer than 8 bytes, or not as many as its replicas ask for */
-    HS_COMMITTEE_MAGIC = -2,    /* it begins with neither HSC1 nor HSC2 */
+    HS_COMMITTEE_MAGIC = -2,    /* it begins with neither HSC1, HSC2 nor HSC3 */
     HS_COMMITTEE_SIZE = -3,     /* it has a number of replicas that is not allowed */
+    HS_COMMITTEE_KEY_COUNT = -7, /* a replica has no key, more than four, or bytes behind its keys */
     HS_COMMITTEE_KEY = -4,      /* a replica's key is none */
-    HS_COMMITTEE_SAME_KEY = -5, /* two replicas have one key */
+    HS_COMMITTEE_SAME_KEY = -5, /* one key stands twice */
     HS_COMMITTEE_WEIGHT = -6    /* a replica has the weight 0 */
 };
 

@@ -25,6 +25,7 @@ static const char *const refusals[] = {
     [HS_REFUSED_LENGTH] = "Length",
     [HS_REFUSED_CHAIN] = "Chain",
     [HS_REFUSED_REPLICA] = "Replica",
+    [HS_REFUSED_KEY_NUMBER] = "KeyNumber",
     [HS_REFUSED_HEADER_MISMATCH] = "HeaderMismatch",
     [HS_REFUSED_NO_RULE_BROKEN] = "NoRuleBroken",
     [HS_REFUSED_SIGNATURE_E] = "SignatureE",
@@ -38,6 +39,7 @@ static const char *const committee_refusals[] = {
     [-HS_COMMITTEE_KEY] = "Key",
     [-HS_COMMITTEE_SAME_KEY] = "SameKey",
     [-HS_COMMITTEE_WEIGHT] = "Weight",
+    [-HS_COMMITTEE_KEY_COUNT] = "KeyCount",
 };
 
 static bool read_text(const char *path, struct text *text)

@@ -38,6 +38,7 @@ class Refusal(IntEnum):
     NoRuleBroken = 8
     SignatureE = 9
     SignatureW = 10
+    KeyNumber = 11
 
 
 class CommitteeRefusal(IntEnum):
@@ -49,6 +50,7 @@ class CommitteeRefusal(IntEnum):
     Key = 4
     SameKey = 5
     Weight = 6
+    KeyCount = 7
 
 
 class Refused(Exception):

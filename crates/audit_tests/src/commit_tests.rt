@@ -13,7 +13,7 @@ type Raised = [&'static [u8]; 3];
 
 // The entry of such a block.
 fn entry(alloc: Global, raised: &Raised) -> Result<Vec<u8>, Fail> {
-    let mut entry = vec![in alloc; 2u8]?;
+    let mut entry = vec![in alloc; 4u8]?;
     for piece in raised {
         entry.extend_from_slice(piece)?;
     }

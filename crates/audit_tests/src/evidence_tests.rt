@@ -48,7 +48,7 @@ fn an_entry_with_a_wrong_parent_shows_nothing(rt: HostRuntime) -> Result<(), Fai
 // The entry of A2 with a byte of the second signature of its certificate turned.
 fn turned(alloc: Global) -> Result<Vec<u8>, Fail> {
     let mut entry = log_entries::a2_voted().to_vec(alloc)?;
-    let byte = entry.get_mut(1661 + 42 + 1454 + 2 + 100);
+    let byte = entry.get_mut(1662 + 42 + 1455 + 3 + 100);
     *byte.ok_or("no such byte")? ^= 1;
     Ok(entry)
 }

@@ -35,7 +35,7 @@ fn a_double_vote_is_read(rt: HostRuntime) -> Result<(), Fail> {
     ];
     let found = found(rt.alloc(), &logs)?;
     assert!(rt; found.len() == 1);
-    assert!(rt; is_stored(&found[0], double_vote_logs::verdict(), 3023));
+    assert!(rt; is_stored(&found[0], double_vote_logs::verdict(), 3025));
     assert!(rt; accuses(&found[0], Rule::DoubleVote, 2, 1, 1));
     Ok(())
 }
@@ -46,7 +46,7 @@ fn a_lock_violation_is_read(rt: HostRuntime) -> Result<(), Fail> {
     let logs = [(0, fork_logs::log_0()), (3, fork_logs::log_3())];
     let found = found(rt.alloc(), &logs)?;
     assert!(rt; found.len() == 2);
-    assert!(rt; is_stored(&found[0], verdicts::lock_violation(), 3275));
+    assert!(rt; is_stored(&found[0], verdicts::lock_violation(), 3277));
     assert!(rt; accuses(&found[0], Rule::LockViolation, 1, 3, 4));
     Ok(())
 }

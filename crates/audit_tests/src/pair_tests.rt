@@ -142,7 +142,7 @@ fn put_certificate(text: &mut Vec<u8>, block: &Header) -> Result<(), Fail> {
         text.extend_from_slice(&[0, 0])?;
         return Ok(());
     }
-    text.extend_from_slice(&[0, 1, 0, 1])?;
+    text.extend_from_slice(&[0, 1, 0, 1, 0])?;
     text.extend_from_slice(&[0; 1452])?;
     Ok(())
 }
@@ -163,9 +163,10 @@ fn entry(
         view: block.header.view,
         id: block.id,
     };
-    let mut text = b"\x01".to_vec(alloc)?;
+    let mut text = b"\x03".to_vec(alloc)?;
     text.extend_from_slice(&block.header.to_bytes())?;
     text.extend_from_slice(&block.parent.to_bytes())?;
+    text.push(0)?;
     text.extend_from_slice(&statement.view.to_be_bytes())?;
     text.extend_from_slice(&statement.id)?;
     text.extend_from_slice(&tree.sign_at(leaf, &statement.to_bytes()))?;

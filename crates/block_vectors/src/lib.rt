@@ -4,4 +4,6 @@
 #[cfg(test)]
 mod header_tests;
 #[cfg(test)]
+mod multikey_tests;
+#[cfg(test)]
 mod weight_tests;

@@ -63,10 +63,18 @@ fn the_first_fault_of_a_weighted_committee(rt: HostRuntime) -> Result<(), Fail> 
 }
 
 fn written(alloc: Global, members: &[Member]) -> Result<Vec<u8>, Fail> {
-    if members.len() > 31 {
+    if members.len() > 31 || members.iter().any(|m| m.keys.len() != 1) {
         return Err("too many".into());
     }
     Ok(write_weighted_committee(alloc, members)?)
+}
+
+// A replica with one key.
+fn with_key(alloc: Global, weight: u32, key: [u8; PUBLIC_KEY_LEN]) -> Result<Member, Fail> {
+    Ok(Member {
+        weight,
+        keys: vec![in alloc; key]?,
+    })
 }
 
 // The bytes of a committee with these weights and keys.
@@ -78,10 +86,10 @@ fn of_keys(
     let [a, b, c, d] = weights;
     let [e, f, g, h] = keys;
     let members = [
-        Member { weight: a, key: e },
-        Member { weight: b, key: f },
-        Member { weight: c, key: g },
-        Member { weight: d, key: h },
+        with_key(alloc, a, e)?,
+        with_key(alloc, b, f)?,
+        with_key(alloc, c, g)?,
+        with_key(alloc, d, h)?,
     ];
     written(alloc, &members)
 }
@@ -114,7 +122,8 @@ fn a_weighted_committee_is_read(rt: HostRuntime) -> Result<(), Fail> {
     assert!(rt; weights == [5, 1, 1, 1]);
     assert!(rt; (committee.total(), committee.quorum()) == (8, 6));
     assert!(rt; committee.has_weights());
-    assert!(rt; committee.key(2).to_bytes() == key(2));
+    assert!(rt; committee.keys(2) == 1);
+    assert!(rt; committee.key(2, 0).to_bytes() == key(2));
     assert!(rt; committee.chain() == *CHAIN);
     Ok(())
 }
@@ -132,10 +141,7 @@ fn key_of(r: u8) -> [u8; PUBLIC_KEY_LEN] {
 fn alike(alloc: Global, n: u8, weight: u32) -> Result<Vec<u8>, Fail> {
     let mut members = Vec::new(alloc);
     for r in 0..n {
-        members.push(Member {
-            weight,
-            key: key_of(r),
-        })?;
+        members.push(with_key(alloc, weight, key_of(r))?)?;
     }
     written(alloc, &members)
 }

@@ -4,9 +4,15 @@ use Rattle.std.proofs.lemmas.Bool.{cases_lt}
 use Rattle.std.specs.Prelude.{Result}
 use Rattle.wire.specs.Refusals.{first_of, or_else, unless}
 
-both_none : {R : Type 0} (a b : Option R) → or_else a b ≡ None → (a ≡ None) × (b ≡ None)
+-- neither of the two answers
+pub both_none : {R : Type 0} (a b : Option R) → or_else a b ≡ None → (a ≡ None) × (b ≡ None)
 both_none None b e = (refl, e)
 both_none (Some r) b e = absurd cc
+
+-- no answer and no other is none
+pub else_none : {R : Type 0} (a b : Option R) → a ≡ None → b ≡ None → or_else a b ≡ None
+else_none None b e f = f
+else_none (Some r) b e f = absurd cc
 
 -- then there is no answer at any place
 pub none_at : {R : Type 0} (f : ℕ → Option R) (n k : ℕ) → first_of f n ≡ None → k < n → f k ≡ None

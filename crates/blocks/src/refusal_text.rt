@@ -1,4 +1,4 @@
-//! How the refusal of a committee is printed: its number, its name, and the replicas that it names.
+//! How the refusal of a committee is printed: its number, its name, and the replicas or keys that it names.
 
 use crate::committee::CommitteeRefusal;
 use std::fmt;
@@ -11,7 +11,8 @@ impl Display for CommitteeRefusal {
             CommitteeRefusal::Length => write!(f, "{number} Length"),
             CommitteeRefusal::Magic => write!(f, "{number} Magic"),
             CommitteeRefusal::Size => write!(f, "{number} Size"),
-            CommitteeRefusal::Key(replica) => write!(f, "{number} Key {replica}"),
+            CommitteeRefusal::KeyCount(replica) => write!(f, "{number} KeyCount {replica}"),
+            CommitteeRefusal::Key(key) => write!(f, "{number} Key {key}"),
             CommitteeRefusal::SameKey(first, second) => write!(
                 f,
                 "{number} SameKey {first} {second}"

@@ -42,7 +42,7 @@ flip : (d e : Endorsement) → Differ d e → Differ e d
 flip d e differ same = differ (sym same)
 
 abbrev vote_from : Endorsement → SignedVote
-vote_from e = record { replica = e.replica; view = 0; id = []; signature = e.signature }
+vote_from e = record { replica = e.replica; view = 0; id = []; key = e.key; signature = e.signature }
 
 differ_kept : (votes : List SignedVote) → AreByDifferent votes → AllPairs Differ (map endorsement_of votes)
 differ_kept votes different i j d before below =

@@ -1,6 +1,5 @@
 -- A certificate that passes each test of a block is good, and a good one passes them.
-use Rattle.std.proofs.Common.{◌≡◌, ◌<◌, ◌≤◌, ◌+◌, ℕ, true, List, [], ◌∷◌, length, nat_lt, subst, refl, sym, suc, ap, ◌∙◌, inl, inr, arith}
-use Rattle.std.specs.Prelude.{if◌then◌else◌}
+use Rattle.std.proofs.Common.{◌≡◌, ◌<◌, ◌≤◌, ◌+◌, ℕ, true, List, [], ◌∷◌, nat_lt, subst, refl, sym, suc, ap, ◌∙◌, inl, inr, arith}
 use Rattle.std.specs.List.{All, AllPairs, sum_by}
 use Rattle.std.proofs.lemmas.Bool.Decides.{nat_tests}
 use Rattle.std.proofs.lemmas.List.Sums.{sum_by-cons}
@@ -9,7 +8,7 @@ use Rattle.blocks.specs.Weights.{quorum_of}
 use Rattle.certificates.specs.declared.certificate.Endorsement.{Endorsement}
 use Rattle.certificates.specs.Certificates.{Certificate, IsBefore}
 use Rattle.certificates.specs.GoodCertificates.{IsGoodCertificate, IsGoodEntry}
-use Rattle.certificates.specs.BlockChecks.{HasCount, AreInCommittee, IsSignedEntry, counted}
+use Rattle.certificates.specs.BlockChecks.{HasCount, AreInCommittee, HaveKnownKeys, IsSignedEntry, counted}
 
 -- ---- weights of entries whose replicas are known
 
@@ -30,15 +29,15 @@ same_weight committee (e ∷ es) known =
 
 -- ---- both ways
 
-pub good_from : (committee : List ℕ) (c : Certificate) → HasCount committee c → AreInCommittee committee c
+pub good_from : (committee : List ℕ) (c : Certificate) → HasCount committee c → AreInCommittee committee c → HaveKnownKeys committee c
     → All (IsSignedEntry committee c) c.entries → AllPairs IsBefore c.entries → IsGoodCertificate committee c
-good_from committee c count known signed rising =
+good_from committee c count known keys signed rising =
     elim count [
       | inl between ↦ inl (record {
         least = subst (λ (w : ℕ). quorum_of committee ≤ w) (same_weight committee c.entries known) between.least;
         most = between.most;
         rising = rising;
-        good = λ k d below. record { known = known k d below; signed = signed k d below };
+        good = λ k d below. record { known = known k d below; key = keys k d below; signed = signed k d below };
       })
       | inr genesis ↦ inr genesis
     ]

@@ -1,5 +1,5 @@
 -- A certificate that is put together from votes, and why votes make none.
-use Rattle.std.specs.Prelude.{◌≡◌, ◌≢◌, ◌<◌, ◌≤◌, ℕ, List, length, map}
+use Rattle.std.specs.Prelude.{◌≡◌, ◌≢◌, ◌<◌, ◌≤◌, ℕ, List, map}
 use Rattle.std.specs.List.{All, AllPairs, sum_by}
 use Rattle.std.specs.List.Sorted.{IsPermutation}
 use Rattle.blocks.specs.Committees.{weight_at}
@@ -27,9 +27,9 @@ AreByDifferent votes = AllPairs (λ v w. v.replica ≢ w.replica) votes
 abbrev pub votes_weight : List ℕ → List SignedVote → ℕ
 votes_weight committee votes = sum_by (λ v. weight_at committee v.replica) votes
 
--- what a certificate keeps of a vote beside its own view and id
+-- what a certificate keeps of a vote beside its own view and id: its replica, its key and its signature
 abbrev pub endorsement_of : SignedVote → Endorsement
-endorsement_of v = record { replica = v.replica; signature = v.signature }
+endorsement_of v = record { replica = v.replica; key = v.key; signature = v.signature }
 
 -- the certificate has these votes and no others, sorted by replica, on their view and id
 pub record IsAssembled (votes : List SignedVote) (c : Certificate) : Type 0 where

@@ -1,12 +1,12 @@
 -- When a block's certificate is good and on the block's parent, and why a block is refused.
 use Rattle.std.specs.Prelude.{◌≡◌, ◌⊎◌, ◌<◌, ◌≤◌, ℕ, List, length, take, nat_lt, if◌then◌else◌}
 use Rattle.std.specs.List.{All, sum_by}
-use Rattle.blocks.specs.Committees.{n_of, weight_at}
+use Rattle.blocks.specs.Committees.{n_of, keys_of, weight_at}
 use Rattle.blocks.specs.Weights.{quorum_of}
 use Rattle.blocks.specs.Headers.{Header}
 use Rattle.certificates.specs.declared.certificate.Endorsement.{Endorsement}
 use Rattle.certificates.specs.declared.checked_block.BlockRefusal.{BlockRefusal}
-use Rattle.certificates.specs.declared.checked_block.BlockRefusal.TheVariants.{WrongBlock, Count, UnknownReplica, Signature}
+use Rattle.certificates.specs.declared.checked_block.BlockRefusal.TheVariants.{WrongBlock, Count, UnknownReplica, UnknownKey, Signature}
 use Rattle.certificates.specs.Certificates.{Certificate, nth_endorsement}
 use Rattle.certificates.specs.GoodCertificates.{IsGoodCertificate, IsOnGenesis}
 use Rattle.certificates.specs.Votes.{IsSignedBy}
@@ -50,11 +50,15 @@ HasCount committee c = IsBetween committee c ⊎ IsOnGenesis committee c
 abbrev pub AreInCommittee : List ℕ → Certificate → Type 0
 AreInCommittee committee c = All (λ e. e.replica < n_of committee) c.entries
 
--- an entry is signed by its replica
-abbrev pub IsSignedEntry : List ℕ → Certificate → Endorsement → Type 0
-IsSignedEntry committee c e = IsSignedBy committee e.replica c.view c.id e.signature
+-- each entry names a key that its replica has
+abbrev pub HaveKnownKeys : List ℕ → Certificate → Type 0
+HaveKnownKeys committee c = All (λ e. e.key < keys_of committee e.replica) c.entries
 
--- entry k is the least that is not signed by its replica
+-- an entry is signed with the key of its replica that it names
+abbrev pub IsSignedEntry : List ℕ → Certificate → Endorsement → Type 0
+IsSignedEntry committee c e = IsSignedBy committee e.replica e.key c.view c.id e.signature
+
+-- entry k is the least that is not signed so
 pub record IsFirstUnsigned (committee : List ℕ) (c : Certificate) (k : ℕ) : Type 0 where
   pub place : k < length c.entries
   pub before : All (IsSignedEntry committee c) (take k c.entries)
@@ -65,12 +69,15 @@ abbrev pub IsBlockRefusal : BlockRefusal → List ℕ → Header → Certificate
 IsBlockRefusal WrongBlock committee h c = IsOnParent h c → ⊥
 IsBlockRefusal Count committee h c = IsOnParent h c × (HasCount committee c → ⊥)
 IsBlockRefusal UnknownReplica committee h c = IsOnParent h c × HasCount committee c × (AreInCommittee committee c → ⊥)
+IsBlockRefusal UnknownKey committee h c =
+    IsOnParent h c × HasCount committee c × AreInCommittee committee c × (HaveKnownKeys committee c → ⊥)
 IsBlockRefusal (Signature k) committee h c =
-    IsOnParent h c × HasCount committee c × AreInCommittee committee c × IsFirstUnsigned committee c k
+    IsOnParent h c × HasCount committee c × AreInCommittee committee c × HaveKnownKeys committee c × IsFirstUnsigned committee c k
 
 -- the number that docs/REFUSALS.md gives a refusal
 abbrev pub block_refusal_number : BlockRefusal → ℕ
 block_refusal_number WrongBlock = 1
 block_refusal_number Count = 2
 block_refusal_number UnknownReplica = 3
+block_refusal_number UnknownKey = 5
 block_refusal_number (Signature k) = 4

@@ -1,5 +1,5 @@
 -- Reading a certificate from left to right, with the first refusal that is met.
-use Rattle.std.specs.Prelude.{◌==◌, ◌&&◌, ◌+◌, ◌*◌, ◌++◌, ℕ, zero, suc, Bool, true, List, [], ◌∷◌, length, nat_le, nat_lt, Result, Ok, if◌then◌else◌}
+use Rattle.std.specs.Prelude.{◌==◌, ◌&&◌, ◌+◌, ◌*◌, ◌++◌, ℕ, zero, suc, Bool, true, List, [], ◌∷◌, length, slice_index, nat_le, nat_lt, Result, Ok, if◌then◌else◌}
 use Rattle.wire.specs.Pieces.{piece, number_at}
 use Rattle.wire.specs.Refusals.{need}
 use Rattle.certificates.specs.declared.certificate.Endorsement.{Endorsement}
@@ -16,7 +16,11 @@ abbrev pub count_in : List ℕ → ℕ
 count_in bytes = number_at 2 bytes 40
 
 unfoldable pub endorsement_at : List ℕ → ℕ → Endorsement
-endorsement_at bytes k = record { replica = number_at 2 bytes (42 + ENDORSEMENT_LEN * k); signature = piece SIGNATURE_LEN bytes (44 + ENDORSEMENT_LEN * k) }
+endorsement_at bytes k = record {
+  replica = number_at 2 bytes (42 + ENDORSEMENT_LEN * k);
+  key = slice_index bytes (44 + ENDORSEMENT_LEN * k);
+  signature = piece SIGNATURE_LEN bytes (45 + ENDORSEMENT_LEN * k);
+}
 
 -- the first n entries
 unfoldable pub entries_in : List ℕ → ℕ → List Endorsement

@@ -1,14 +1,14 @@
--- Certificates and their bytes, as docs/FORMATS.md, "Certificate, 42 + 1,454c bytes", lays them out. They
+-- Certificates and their bytes, as docs/FORMATS.md, "Certificate, 42 + 1,455c bytes", lays them out. They
 -- are the quorum certificates of HotStuff (Yin and others, PODC 2019); profile: a list of signatures in
--- place of one threshold signature, each beside the number of its replica.
-use Rattle.std.specs.Prelude.{◌≡◌, ◌↔◌, ◌<◌, ◌≤◌, ◌^◌, ◌++◌, ℕ, List, [], length, slice_index_or}
+-- place of one threshold signature, each beside the numbers of its replica and of the key that signed.
+use Rattle.std.specs.Prelude.{◌≡◌, ◌↔◌, ◌<◌, ◌≤◌, ◌^◌, ◌++◌, ℕ, List, [], ◌∷◌, length, slice_index_or}
 use Rattle.std.specs.List.{All, AllPairs, flat_map}
 use Rattle.lms_tree.specs.declared.TheConstants.{SIGNATURE_LEN}
 use Rattle.byteorder.specs.Endian.{big_bytes}
 use Rattle.certificates.specs.declared.certificate.Endorsement.{Endorsement}
 use Rattle.certificates.specs.declared.vote.SignedVote.{SignedVote}
 
--- a view, a block's id, and replicas with their signatures on both
+-- a view, a block's id, and replicas with their keys and signatures on both
 pub record Certificate : Type 0 where
   pub view : ℕ
   pub id : List ℕ
@@ -23,6 +23,7 @@ IsBefore d e = d.replica < e.replica
 -- an entry that has bytes
 pub record IsEndorsement (e : Endorsement) : Type 0 where
   pub replica : e.replica < 2 ^ 16
+  pub key : e.key < 2 ^ 8
   pub signature : length e.signature ≡ SIGNATURE_LEN
 
 -- a certificate that has bytes: its replicas rise, there are at most 31, and none exactly in view 0
@@ -36,9 +37,9 @@ pub record IsCertificate (c : Certificate) : Type 0 where
 
 -- ---- the bytes of a certificate
 
--- a replica's number and its signature
+-- a replica's number, that of its key, and the signature
 abbrev pub endorsement_text : Endorsement → List ℕ
-endorsement_text e = big_bytes 2 e.replica ++ e.signature
+endorsement_text e = big_bytes 2 e.replica ++ e.key ∷ e.signature
 
 -- the view, the id, the number of entries, and the entries one after the other
 unfoldable pub certificate_text : Certificate → List ℕ
@@ -48,8 +49,8 @@ certificate_text c = big_bytes 8 c.view ++ (c.id ++ (big_bytes 2 (length c.entri
 
 -- entry k, for k below their number
 abbrev pub nth_endorsement : Certificate → ℕ → Endorsement
-nth_endorsement c k = slice_index_or c.entries k (record { replica = 0; signature = [] })
+nth_endorsement c k = slice_index_or c.entries k (record { replica = 0; key = 0; signature = [] })
 
 -- the vote that an entry stands for
 abbrev pub vote_of : Certificate → Endorsement → SignedVote
-vote_of c e = record { replica = e.replica; view = c.view; id = c.id; signature = e.signature }
+vote_of c e = record { replica = e.replica; view = c.view; id = c.id; key = e.key; signature = e.signature }

@@ -100,11 +100,15 @@ fn are_by_different(votes: &[SignedVote]) -> bool
 }
 
 // An entry of a certificate.
-fn endorsement(replica: u16, signature: Signature) -> Endorsement
-    ensures value { result ≡ record { replica = replica; signature = signature } }
+fn endorsement(replica: u16, key: u8, signature: Signature) -> Endorsement
+    ensures value { result ≡ record { replica = replica; key = key; signature = signature } }
     ensures fits { IsEndorsement result }
 {
-    Endorsement { replica, signature }
+    Endorsement {
+        replica,
+        key,
+        signature,
+    }
 }
 
 // What a certificate keeps of these votes, in their order.
@@ -115,7 +119,7 @@ fn endorsements_of(alloc: Global, votes: &[SignedVote]) -> Result<Vec<Endorsemen
 {
     let mut entries = Vec::new(alloc);
     for vote in votes {
-        entries.push(endorsement(vote.replica, vote.signature))?;
+        entries.push(endorsement(vote.replica, vote.key, vote.signature))?;
     }
     Ok(entries)
 }
@@ -128,8 +132,8 @@ fn sort_by_replica(entries: &mut Vec<Endorsement>)
     entries.sort_unstable_by_key(|e| e.replica);
 }
 
-/// The certificate of these votes, sorted by replica. Their replicas must be below the committee's n and
-/// their views at least 1. No signature is checked: `check_block` does that.
+/// The certificate of these votes, sorted by replica, each under the key that it names. Their replicas must be below the
+/// committee's n and their views at least 1. Neither the keys nor the signatures are checked: `check_block` does that.
 /// Refused in this order: Memory, Mixed, TooFew, Double; Memory comes only where the votes pass each test.
 pub fn assemble(
     alloc: Global,

@@ -17,18 +17,20 @@ use wire::{array_at, u16_at, u64_at};
 /// The length in bytes of what stands before the entries: the view, the id and the count.
 const HEAD_LEN: usize = 42;
 
-/// The length of an entry in bytes: the number of a replica, and a signature.
-pub const ENDORSEMENT_LEN: usize = 1454;
+/// The length of an entry in bytes: the number of a replica, that of its key, and a signature.
+pub const ENDORSEMENT_LEN: usize = 1455;
 
 /// The greatest number of entries, one for each replica of the greatest committee.
 pub const MOST_ENDORSEMENTS: u16 = 31;
 
-/// A replica and its signature, in a certificate.
+/// A replica, one of its keys and the signature under that key, in a certificate.
 #[derive(Clone, Copy, Debug)]
 pub struct Endorsement {
     /// The number of the replica in its committee, from 0.
     pub replica: u16,
-    /// Its LMS signature of the statement (RFC 8554, section 5.4).
+    /// The number of the replica's key that signed, from 0.
+    pub key: u8,
+    /// The LMS signature of the statement under that key (RFC 8554, section 5.4).
     pub signature: Signature,
 }
 
@@ -56,7 +58,7 @@ impl Model for Certificate {
 pub enum CertificateRefusal {
     /// Memory was refused.
     Memory = 1,
-    /// There are fewer than 42 bytes, or not 42 and 1,454 for each entry.
+    /// There are fewer than 42 bytes, or not 42 and 1,455 for each entry.
     Length = 2,
     /// The numbers of the replicas do not rise.
     Order = 3,
@@ -98,7 +100,8 @@ fn endorsement_at(bytes: &[u8], k: u16) -> Endorsement
     let at = HEAD_LEN + ENDORSEMENT_LEN * k as usize;
     Endorsement {
         replica: u16_at(bytes, at),
-        signature: array_at(bytes, at + 2),
+        key: bytes[at + 2],
+        signature: array_at(bytes, at + 3),
     }
 }
 
@@ -173,6 +176,7 @@ fn put_entry(text: &mut Vec<u8>, e: &Endorsement) -> Result<(), AllocError>
     ensures { OnOk result (text.new.items ≡ text.old.items ++ endorsement_text e.now) }
 {
     text.extend_from_slice(&e.replica.to_be_bytes())?;
+    text.push(e.key)?;
     text.extend_from_slice(&e.signature)?;
     Ok(())
 }
@@ -200,9 +204,9 @@ impl Certificate {
     }
 
     /// The certificate that the bytes spell: the view (8 bytes at 0), the id (32 at 8), the number of
-    /// entries (2 at 40), and for each entry the number of its replica (2) and its signature (1,452),
-    /// numbers with the highest byte first. Refused in this order: Memory, where memory for the entries of
-    /// a text of whole length was refused, Length, Order, Count.
+    /// entries (2 at 40), and for each entry the number of its replica (2), that of its key (1) and its
+    /// signature (1,452), numbers with the highest byte first. Any number of a key is read. Refused in this
+    /// order: Memory, where memory for the entries of a text of whole length was refused, Length, Order, Count.
     pub fn read(alloc: Global, bytes: &[u8]) -> Result<Certificate, CertificateRefusal>
         // What is read is spelled so.
         ensures found { IfOk result (λ c. IsCertificate c × (bytes.now ≡ certificate_text c)) }
@@ -242,7 +246,7 @@ impl Certificate {
         })
     }
 
-    /// The bytes of the certificate, 42 and 1,454 for each entry.
+    /// The bytes of the certificate, 42 and 1,455 for each entry.
     #[tactic(auto, unfolding(crate::specs::Certificates::certificate_text))]
     pub fn write(&self, alloc: Global) -> Result<Vec<u8>, AllocError>
         ensures text { IfOk result (λ text. text.items ≡ certificate_text self.now) }
@@ -298,6 +302,7 @@ impl Certificate {
             replica: entry.replica,
             view: self.view,
             id: self.id,
+            key: entry.key,
             signature: entry.signature,
         }
     }

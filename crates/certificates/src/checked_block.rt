@@ -2,8 +2,8 @@
 
 ghost use Rattle.std.specs.Prelude.{◌≡◌, ◌<◌, ◌↔◌, IsOk, IsTrue, IfErr, IfNone, IfOk, IfSome, OnOk};
 ghost use Rattle.std.specs.List.{All, AllPairs};
-ghost use Rattle.blocks.specs.Committees.{n_of};
-ghost use Rattle.certificates.specs.BlockChecks.{CheckedBlock as CheckedBlockValue, counted, counted_weight, AreInCommittee, HasCount, IsBlockRefusal, IsChecked, IsFirstUnsigned, IsOnParent, IsSignedEntry, block_refusal_number};
+ghost use Rattle.blocks.specs.Committees.{n_of, keys_of};
+ghost use Rattle.certificates.specs.BlockChecks.{CheckedBlock as CheckedBlockValue, counted, counted_weight, AreInCommittee, HasCount, HaveKnownKeys, IsBlockRefusal, IsChecked, IsFirstUnsigned, IsOnParent, IsSignedEntry, block_refusal_number};
 ghost use Rattle.certificates.specs.Certificates.{IsBefore};
 ghost use Rattle.certificates.specs.GoodCertificates.{IsOnGenesis};
 
@@ -22,7 +22,9 @@ pub enum BlockRefusal {
     Count,
     /// 3: the committee has no replica of some vote's number.
     UnknownReplica,
-    /// 4: this vote, counted from 0, is not signed by its replica, and it is the least such vote.
+    /// 5: some vote names a key that its replica has not.
+    UnknownKey,
+    /// 4: this vote, counted from 0, is not signed with the key of its replica that it names, and it is the least such vote.
     Signature(usize),
 }
 
@@ -35,6 +37,7 @@ impl BlockRefusal {
             BlockRefusal::WrongBlock => 1,
             BlockRefusal::Count => 2,
             BlockRefusal::UnknownReplica => 3,
+            BlockRefusal::UnknownKey => 5,
             BlockRefusal::Signature(_) => 4,
         }
     }
@@ -118,32 +121,48 @@ fn are_known(committee: &CommitteeView, certificate: &Certificate) -> bool
     certificate.entries().iter().all(|e| e.replica < n)
 }
 
-// Whether an entry of the certificate is signed by its replica.
+// Whether each vote names a key that its replica has.
+fn have_known_keys(committee: &CommitteeView, certificate: &Certificate) -> bool
+    requires { AreInCommittee committee.now certificate.now }
+    ensures { IsTrue result ↔ HaveKnownKeys committee.now certificate.now }
+{
+    for entry in certificate.entries() {
+        if entry.key >= committee.keys(entry.replica) {
+            return false;
+        }
+    }
+    true
+}
+
+// Whether an entry of the certificate is signed with the key of its replica that it names.
 fn is_signed_entry<V: Verifier>(
     committee: &CommitteeView,
     verifier: &V,
     certificate: &Certificate,
     entry: &Endorsement,
 ) -> bool
-    requires { entry.now.replica < n_of committee.now }
+    requires known { entry.now.replica < n_of committee.now }
+    requires key { entry.now.key < keys_of committee.now entry.now.replica }
     ensures { IsTrue result ↔ IsSignedEntry committee.now certificate.now entry.now }
 {
     is_signed_by(
         verifier,
         committee,
         entry.replica,
+        entry.key,
         &certificate.ballot(),
         &entry.signature,
     )
 }
 
-// The least vote that is not signed by its replica.
+// The least vote that is not signed with the key of its replica that it names.
 fn first_unsigned<V: Verifier>(
     committee: &CommitteeView,
     verifier: &V,
     certificate: &Certificate,
 ) -> Option<usize>
-    requires { AreInCommittee committee.now certificate.now }
+    requires known { AreInCommittee committee.now certificate.now }
+    requires keys { HaveKnownKeys committee.now certificate.now }
     ensures none { IfNone result (All (IsSignedEntry committee.now certificate.now) certificate.now.entries) }
     ensures some { IfSome result (λ k. IsFirstUnsigned committee.now certificate.now k) }
 {
@@ -175,6 +194,9 @@ fn judge<V: Verifier>(
     if !are_known(committee, certificate) {
         return Err(BlockRefusal::UnknownReplica);
     }
+    if !have_known_keys(committee, certificate) {
+        return Err(BlockRefusal::UnknownKey);
+    }
     if let Some(k) = first_unsigned(committee, verifier, certificate) {
         return Err(BlockRefusal::Signature(k));
     }
@@ -183,9 +205,9 @@ fn judge<V: Verifier>(
 
 /// The block, if its view is above 0 and the certificate is good under the committee and on the parent
 /// that the header names. A good certificate has votes by different replicas, n at the most, that weigh as much as a quorum,
-/// each signed by its replica, or none and is on genesis. Refused in this order: WrongBlock, Count, UnknownReplica,
-/// Signature; a refusal drops the header and the certificate. It costs one signature check for each vote
-/// at the most, takes no memory and does not wait.
+/// each signed with the key of its replica that it names, or none and is on genesis. Refused in this order: WrongBlock,
+/// Count, UnknownReplica, UnknownKey, Signature; a refusal drops the header and the certificate. It costs one signature
+/// check for each vote at the most, takes no memory and does not wait.
 pub fn check_block<'a, V: Verifier>(
     committee: &CommitteeView<'a>,
     verifier: &V,

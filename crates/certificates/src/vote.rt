@@ -2,7 +2,7 @@
 
 ghost use Rattle.std.specs.Prelude.{◌≡◌, ◌<◌, ◌≤◌, ◌↔◌, IsTrue, IsOk, OnOk, IfErr};
 ghost use Rattle.lms_tree.specs.Tree.{Verifies};
-ghost use Rattle.blocks.specs.Committees.{n_of};
+ghost use Rattle.blocks.specs.Committees.{n_of, keys_of};
 ghost use Rattle.certificates.specs.VoteChecks.{IsVoteRefusal, vote_refusal_number};
 ghost use Rattle.certificates.specs.Votes.{IsGoodVote, IsSignedBy, ballot_of, vote_text};
 
@@ -12,9 +12,9 @@ use lms_tree::{PublicKey, Signature, verify};
 use wire::put;
 
 /// The length of a vote in bytes.
-pub const VOTE_LEN: usize = 1494;
+pub const VOTE_LEN: usize = 1495;
 
-/// A replica's signed vote for a block. Votes are ordered by replica, view, id and signature.
+/// A replica's signed vote for a block. Votes are ordered by replica, view, id, key and signature.
 #[derive(Clone, Copy, Debug, PartialEq, Eq, PartialOrd, Ord)]
 pub struct SignedVote {
     /// The number of the replica in its committee, from 0.
@@ -23,7 +23,9 @@ pub struct SignedVote {
     pub view: u64,
     /// The block's id.
     pub id: Id,
-    /// The LMS signature of the statement, 1,452 bytes (RFC 8554, section 5.4).
+    /// The number of the replica's key that signed, from 0.
+    pub key: u8,
+    /// The LMS signature of the statement under that key, 1,452 bytes (RFC 8554, section 5.4).
     pub signature: Signature,
 }
 
@@ -38,17 +40,18 @@ impl SignedVote {
         }
     }
 
-    /// The bytes of the vote: its replica (2 bytes at 0), its view (8 at 2), its block's id (32 at 10) and its signature
-    /// (1,452 at 42).
+    /// The bytes of the vote: its replica (2 bytes at 0), its key (1 at 2), its view (8 at 3), its block's id (32 at 11)
+    /// and its signature (1,452 at 43).
     #[tactic(auto, using(wire::proofs::Numbers::filled), unfolding(crate::specs::Votes::vote_text))]
     pub fn to_bytes(&self) -> [u8; VOTE_LEN]
         ensures { result ≡ vote_text self.now }
     {
         let mut bytes = [0; VOTE_LEN];
         put(&mut bytes, 0, &self.replica.to_be_bytes());
-        put(&mut bytes, 2, &self.view.to_be_bytes());
-        put(&mut bytes, 10, &self.id);
-        put(&mut bytes, 42, &self.signature);
+        put(&mut bytes, 2, &[self.key]);
+        put(&mut bytes, 3, &self.view.to_be_bytes());
+        put(&mut bytes, 11, &self.id);
+        put(&mut bytes, 43, &self.signature);
         bytes
     }
 }
@@ -58,7 +61,9 @@ impl SignedVote {
 pub enum VoteRefusal {
     /// The committee has no such replica.
     UnknownReplica = 1,
-    /// The signature is not the replica's on the vote's view and id, in the committee's chain.
+    /// The replica has no key of the vote's number.
+    UnknownKey = 3,
+    /// The signature is not that key's on the vote's view and id, in the committee's chain.
     Signature = 2,
 }
 
@@ -90,27 +95,33 @@ impl Verifier for LmsVerifier {
 }
 
 /// Whether a replica of the committee, which must be below its n, signed a vote on this block of the committee's
-/// chain. The signature is read in place.
+/// chain with the key of this number, which must be below the number of its keys. The signature is read in place.
 pub fn is_signed_by<V: Verifier>(
     verifier: &V,
     committee: &CommitteeView,
     replica: u16,
+    key: u8,
     on: &Ballot,
     signature: &[u8],
 ) -> bool
-    requires { replica < n_of committee.now }
-    ensures { IsTrue result ↔ IsSignedBy committee.now replica on.now.view on.now.id signature.now }
+    requires known { replica < n_of committee.now }
+    requires key { key < keys_of committee.now replica }
+    ensures { IsTrue result ↔ IsSignedBy committee.now replica key on.now.view on.now.id signature.now }
 {
     let statement = Statement {
         chain: committee.chain(),
         view: on.view,
         id: on.id,
     };
-    verifier.verify(&committee.key(replica), &statement.to_bytes(), signature)
+    verifier.verify(
+        &committee.key(replica, key),
+        &statement.to_bytes(),
+        signature,
+    )
 }
 
-/// Checks that a vote is good: its replica is one of the committee, and signed the vote's view and id in
-/// the committee's chain. Refused in this order: UnknownReplica, Signature.
+/// Checks that a vote is good: its replica is one of the committee, has the key that the vote names, and signed the
+/// vote's view and id in the committee's chain with it. Refused in this order: UnknownReplica, UnknownKey, Signature.
 pub fn check_vote(committee: &CommitteeView, vote: &SignedVote) -> Result<(), VoteRefusal>
     ensures exact { IsOk result ↔ IsGoodVote committee.now vote.now }
     ensures first_refusal { IfErr result (IsVoteRefusal committee.now vote.now) }
@@ -118,10 +129,14 @@ pub fn check_vote(committee: &CommitteeView, vote: &SignedVote) -> Result<(), Vo
     if vote.replica >= committee.n() {
         return Err(VoteRefusal::UnknownReplica);
     }
+    if vote.key >= committee.keys(vote.replica) {
+        return Err(VoteRefusal::UnknownKey);
+    }
     if !is_signed_by(
         &LmsVerifier,
         committee,
         vote.replica,
+        vote.key,
         &vote.ballot(),
         &vote.signature,
     ) {

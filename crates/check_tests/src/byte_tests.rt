@@ -31,13 +31,13 @@ fn turned_bytes_are_refused<R: AllocGlobal + Abort>(
 #[test]
 fn every_signature_byte_counts_of_the_first_vote(rt: HostRuntime) -> Result<(), Fail> {
     let verdict = verdicts::double_vote();
-    turned_bytes_are_refused(&rt, verdict, 79, 1531, "refused 9 SignatureE\n")
+    turned_bytes_are_refused(&rt, verdict, 80, 1532, "refused 9 SignatureE\n")
 }
 
 #[test]
 fn every_signature_byte_counts_of_the_second_vote(rt: HostRuntime) -> Result<(), Fail> {
     let verdict = verdicts::double_vote();
-    turned_bytes_are_refused(&rt, verdict, 1571, 3023, "refused 10 SignatureW\n")
+    turned_bytes_are_refused(&rt, verdict, 1573, 3025, "refused 10 SignatureW\n")
 }
 
 #[test]
@@ -50,11 +50,14 @@ fn every_byte_of_a_lock_violation_counts_but_for_signatures(rt: HostRuntime) -> 
         (37, 38, "refused 9 SignatureE\n"),
         // Kind 3.
         (38, 39, "refused 3 Kind\n"),
+        // The keys of the earlier vote and of the later: number 1, where the replica has number 0 alone.
+        (39, 40, "refused 11 KeyNumber\n"),
+        (1532, 1533, "refused 11 KeyNumber\n"),
         // The view and the id of the earlier vote, and of the later.
-        (39, 79, "refused 7 HeaderMismatch\n"),
-        (1531, 1571, "refused 7 HeaderMismatch\n"),
+        (40, 80, "refused 7 HeaderMismatch\n"),
+        (1533, 1573, "refused 7 HeaderMismatch\n"),
         // The three headers.
-        (3023, 3275, "refused 7 HeaderMismatch\n"),
+        (3025, 3277, "refused 7 HeaderMismatch\n"),
     ] {
         turned_bytes_are_refused(&rt, verdicts::lock_violation(), from, until, want)?;
     }
@@ -64,11 +67,11 @@ fn every_byte_of_a_lock_violation_counts_but_for_signatures(rt: HostRuntime) -> 
 #[test]
 fn every_signature_byte_counts_of_the_earlier_vote(rt: HostRuntime) -> Result<(), Fail> {
     let verdict = verdicts::lock_violation();
-    turned_bytes_are_refused(&rt, verdict, 79, 1531, "refused 9 SignatureE\n")
+    turned_bytes_are_refused(&rt, verdict, 80, 1532, "refused 9 SignatureE\n")
 }
 
 #[test]
 fn every_signature_byte_counts_of_the_later_vote(rt: HostRuntime) -> Result<(), Fail> {
     let verdict = verdicts::lock_violation();
-    turned_bytes_are_refused(&rt, verdict, 1571, 3023, "refused 10 SignatureW\n")
+    turned_bytes_are_refused(&rt, verdict, 1573, 3025, "refused 10 SignatureW\n")
 }

@@ -57,7 +57,7 @@ not_behind Equal Equal Greater d e = absurd cc
 ballots_rise : (v w : SignedVote) → IsLowerVote v w → is_lt (ballot_cmp (ballot_of w) (ballot_of v)) ≡ false
 ballots_rise v w low =
     ap is_lt (ballots_total.antisymm (ballot_of w) (ballot_of v))
-    ∙ not_behind (nat_cmp v.replica w.replica) (nat_cmp v.view w.view) (slice_cmp nat_cmp v.id w.id) (slice_cmp nat_cmp v.signature w.signature) low
+    ∙ not_behind (nat_cmp v.replica w.replica) (nat_cmp v.view w.view) (slice_cmp nat_cmp v.id w.id) (ordering_then (nat_cmp v.key w.key) (slice_cmp nat_cmp v.signature w.signature)) low
 
 sorted_by_ballot : (vs : List SignedVote) → AllPairs IsLowerVote vs → IsSortedBy (λ v w. is_lt (ballot_cmp (ballot_of v) (ballot_of w))) vs
 sorted_by_ballot vs rising k d low there = ballots_rise (get_or vs k d) (get_or vs (k + 1) d) (rising k (k + 1) d (omega arith) there)
@@ -96,7 +96,7 @@ Finds vs x res = IsBinarySearchResult (λ v. ballot_cmp (ballot_of v) x) vs res
 
 found : (vs : List SignedVote) (view : ℕ) (id : List ℕ) (r k : ℕ) → k < length vs → Finds vs (r, view, id) (Ok k) → has_vote vs view id r ≡ true
 found vs view id r k there ties =
-    let d : SignedVote = record { replica = 0; view = 0; id = []; signature = [] } in
+    let d : SignedVote = record { replica = 0; view = 0; id = []; key = 0; signature = [] } in
     list_any_at (is_vote_on view id r) vs k d there (is_ballot view id r (get_or vs k d) (ballots_apart (ballot_of (get_or vs k d)) (r, view, id) (ties d)))
 
 missing : (vs : List SignedVote) (view : ℕ) (id : List ℕ) (r p : ℕ) → AllPairs IsLowerVote vs → Finds vs (r, view, id) (Err p) → has_vote vs view id r ≡ false

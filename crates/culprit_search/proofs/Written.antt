@@ -32,7 +32,7 @@ breaks_it e r v w (Some h) shown = shown.1
 
 -- a vote of the parts, with its replica and its signature
 abbrev signed_in : VerdictParts → BoundVote → SignedVote
-signed_in p v = record { replica = p.replica; view = v.view; id = v.id; signature = v.signature }
+signed_in p v = record { replica = p.replica; view = v.view; id = v.id; key = v.key; signature = v.signature }
 
 -- .. is good
 abbrev IsGoodOf : List ℕ → VerdictParts → Type 0
@@ -52,8 +52,8 @@ proof_of e r v w h bytes is named shown spells =
     let form = again.0.1 in
     let two = named.offence in
     let good : IsGoodOf e.committee p = (
-      subst (λ (q : ℕ). IsGoodVote e.committee (record { replica = q; view = v.view; id = v.id; signature = v.signature })) two.earlier_by (is.good v two.earlier),
-      subst (λ (q : ℕ). IsGoodVote e.committee (record { replica = q; view = w.view; id = w.id; signature = w.signature })) two.later_by (is.good w two.later),
+      subst (λ (q : ℕ). IsGoodVote e.committee (record { replica = q; view = v.view; id = v.id; key = v.key; signature = v.signature })) two.earlier_by (is.good v two.earlier),
+      subst (λ (q : ℕ). IsGoodVote e.committee (record { replica = q; view = w.view; id = w.id; key = w.key; signature = w.signature })) two.later_by (is.good w two.later),
     ) in
     let good_again : IsGoodOf e.committee (parts_in bytes) = subst (λ (x : VerdictParts). IsGoodOf e.committee x) back good in
     let broken : BreaksOf (verdict_kind h) (parts_in bytes) = subst (λ (x : VerdictParts). BreaksOf (verdict_kind h) x) back (breaks_it e r v w h shown) in

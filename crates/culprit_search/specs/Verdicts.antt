@@ -12,7 +12,7 @@ use Rattle.accountability.specs.Culprits.{IsCulprit, IsNamedPair, Shows}
 
 -- a vote without its replica
 abbrev pub bound_of : SignedVote → BoundVote
-bound_of v = record { view = v.view; id = v.id; signature = v.signature }
+bound_of v = record { key = v.key; view = v.view; id = v.id; signature = v.signature }
 
 -- what a verdict on these votes of the replica says
 abbrev pub parts_of : Evidence → ℕ → SignedVote → SignedVote → Option VotedHeaders → VerdictParts

@@ -13,7 +13,7 @@ use evidence::Evidence;
 use std::alloc::{AllocError, Global};
 
 /// A verdict on each culprit of the evidence, by rising replica, and none on another. Each names the pair of the
-/// replica's votes whose later one is the least, by view, id and signature, and of those the earlier one the
+/// replica's votes whose later one is the least, by view, id, key and signature, and of those the earlier one the
 /// least. Memory is refused where the verdicts could not be held.
 pub fn verdicts_of(alloc: Global, evidence: &Evidence) -> Result<Vec<Verdict>, AllocError>
     ensures verdicts { IfOk result (λ vs. AreVerdicts evidence.now vs.items) }

@@ -32,7 +32,7 @@ impl Model for Verdict {
 }
 
 impl Verdict {
-    /// The bytes, 3,023 of a double vote and 3,275 of a lock violation.
+    /// The bytes, 3,025 of a double vote and 3,277 of a lock violation.
     pub fn as_bytes(&self) -> &[u8]
         ensures { result.now ≡ self.now }
     {
@@ -83,6 +83,7 @@ fn bound(vote: &SignedVote) -> BoundVote
     ensures { result ≡ bound_of vote.now }
 {
     BoundVote {
+        key: vote.key,
         view: vote.view,
         id: vote.id,
         signature: vote.signature,

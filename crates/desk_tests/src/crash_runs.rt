@@ -2,7 +2,7 @@
 //! recovery whose disk fails at each of its calls.
 
 use crate::replicas::{
-    Block, Step, committee, found_on, new_disk, new_key, new_parts, parts_on, stay,
+    Block, Step, committee, found_on, new_disk, new_keys, new_parts, parts_on, stay,
 };
 use key_index_store::{IndexError, IndexStore};
 use lms_tree::SigningTree;
@@ -44,11 +44,11 @@ struct Disks {
 }
 
 // The key and the disks.
-fn taken_out(parts: Parts<MemoryDisk>) -> (SigningTree, Disks) {
-    let Parts { tree, index, log } = parts;
+fn taken_out(parts: Parts<MemoryDisk>) -> (Vec<SigningTree>, Disks) {
+    let Parts { trees, index, log } = parts;
     let index = index.into_disk();
     let log = log.into_disk();
-    (tree, Disks { index, log })
+    (trees, Disks { index, log })
 }
 
 impl Disks {
@@ -78,26 +78,26 @@ fn disk_with<R: Abort + AllocGlobal>(
 // What a new replica leaves that takes these steps and meets this failure, if any.
 fn left_by<R: Wait + Abort + AllocGlobal>(
     rt: &R,
-    tree: SigningTree,
+    trees: Vec<SigningTree>,
     failure: Option<Failure>,
     steps: &[Step],
-) -> (SigningTree, Disks) {
+) -> (Vec<SigningTree>, Disks) {
     let index = disk_with(rt, Failing::Index, failure);
     let log = disk_with(rt, Failing::Log, failure);
-    let closed = stay(rt, parts_on(rt, tree, index, log), steps);
+    let closed = stay(rt, parts_on(rt, trees, index, log), steps);
     taken_out(closed.parts)
 }
 
 // How many calls a disk of a new replica that takes these steps answers, as a fuse counts them.
 fn calls_in<R: Wait + Abort + AllocGlobal>(
     rt: &R,
-    tree: SigningTree,
+    trees: Vec<SigningTree>,
     which: Failing,
     steps: &[Step],
-) -> (SigningTree, u32) {
-    let (tree, disks) = left_by(rt, tree, None, steps);
+) -> (Vec<SigningTree>, u32) {
+    let (trees, disks) = left_by(rt, trees, None, steps);
     let calls = disks.disk(which).calls();
-    (tree, u32::try_from(calls).unwrap_or(u32::MAX))
+    (trees, u32::try_from(calls).unwrap_or(u32::MAX))
 }
 
 // The delivery whose failures are met.
@@ -130,7 +130,7 @@ fn entries_on<R: Abort + AllocGlobal>(rt: &R, disk: MemoryDisk) -> Result<u32, M
 
 // How many indices are left in a store that is recovered from a disk; the disk where that failed.
 fn indices_on<R: Abort + AllocGlobal>(rt: &R, disk: MemoryDisk) -> Result<u32, MemoryDisk> {
-    match IndexStore::recover(rt.alloc(), disk) {
+    match IndexStore::recover(rt.alloc(), disk, 1) {
         Ok(store) => Ok(store.left()),
         Err((refusal, disk)) => {
             assert!(rt; refusal == IndexError::Device);
@@ -197,48 +197,48 @@ fn last_index(receipts: &[Receipt]) -> Option<u32> {
 // A crash, a recovery, and a delivery that is voted for. Answers the key, and the index of the vote.
 fn goes_on<R: Wait + Abort + AllocGlobal>(
     rt: &R,
-    tree: SigningTree,
+    trees: Vec<SigningTree>,
     disks: &Disks,
     choice: Choice,
-) -> (SigningTree, u32) {
+) -> (Vec<SigningTree>, u32) {
     let entries = found_after(rt, Failing::Log, &disks.log, choice);
     assert!(rt; entries <= 1);
     let left = found_after(rt, Failing::Index, &disks.index, choice);
     let Disks { index, log } = crashed(rt, disks, choice);
-    let parts = found_on(rt, tree, index, log);
+    let parts = found_on(rt, trees, index, log);
     let closed = stay(rt, parts, &[Step::Votes(Block::OnGenesis(9), entries)]);
     let index = last_index(&closed.receipts).expect(rt, "a receipt");
     assert!(rt; index.checked_add(left) == Some(1024));
-    (closed.parts.tree, index)
+    (closed.parts.trees, index)
 }
 
 // No index comes twice: none was given where the index disk failed, and 16 are skipped where the log's did.
 fn survives<R: Wait + Abort + AllocGlobal>(
     rt: &R,
-    tree: SigningTree,
+    trees: Vec<SigningTree>,
     failure: Failure,
     least: u32,
-) -> SigningTree {
-    let (mut tree, disks) = left_by(rt, tree, Some(failure), &FAILED_VOTE);
+) -> Vec<SigningTree> {
+    let (mut trees, disks) = left_by(rt, trees, Some(failure), &FAILED_VOTE);
     for choice in CHOICES {
-        let (again, index) = goes_on(rt, tree, &disks, choice);
+        let (again, index) = goes_on(rt, trees, &disks, choice);
         assert!(rt;
             index >= least && index % 16 == 0,
             "call {}, {choice:?}",
             failure.pass
         );
-        tree = again;
+        trees = again;
     }
-    tree
+    trees
 }
 
 // A failure at each call that the delivery makes of this disk, once and from then on.
 fn survives_each<R: Wait + Abort + AllocGlobal>(rt: &R, of: Failing, least: u32) {
-    let (tree, before) = calls_in(rt, new_key(rt), of, &[]);
-    let (mut tree, behind) = calls_in(rt, tree, of, &VOTE);
+    let (trees, before) = calls_in(rt, new_keys(rt), of, &[]);
+    let (mut trees, behind) = calls_in(rt, trees, of, &VOTE);
     for pass in before..behind {
         for forever in [false, true] {
-            tree = survives(rt, tree, Failure { of, pass, forever }, least);
+            trees = survives(rt, trees, Failure { of, pass, forever }, least);
         }
     }
 }
@@ -259,9 +259,9 @@ fn a_released_vote_outlasts_each_crash(rt: HostRuntime) {
     let mut parts = new_parts(&rt);
     for (k, choice) in CHOICES.iter().enumerate() {
         let votes = Step::Votes(Block::OnGenesis(k as u64 + 1), k as u32);
-        let (tree, disks) = taken_out(stay(&rt, parts, &[votes]).parts);
+        let (trees, disks) = taken_out(stay(&rt, parts, &[votes]).parts);
         let Disks { index, log } = crashed(&rt, &disks, *choice);
-        parts = found_on(&rt, tree, index, log);
+        parts = found_on(&rt, trees, index, log);
         assert!(rt; parts.log.count() == k + 1);
     }
 }

@@ -1,7 +1,7 @@
 //! What a replica does at its limits: 1,024 votes of a key, 4,096 entries of a log, and 65,536 headers.
 
 use crate::replicas::{
-    Block, Step, committee, found_on, new_disk, new_key, new_parts, new_store, on_genesis, stay,
+    Block, Step, committee, found_on, new_disk, new_keys, new_parts, new_store, on_genesis, stay,
 };
 use blocks::{CommitteeView, Header};
 use fixtures::certificates as texts;
@@ -38,9 +38,10 @@ fn key_is_spent_after_1024_votes(rt: HostRuntime) {
 
 // The entry of a vote for the block of this view on genesis. No signature in a log is checked.
 fn push_entry(bytes: &mut Vec<u8>, genesis: &Header, block: &Header) -> Result<(), AllocError> {
-    bytes.extend_from_slice(b"\x01\x00\x00\x06\xa7\x01")?;
+    bytes.extend_from_slice(b"\x01\x00\x00\x06\xa8\x03")?;
     bytes.extend_from_slice(&block.to_bytes())?;
     bytes.extend_from_slice(&genesis.to_bytes())?;
+    bytes.push(0)?;
     bytes.extend_from_slice(&block.view.to_be_bytes())?;
     bytes.extend_from_slice(&block.id())?;
     bytes.extend_from_slice(&[0; 1452])?;
@@ -63,7 +64,7 @@ fn parts_with_a_full_log<R: Abort + AllocGlobal>(rt: &R) -> Parts<MemoryDisk> {
     let bytes = full_log(rt.alloc(), &committee(rt)).expect(rt, "memory");
     let disk = MemoryDisk::new(rt.alloc(), bytes).expect(rt, "memory");
     let index = new_store(rt, new_disk(rt)).into_disk();
-    found_on(rt, new_key(rt), index, disk)
+    found_on(rt, new_keys(rt), index, disk)
 }
 
 const FULL_LOG: [Step; 3] = [

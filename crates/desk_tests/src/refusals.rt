@@ -68,21 +68,21 @@ fn log_of_another_chain<R: Abort + AllocGlobal>(rt: &R) -> VoteLog<MemoryDisk> {
 // The parts with another log.
 fn with_log(parts: Parts<MemoryDisk>, log: VoteLog<MemoryDisk>) -> Parts<MemoryDisk> {
     let Parts {
-        tree,
+        trees,
         index,
         log: _,
     } = parts;
-    Parts { tree, index, log }
+    Parts { trees, index, log }
 }
 
 // The parts with other indices.
 fn with_index(parts: Parts<MemoryDisk>, index: IndexStore<MemoryDisk>) -> Parts<MemoryDisk> {
     let Parts {
-        tree,
+        trees,
         index: _,
         log,
     } = parts;
-    Parts { tree, index, log }
+    Parts { trees, index, log }
 }
 
 // A log whose disk fails from now on.

@@ -15,7 +15,7 @@ use std::marker::Brand;
 use std::process::Abort;
 use std::sync::Wait;
 use std::sync::ledger::Blank;
-use vote_desk::{Answer, Closed, Desk, DeskError, Naming, Parts, Reply, Session};
+use vote_desk::{Answer, Closed, Desk, DeskError, Left, Naming, Parts, Reply, Session};
 use vote_log::VoteLog;
 
 /// A block that the replica is shown. All but the last three are stored.
@@ -157,12 +157,13 @@ pub(crate) fn new_disk<R: Abort + AllocGlobal>(rt: &R) -> MemoryDisk {
 }
 
 /// The key of replica 0.
-pub(crate) fn new_key<R: Abort + AllocGlobal>(rt: &R) -> SigningTree {
+pub(crate) fn new_keys<R: Abort + AllocGlobal>(rt: &R) -> Vec<SigningTree> {
     let secret = PrivateSeed {
         key_id: [0; 16],
         seed: [16; 32],
     };
-    SigningTree::generate(rt.alloc(), secret).expect(rt, "memory")
+    let tree = SigningTree::generate(rt.alloc(), secret).expect(rt, "memory");
+    vec![in rt.alloc(); tree].expect(rt, "memory")
 }
 
 pub(crate) fn new_log<R: Abort + AllocGlobal>(rt: &R, disk: MemoryDisk) -> VoteLog<MemoryDisk> {
@@ -174,25 +175,25 @@ pub(crate) fn new_store<R: Abort + AllocGlobal>(
     rt: &R,
     disk: MemoryDisk,
 ) -> IndexStore<MemoryDisk> {
-    let store = IndexStore::create(rt.alloc(), disk).ok();
+    let store = IndexStore::create(rt.alloc(), disk, 1).ok();
     store.expect(rt, "an index store")
 }
 
 /// The parts of a replica that has done nothing, on these disks, which hold nothing.
 pub(crate) fn parts_on<R: Abort + AllocGlobal>(
     rt: &R,
-    tree: SigningTree,
+    trees: Vec<SigningTree>,
     index: MemoryDisk,
     log: MemoryDisk,
 ) -> Parts<MemoryDisk> {
     let index = new_store(rt, index);
     let log = new_log(rt, log);
-    Parts { tree, index, log }
+    Parts { trees, index, log }
 }
 
 /// The parts of a replica that has done nothing.
 pub(crate) fn new_parts<R: Abort + AllocGlobal>(rt: &R) -> Parts<MemoryDisk> {
-    parts_on(rt, new_key(rt), new_disk(rt), new_disk(rt))
+    parts_on(rt, new_keys(rt), new_disk(rt), new_disk(rt))
 }
 
 // The log that a disk holds.
@@ -204,14 +205,14 @@ fn recovered_log<R: Abort + AllocGlobal>(rt: &R, disk: MemoryDisk) -> VoteLog<Me
 /// The parts of a replica that is found on its disks.
 pub(crate) fn found_on<R: Abort + AllocGlobal>(
     rt: &R,
-    tree: SigningTree,
+    trees: Vec<SigningTree>,
     index: MemoryDisk,
     log: MemoryDisk,
 ) -> Parts<MemoryDisk> {
-    let index = IndexStore::recover(rt.alloc(), index).ok();
+    let index = IndexStore::recover(rt.alloc(), index, 1).ok();
     let index = index.expect(rt, "an index store that is found again");
     let log = recovered_log(rt, log);
-    Parts { tree, index, log }
+    Parts { trees, index, log }
 }
 
 // Whether the bytes have this digest.
@@ -227,10 +228,10 @@ pub(crate) fn restarted<R: Abort + AllocGlobal>(
     parts: Parts<MemoryDisk>,
     log_digest: &[u8; 32],
 ) -> Parts<MemoryDisk> {
-    let Parts { tree, index, log } = parts;
+    let Parts { trees, index, log } = parts;
     let disk = log.into_disk();
     assert!(rt; has_digest(disk.bytes(), log_digest));
-    found_on(rt, tree, index.into_disk(), disk)
+    found_on(rt, trees, index.into_disk(), disk)
 }
 
 // What a desk answers to a block.
@@ -357,7 +358,18 @@ fn stays<N: Naming, R: Wait + Abort + AllocGlobal>(
     let started = Desk::<N, MemoryDisk>::start(rt.alloc(), blank, committee, 0, parts, 1);
     let (desk, mut sessions) = started.ok()?;
     take_all(rt, &desk, &mut sessions[0], committee, steps);
-    desk.close(rt.alloc(), sessions).ok()
+    let left = desk.left(rt);
+    let closed = desk.close(rt.alloc(), sessions).ok()?;
+    assert!(rt; left == left_of(&closed.parts));
+    Some(closed)
+}
+
+// What the index store and the log have left.
+fn left_of(parts: &Parts<MemoryDisk>) -> Left {
+    Left {
+        indices: parts.index.left(),
+        entries: 4096_usize.saturating_sub(parts.log.count()),
+    }
 }
 
 /// One stay of replica 0 at a desk of its own.

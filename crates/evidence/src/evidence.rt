@@ -22,7 +22,7 @@ use std::alloc::{AllocError, Global};
 use std::marker::Model;
 
 /// What the logs of replicas show together under a committee: headers by rising id, so that no two have one
-/// id, genesis among them; votes that rise by replica, view, id and signature, each of them good; and a
+/// id, genesis among them; votes that rise by replica, view, id, key and signature, each of them good; and a
 /// report of each source. Made by `Evidence::of` alone.
 #[derive(Drop)]
 pub struct Evidence<'a> {
@@ -96,7 +96,7 @@ impl<'a> Evidence<'a> {
         header_of(self.headers(), id)
     }
 
-    /// The votes by rising replica, view, id and signature.
+    /// The votes by rising replica, view, id, key and signature.
     pub fn votes(&self) -> &[Shared<SignedVote>]
         ensures value { result.now ≡ self.now.votes }
         ensures is_evidence { IsEvidence self.now }

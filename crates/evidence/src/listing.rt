@@ -29,7 +29,7 @@ impl<'a> Model for Listing<'a> {
 }
 
 impl<'a> Listing<'a> {
-    /// The votes by rising replica, view, id and signature.
+    /// The votes by rising replica, view, id, key and signature.
     pub fn votes(&self) -> &[Shared<SignedVote>]
         ensures value { result.now ≡ self.now.votes }
         ensures in_order { IsInOrder self.now }

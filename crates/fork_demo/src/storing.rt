@@ -32,7 +32,7 @@ pub(crate) fn new_replica(
     tree: SigningTree,
 ) -> Result<(Replica, Backup), Fault> {
     let disk = MemoryDisk::new(alloc, Vec::new(alloc))?;
-    let index = IndexStore::create(alloc, disk).map_err(|_| Fault::Store)?;
+    let index = IndexStore::create(alloc, disk, 1).map_err(|_| Fault::Store)?;
     let disk = MemoryDisk::new(alloc, Vec::new(alloc))?;
     let log = VoteLog::create(alloc, disk, committee.genesis()).map_err(|_| Fault::Store)?;
     let disk = log.into_disk();
@@ -40,7 +40,8 @@ pub(crate) fn new_replica(
         log: disk.bytes().to_vec(alloc)?,
     };
     let log = recovered_log(alloc, committee, disk)?;
-    let parts = Parts { tree, index, log };
+    let trees = vec![in alloc; tree]?;
+    let parts = Parts { trees, index, log };
     Ok((Replica { number, parts }, backup))
 }
 
@@ -54,12 +55,12 @@ pub(crate) fn restored(
 ) -> Result<Replica, Fault> {
     let Replica { number, parts } = replica;
     let Parts {
-        tree,
+        trees,
         index,
         log: _lost,
     } = parts;
-    let index = IndexStore::recover(alloc, index.into_disk()).map_err(|_| Fault::Store)?;
+    let index = IndexStore::recover(alloc, index.into_disk(), 1).map_err(|_| Fault::Store)?;
     let log = recovered_log(alloc, committee, MemoryDisk::new(alloc, backup.log)?)?;
-    let parts = Parts { tree, index, log };
+    let parts = Parts { trees, index, log };
     Ok(Replica { number, parts })
 }

@@ -50,10 +50,10 @@ fn block_refusals(rt: HostRuntime) -> Result<(), Fail> {
 #[test]
 fn votes_that_are_not_good(rt: HostRuntime) -> Result<(), Fail> {
     let alloc = rt.alloc();
-    let stranger = with_byte(alloc, 2951, 9)?;
+    let stranger = with_byte(alloc, 2953, 9)?;
     is_refused(&rt, alloc, &stranger, BlockRefusal::UnknownReplica)?;
-    let last = *texts::of_a1().get(2949).ok_or("too short")?;
-    let changed = with_byte(alloc, 2949, last ^ 1)?;
+    let last = *texts::of_a1().get(2951).ok_or("too short")?;
+    let changed = with_byte(alloc, 2951, last ^ 1)?;
     is_refused(&rt, alloc, &changed, BlockRefusal::Signature(1))
 }
 

@@ -42,7 +42,7 @@ fn certificate_refusals(rt: HostRuntime) -> Result<(), Fail> {
     let alloc = rt.alloc();
     is_read_and_written(&rt, alloc, texts::of_genesis(), 0)?;
     is_read_and_written(&rt, alloc, texts::of_a1(), 3)?;
-    let short = texts::of_a1().get(..4403).ok_or("too short")?;
+    let short = texts::of_a1().get(..4406).ok_or("too short")?;
     assert!(rt; refusal_of(alloc, short) == Some(CertificateRefusal::Length));
     let falling = with_entries(alloc, &[2, 1, 0])?;
     assert!(rt; refusal_of(alloc, &falling) == Some(CertificateRefusal::Order));
@@ -52,7 +52,7 @@ fn certificate_refusals(rt: HostRuntime) -> Result<(), Fail> {
 #[test]
 fn thirty_two_entries_are_refused(rt: HostRuntime) -> Result<(), Fail> {
     let many = thirty_two(rt.alloc())?;
-    assert!(rt; many.len() == 46570);
+    assert!(rt; many.len() == 46602);
     assert!(rt; refusal_of(rt.alloc(), &many) == Some(CertificateRefusal::Count));
     Ok(())
 }

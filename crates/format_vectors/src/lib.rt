@@ -6,6 +6,10 @@ mod block_tests;
 #[cfg(test)]
 mod certificate_tests;
 #[cfg(test)]
+mod key_tests;
+#[cfg(test)]
+mod several_keys;
+#[cfg(test)]
 mod stored;
 #[cfg(test)]
 mod verdict_tests;

@@ -9,7 +9,7 @@ use std::test::Fail;
 pub const HEAD: usize = 42;
 
 /// The length in bytes of an entry.
-pub const ENTRY: usize = 1454;
+pub const ENTRY: usize = 1455;
 
 /// The stored committee.
 pub fn committee() -> Result<CommitteeView<'static>, Fail> {

@@ -18,6 +18,7 @@ fn bound(vote: &VoteView) -> Result<BoundVote, Fail> {
     }
     signature.copy_from_slice(vote.signature);
     Ok(BoundVote {
+        key: vote.key,
         view: vote.view,
         id: vote.id,
         signature,

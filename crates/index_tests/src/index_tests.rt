@@ -1,6 +1,9 @@
 //! Index stores on a disk in memory. Their bytes are spelled by hand, from docs/FORMATS.md.
 
-use key_index_store::{IndexError, IndexStore};
+ghost use Rattle.std.specs.Prelude.{◌≤◌};
+ghost use Rattle.key_index_store.specs.declared.store.TheConstants.{MOST_KEYS};
+
+use key_index_store::{IndexError, IndexStore, key_of, q_of};
 use stable_log::{Choice, Disk, Journal, MemoryDisk};
 use std::alloc::{AllocError, Global};
 use std::process::Abort;
@@ -19,14 +22,22 @@ fn disk_of<R: Abort + AllocGlobal>(rt: &R, bytes: &[u8]) -> MemoryDisk {
 
 // A store on an empty disk.
 fn created<R: Abort + AllocGlobal>(rt: &R) -> IndexStore<MemoryDisk> {
-    let created = IndexStore::create(rt.alloc(), disk_of(rt, b""));
+    let created = IndexStore::create(rt.alloc(), disk_of(rt, b""), 1);
     created.ok().expect(rt, "create")
 }
 
-// The store that a disk holds.
-fn recovered<R: Abort + AllocGlobal, D: Disk>(rt: &R, disk: D) -> IndexStore<D> {
-    let recovered = IndexStore::recover(rt.alloc(), disk);
+// The store of so many keys that a disk holds.
+fn recovered_with<R: Abort + AllocGlobal, D: Disk>(rt: &R, disk: D, keys: u8) -> IndexStore<D>
+    requires some { 1 ≤ keys }
+    requires most { keys ≤ MOST_KEYS }
+{
+    let recovered = IndexStore::recover(rt.alloc(), disk, keys);
     recovered.ok().expect(rt, "recover")
+}
+
+// The store of one key that a disk holds.
+fn recovered<R: Abort + AllocGlobal, D: Disk>(rt: &R, disk: D) -> IndexStore<D> {
+    recovered_with(rt, disk, 1)
 }
 
 // How many entries the journal of a disk has, if it is one.
@@ -37,9 +48,12 @@ fn entries_on<D: Disk>(alloc: Global, disk: D) -> Option<usize> {
     }
 }
 
-// How many indices the store of a disk has left, or how it is refused.
-fn left_on<D: Disk>(alloc: Global, disk: D) -> Result<u32, IndexError> {
-    match IndexStore::recover(alloc, disk) {
+// How many indices the store of so many keys has left that a disk holds, or how it is refused.
+fn left_on<D: Disk>(alloc: Global, disk: D, keys: u8) -> Result<u32, IndexError>
+    requires some { 1 ≤ keys }
+    requires most { keys ≤ MOST_KEYS }
+{
+    match IndexStore::recover(alloc, disk, keys) {
         Ok(store) => Ok(store.left()),
         Err((e, _)) => Err(e),
     }
@@ -147,7 +161,7 @@ fn next_with_each_call_failing(rt: HostRuntime) {
 fn fails_and_is_found<R: Abort + AllocGlobal>(rt: &R, pass: u32, forever: bool) -> bool {
     let mut disk = disk_of(rt, ONE);
     disk.fuse(pass, forever);
-    match IndexStore::recover(rt.alloc(), disk) {
+    match IndexStore::recover(rt.alloc(), disk, 1) {
         Err((IndexError::Device, disk)) => goes_on_with(rt, disk, 16),
         _ => false,
     }
@@ -194,22 +208,69 @@ fn index_refusals(rt: HostRuntime) {
             "{bytes:?}"
         );
         assert!(rt;
-            left_on(rt.alloc(), disk_of(&rt, bytes)) == *left,
+            left_on(rt.alloc(), disk_of(&rt, bytes), 1) == *left,
             "{bytes:?}"
+        );
+    }
+}
+
+// Asserts what a store of so many keys says of a journal of as many reservations.
+fn assert_left<R: Abort + AllocGlobal>(
+    rt: &R,
+    keys: u8,
+    cases: &[(u32, Result<u32, IndexError>); 3],
+)
+    requires some { 1 ≤ keys }
+    requires most { keys ≤ MOST_KEYS }
+{
+    for (count, left) in cases {
+        let file = reserved(rt.alloc(), *count).expect(rt, "memory");
+        assert!(rt;
+            left_on(rt.alloc(), disk_of(rt, &file), keys) == *left,
+            "{keys} {count}"
         );
     }
 }
 
 #[test]
 fn most_reservations(rt: HostRuntime) {
-    for (count, left) in [(63, Ok(16)), (64, Ok(0)), (65, BAD)] {
-        let file = reserved(rt.alloc(), count).expect(&rt, "memory");
-        assert!(rt; left_on(rt.alloc(), disk_of(&rt, &file)) == left, "{count}");
-    }
+    assert_left(&rt, 1, &[(63, Ok(16)), (64, Ok(0)), (65, BAD)]);
+    assert_left(&rt, 2, &[(64, Ok(1_024)), (128, Ok(0)), (129, BAD)]);
+    assert_left(&rt, 4, &[(64, Ok(3_072)), (256, Ok(0)), (257, BAD)]);
+}
+
+// Whether the disk of a store holds just so many reservations.
+fn has_reserved<R: Abort + AllocGlobal>(rt: &R, disk: &MemoryDisk, count: u32) -> bool {
+    disk.bytes() == reserved(rt.alloc(), count).expect(rt, "memory").as_slice()
+}
+
+#[test]
+fn the_second_key_follows_the_first(rt: HostRuntime) {
+    let created = IndexStore::create(rt.alloc(), disk_of(&rt, b""), 2);
+    let mut store = created.ok().expect(&rt, "create");
+    assert!(rt; store.keys() == 2 && gives(&mut store, 0, 2_048));
+    assert!(rt; is_spent(&mut store) && is_spent(&mut store));
+    assert!(rt; has_reserved(&rt, &store.into_disk(), 128));
+}
+
+// The first key's indices were given while it was the only one.
+#[test]
+fn a_store_goes_on_with_a_second_key(rt: HostRuntime) {
+    let first = reserved(rt.alloc(), 64).expect(&rt, "memory");
+    let mut store = recovered_with(&rt, disk_of(&rt, &first), 2);
+    assert!(rt; store.next() == Ok(1_024));
+    assert!(rt; has_reserved(&rt, &store.into_disk(), 65));
+}
+
+#[test]
+fn an_index_is_of_a_key_at_a_place(rt: HostRuntime) {
+    assert!(rt; key_of(1_023) == 0 && q_of(1_023) == 1_023);
+    assert!(rt; key_of(1_024) == 1 && q_of(1_024) == 0);
+    assert!(rt; key_of(4_095) == 3 && q_of(4_095) == 1_023);
 }
 
 #[test]
 fn create_wants_an_empty_disk(rt: HostRuntime) {
-    let refused = IndexStore::create(rt.alloc(), disk_of(&rt, b"x"));
+    let refused = IndexStore::create(rt.alloc(), disk_of(&rt, b"x"), 1);
     assert!(rt; matches!(refused, Err((IndexError::BadEntry, _))));
 }

@@ -2,10 +2,11 @@
 use Rattle.std.proofs.Common.{◌≡◌, ℕ, List, [], ◌++◌, Option, Some, None, sym, ap, subst, ◌∙◌, append_assoc, take}
 use Rattle.faults.specs.Counting.{one_more}
 use Rattle.key_files.specs.declared.files.KeyFile.{KeyFile}
+use Rattle.key_files.specs.declared.key_number.KeyNumber.{KeyNumber}
 use Rattle.key_files.specs.declared.fault.KeyFault.{KeyFault}
 use Rattle.key_files.specs.declared.fault.KeyFault.TheVariants.{Memory, File, Output}
 use Rattle.std.proofs.lemmas.List.{append-nil}
-use Rattle.key_files.specs.KeyFiles.{FolderFile, Made, MadePart, IsFaultOf, LeavesSome, place_of}
+use Rattle.key_files.specs.KeyFiles.{FolderFile, Made, MadePart, IsFaultOf, LeavesSome, made_with, place_of}
 
 -- nothing was made yet
 pub made_none : (before : Option (List FolderFile)) → Made before before []
@@ -27,14 +28,15 @@ made_part None mid after n files a same = tt
 made_part (Some held) mid after n files a same = (n, same ∙ a)
 
 -- a fault of the next file leaves those before it
-pub leaves_some : (before mid after : Option (List FolderFile)) (failures failures' failures'' : ℕ) (file : KeyFile) (fault : KeyFault) (files : List FolderFile)
-    → Made before mid (take (place_of file) files) → failures' ≡ failures → IsFaultOf file fault mid after failures' failures''
-    → LeavesSome fault before after failures failures'' files
-leaves_some before mid after failures failures' failures'' file Memory files made kept fault =
+pub leaves_some : (number : KeyNumber) (before mid after : Option (List FolderFile)) (failures failures' failures'' : ℕ) (file : KeyFile) (fault : KeyFault) (files : List FolderFile)
+    → made_with file ≡ number → Made before mid (take (place_of file) files) → failures' ≡ failures → IsFaultOf file fault mid after failures' failures''
+    → LeavesSome number fault before after failures failures'' files
+leaves_some number before mid after failures failures' failures'' file Memory files of_key made kept fault =
     (made_part before mid after (place_of file) files made fault.0, fault.1 ∙ ap (λ (n : ℕ). one_more n) kept)
-leaves_some before mid after failures failures' failures'' file (File named) files made kept fault = (
+leaves_some number before mid after failures failures' failures'' file (File named) files of_key made kept fault = (
+  ap (λ (f : KeyFile). made_with f) fault.0 ∙ of_key,
   subst (λ (f : KeyFile). Made before after (take (place_of f) files)) (sym fault.0)
       (subst (λ (held : Option (List FolderFile)). Made before held (take (place_of file) files)) (sym fault.1) made),
   fault.2 ∙ ap (λ (n : ℕ). one_more n) kept,
 )
-leaves_some before mid after failures failures' failures'' file Output files made kept fault = fault
+leaves_some number before mid after failures failures' failures'' file Output files of_key made kept fault = fault

@@ -15,7 +15,7 @@ pub enum Readers {
 /// What a new journal is for.
 #[derive(Clone, Copy, Debug)]
 pub enum Store {
-    /// The indices of the key that were taken.
+    /// The indices of the keys that were taken.
     Indices,
     /// What the replica signed.
     Log,

@@ -1,14 +1,15 @@
-//! A replica's key files, made from the seed of its key.
+//! A replica's key files, made from the seeds of its keys.
 
 ghost use Rattle.std.specs.Prelude.{◌≡◌, ◌⊎◌, ◌++◌, ◌∷◌, [], Err, IfErr, IfSome, OnOk, OnErr};
 ghost use Rattle.faults.specs.Counting.{one_more};
 ghost use Rattle.streams.specs.Streams.{Wrote, WrotePart};
 ghost use Rattle.stable_log.specs.Image.{empty_journal};
-ghost use Rattle.key_files.specs.KeyFiles.{file_name, key_files, key_line, replica_files, IsFaultOf, IsFaultOfLook, IsFaultOfLooks, IsThere, LeavesFiles, LeavesLine, LeavesMade, LeavesSome, Made, OfFirstThere};
+ghost use Rattle.key_files.specs.KeyFiles.{file_name, key_files, key_line, files_with, IsFaultOf, IsFaultOfLook, IsFaultOfLooks, IsThere, LeavesFiles, LeavesLine, LeavesMade, LeavesSome, Made, OfFirstThere};
 
 use crate::fault::KeyFault;
 use crate::files::KeyFile;
 use crate::folder::{Folder, FolderFault, Readers, Store};
+use crate::key_number::KeyNumber;
 use lmots::PrivateSeed;
 use parallel_keys::generate_parallel;
 use std::alloc::Global;
@@ -16,47 +17,51 @@ use std::thread::Threads;
 use streams::{Sink, write_all};
 use wire::put;
 
-/// Makes `key.seed`, `key.pub`, `index.hsj` and `log.hsj`, as new files in this order, and prints `key ` and
-/// the public key's 112 hex digits. It first looks for each of them, in this order: one that is there is the fault, and so
-/// is one that can't be looked for; then no key is computed, and nothing is made. A file that another process makes after
-/// that is a fault too; it stays as it is, and files made before it stay too. Tree, in threads by `generate_parallel`,
-/// and line are computed before the first file is made, so that want of memory for them leaves no file.
+/// Makes the key of this number: `key.seed`, `key.pub`, `index.hsj` and `log.hsj` for key 0, `key-K.seed` and
+/// `key-K.pub` alone for a further key K, as new files in this order; and prints `key ` and the public key's 112 hex
+/// digits. It first looks for each of them, in this order: one that is there is the fault, and so is one that can't be
+/// looked for; then no key is computed, and nothing is made. A file that another process makes after that is a fault
+/// too; it stays as it is, and files made before it stay too. Tree, in threads by `generate_parallel`, and line are
+/// computed before the first file is made, so that want of memory for them leaves no file.
 pub fn make_key<R: Threads + Sync, D: Folder, W: Sink>(
     rt: &R,
     alloc: Global,
     folder: &mut D,
+    number: KeyNumber,
     secret: PrivateSeed,
     out: &mut W,
 ) -> Result<(), KeyFault>
-    ensures files { OnOk result (Made (D.files folder.old) (D.files folder.new) (key_files secret.key_id secret.seed)) }
+    ensures files { OnOk result (Made (D.files folder.old) (D.files folder.new) (key_files number secret.key_id secret.seed)) }
     ensures line { OnOk result (Wrote (W.text out.old) (W.text out.new) (key_line secret.key_id secret.seed)) }
     ensures no_failure { OnOk result ((D.failed folder.new ≡ D.failed folder.old) × (W.failed out.new ≡ W.failed out.old)) }
 
-    ensures taken { OfFirstThere (D.files folder.old) (λ file.
+    ensures taken { OfFirstThere number (D.files folder.old) (λ file.
         (result ≡ Err (KeyFault.File file)) ⊎ (D.failed folder.new ≡ one_more (D.failed folder.old))) }
-    ensures untouched { OfFirstThere (D.files folder.old) (λ _.
+    ensures untouched { OfFirstThere number (D.files folder.old) (λ _.
         (D.files folder.new ≡ D.files folder.old) × (W.text out.new ≡ W.text out.old) × (W.failed out.new ≡ W.failed out.old)) }
 
     ensures part { OnErr result (WrotePart (W.text out.old) (W.text out.new) (key_line secret.key_id secret.seed)) }
-    ensures fewer { IfErr result (λ fault. LeavesFiles fault (D.files folder.old) (D.files folder.new)
-        (D.failed folder.old) (D.failed folder.new) (key_files secret.key_id secret.seed)) }
+    ensures fewer { IfErr result (λ fault. LeavesFiles number fault (D.files folder.old) (D.files folder.new)
+        (D.failed folder.old) (D.failed folder.new) (key_files number secret.key_id secret.seed)) }
     ensures cause { IfErr result (λ fault. LeavesLine fault (W.text out.old) (W.text out.new) (W.failed out.old) (W.failed out.new)) }
 {
-    look_for_files(folder)?;
-    make_new_key(rt, alloc, folder, secret, out)
+    look_for_files(folder, number)?;
+    make_new_key(rt, alloc, folder, number, secret, out)
 }
 
-// The first of the files that is there is the fault.
-fn look_for_files<D: Folder>(folder: &mut D) -> Result<(), KeyFault>
+// The first of the key's files that is there is the fault.
+fn look_for_files<D: Folder>(folder: &mut D, number: KeyNumber) -> Result<(), KeyFault>
     ensures same { D.files folder.new ≡ D.files folder.old }
-    ensures none { OnOk result (OfFirstThere (D.files folder.old) (λ _. ⊥)) }
+    ensures none { OnOk result (OfFirstThere number (D.files folder.old) (λ _. ⊥)) }
     ensures no_failure { OnOk result (D.failed folder.new ≡ D.failed folder.old) }
-    ensures err { IfErr result (λ fault. IsFaultOfLooks fault (D.files folder.old) (D.failed folder.old) (D.failed folder.new)) }
+    ensures err { IfErr result (λ fault. IsFaultOfLooks number fault (D.files folder.old) (D.failed folder.old) (D.failed folder.new)) }
 {
-    look(folder, KeyFile::Seed)?;
-    look(folder, KeyFile::PublicKey)?;
-    look(folder, KeyFile::Indices)?;
-    look(folder, KeyFile::Log)?;
+    look(folder, KeyFile::Seed(number))?;
+    look(folder, KeyFile::PublicKey(number))?;
+    if number == KeyNumber::Zero {
+        look(folder, KeyFile::Indices)?;
+        look(folder, KeyFile::Log)?;
+    }
     Ok(())
 }
 
@@ -80,15 +85,16 @@ fn make_new_key<R: Threads + Sync, D: Folder, W: Sink>(
     rt: &R,
     alloc: Global,
     folder: &mut D,
+    number: KeyNumber,
     secret: PrivateSeed,
     out: &mut W,
 ) -> Result<(), KeyFault>
-    ensures files { OnOk result (Made (D.files folder.old) (D.files folder.new) (key_files secret.key_id secret.seed)) }
+    ensures files { OnOk result (Made (D.files folder.old) (D.files folder.new) (key_files number secret.key_id secret.seed)) }
     ensures line { OnOk result (Wrote (W.text out.old) (W.text out.new) (key_line secret.key_id secret.seed)) }
     ensures no_failure { OnOk result ((D.failed folder.new ≡ D.failed folder.old) × (W.failed out.new ≡ W.failed out.old)) }
     ensures part { OnErr result (WrotePart (W.text out.old) (W.text out.new) (key_line secret.key_id secret.seed)) }
-    ensures fewer { IfErr result (λ fault. LeavesMade fault (D.files folder.old) (D.files folder.new)
-        (D.failed folder.old) (D.failed folder.new) (key_files secret.key_id secret.seed)) }
+    ensures fewer { IfErr result (λ fault. LeavesMade number fault (D.files folder.old) (D.files folder.new)
+        (D.failed folder.old) (D.failed folder.new) (key_files number secret.key_id secret.seed)) }
     ensures cause { IfErr result (λ fault. LeavesLine fault (W.text out.old) (W.text out.new) (W.failed out.old) (W.failed out.new)) }
 {
     let public_key = generate_parallel(rt, alloc, secret)?
@@ -96,28 +102,32 @@ fn make_new_key<R: Threads + Sync, D: Folder, W: Sink>(
         .to_bytes();
     let digits = hex::encode(alloc, &public_key[..])?;
     let line = format!(in alloc; "key {digits}\n")?;
-    make_files(folder, &secret, &public_key)?;
+    make_files(folder, number, &secret, &public_key)?;
     match write_all(out, line.as_bytes()) {
         Ok(()) => Ok(()),
         Err(_) => Err(KeyFault::Output),
     }
 }
 
-// `key.seed` is for its owner alone; it holds the key id at 0 and the seed at 16.
+// The secret key is for its owner alone.
 fn make_files<D: Folder>(
     folder: &mut D,
+    number: KeyNumber,
     secret: &PrivateSeed,
     public_key: &[u8; 56],
 ) -> Result<(), KeyFault>
-    ensures ok { OnOk result (Made (D.files folder.old) (D.files folder.new) (replica_files secret.now.key_id secret.now.seed public_key.now)) }
+    ensures ok { OnOk result (Made (D.files folder.old) (D.files folder.new) (files_with number secret.now.key_id secret.now.seed public_key.now)) }
     ensures no_failure { OnOk result (D.failed folder.new ≡ D.failed folder.old) }
-    ensures err { IfErr result (λ fault. LeavesSome fault (D.files folder.old) (D.files folder.new)
-        (D.failed folder.old) (D.failed folder.new) (replica_files secret.now.key_id secret.now.seed public_key.now)) }
+    ensures err { IfErr result (λ fault. LeavesSome number fault (D.files folder.old) (D.files folder.new)
+        (D.failed folder.old) (D.failed folder.new) (files_with number secret.now.key_id secret.now.seed public_key.now)) }
 {
-    make(folder, KeyFile::Seed, &seed_bytes(secret), Readers::Owner)?;
-    make(folder, KeyFile::PublicKey, public_key, Readers::All)?;
-    make_store(folder, KeyFile::Indices, Store::Indices)?;
-    make_store(folder, KeyFile::Log, Store::Log)?;
+    let secret_key = seed_bytes(secret);
+    make(folder, KeyFile::Seed(number), &secret_key, Readers::Owner)?;
+    make(folder, KeyFile::PublicKey(number), public_key, Readers::All)?;
+    if number == KeyNumber::Zero {
+        make_store(folder, KeyFile::Indices, Store::Indices)?;
+        make_store(folder, KeyFile::Log, Store::Log)?;
+    }
     Ok(())
 }
 
@@ -152,7 +162,7 @@ fn make_store<D: Folder>(folder: &mut D, file: KeyFile, store: Store) -> Result<
     }
 }
 
-// What `key.seed` holds: the key id at 0, the seed at 16.
+// What the file of a secret key holds: the key id at 0, the seed at 16.
 #[tactic(auto, using(wire::proofs::Numbers::filled))]
 fn seed_bytes(secret: &PrivateSeed) -> [u8; 48]
     ensures { result ≡ secret.now.key_id ++ secret.now.seed }

@@ -1,10 +1,11 @@
-//! A replica's key files, made in a folder: the secret key, the public key and two empty journals. Needs no threads or
-//! network; the folder is handed in.
+//! A replica's key files, made in a folder: a secret key, its public key, and with the first key two empty journals.
+//! Needs no threads or network; the folder is handed in.
 #![tactic(auto)]
 
 mod fault;
 mod files;
 mod folder;
+mod key_number;
 mod keygen;
 mod memory_folder;
 mod system_folder;
@@ -12,6 +13,7 @@ mod system_folder;
 pub use fault::KeyFault;
 pub use files::KeyFile;
 pub use folder::{Folder, FolderFault, Readers, Store};
+pub use key_number::KeyNumber;
 pub use keygen::make_key;
 pub use memory_folder::MemoryFolder;
 pub use system_folder::SystemFolder;

@@ -68,7 +68,7 @@ impl<'a, F: Files<File = File>> SystemFolder<'a, F> {
     fn create_journal(&self, name: &str, store: Store) -> io::Result<()> {
         let disk = FileDisk::new(self.create_new(name, 0o644)?);
         let made = match store {
-            Store::Indices => IndexStore::create(self.alloc, disk).is_ok(),
+            Store::Indices => IndexStore::create(self.alloc, disk, 1).is_ok(),
             Store::Log => Journal::create(self.alloc, disk).is_ok(),
         };
         if made {

@@ -1,5 +1,5 @@
 -- What recovery finds.
-use Rattle.std.proofs.Common.{◌≡◌, ◌≢◌, ℕ, ◌%◌, ◌≤◌, List, ◌∷◌, ◌++◌, length, take, Option, Some, None, IfSome, refl, sym, ◌∙◌, ap, subst, arith, append_assoc}
+use Rattle.std.proofs.Common.{◌≡◌, ◌≢◌, ℕ, ◌≤◌, List, ◌∷◌, ◌++◌, length, take, Option, Some, None, IfSome, refl, sym, ◌∙◌, ap, subst, arith, append_assoc}
 use Rattle.std.proofs.lemmas.List.{take_at}
 use Rattle.std.specs.List.{flat_map}
 use Rattle.stable_log.specs.Crash.{NoNew, Only}
@@ -8,10 +8,11 @@ use Rattle.stable_log.specs.Refusals.{IsDamaged, IsJournalRecoverRefusal as IsJo
 use Rattle.stable_log.specs.declared.error.JournalError.{JournalError}
 use Rattle.stable_log.specs.declared.error.JournalError.TheVariants as journal
 use Rattle.key_index_store.specs.Boundary.{reservations, IsBoundedBy, IsStore, LeavesBoundary, taken_by}
+use Rattle.key_index_store.specs.Indices.{limit_of}
 use Rattle.key_index_store.specs.Refusals.{HasNoBoundary, index_error, IsReservationsRefusal, IsIndexRecoverRefusal}
 use Rattle.key_index_store.specs.declared.error.IndexError.{IndexError}
 use Rattle.key_index_store.specs.declared.error.IndexError.TheVariants.{Memory, Device, Spent, Stopped, BadEntry}
-use Rattle.key_index_store.specs.declared.store.TheConstants.{INDICES, INDICES_PER_RESERVATION}
+use Rattle.key_index_store.specs.declared.store.TheConstants.{MOST_KEYS}
 use Rattle.key_index_store.proofs.Bounds.{some_if, if_some, bounded_at}
 use Rattle.key_index_store.proofs.Reservations.{length-reservations}
 
@@ -50,13 +51,13 @@ read_refusal limit told now list Spent fault same one = absurd fault
 read_refusal limit told now list Stopped fault same one = absurd fault
 
 -- a list of n reservations stands for what the disk told, and a crash leaves nothing else
-module _ (limit : ℕ) (told now : Option (List ℕ)) (list : List (List ℕ)) (n : ℕ) (same : now ≡ told) (stands : IfSome told (λ (bytes : List ℕ). StandsFor bytes list)) (listed : IfSome now (λ (x : List ℕ). list ≡ reservations n)) where
+module _ (keys : ℕ) (told now : Option (List ℕ)) (list : List (List ℕ)) (n : ℕ) (same : now ≡ told) (stands : IfSome told (λ (bytes : List ℕ). StandsFor bytes list)) (listed : IfSome now (λ (x : List ℕ). list ≡ reservations n)) where
   is_reserved : (bytes : List ℕ) → told ≡ Some bytes → StandsFor bytes (reservations n)
   is_reserved bytes is = subst (λ (l : List (List ℕ)). StandsFor bytes l) (if_some now (λ (x : List ℕ). list ≡ reservations n) bytes listed (same ∙ is)) (if_some told (λ (x : List ℕ). StandsFor x list) bytes stands is)
 
   -- no boundary of the bytes is another
-  pub not_again : OneList told list → IfSome told (λ (bytes : List ℕ). (mark : ℕ) → IsBoundedBy limit mark bytes → mark ≤ taken_by n)
-  not_again one = some_if told (λ (bytes : List ℕ). (mark : ℕ) → IsBoundedBy limit mark bytes → mark ≤ taken_by n) (λ bytes is mark b.
+  pub not_again : OneList told list → IfSome told (λ (bytes : List ℕ). (other_limit mark : ℕ) → IsBoundedBy other_limit mark bytes → mark ≤ taken_by n)
+  not_again one = some_if told (λ (bytes : List ℕ). (other_limit mark : ℕ) → IsBoundedBy other_limit mark bytes → mark ≤ taken_by n) (λ bytes is other_limit mark b.
       let boundary = b.1 in
       let count = boundary.count in
       let other : reservations count ≡ reservations n =
@@ -65,20 +66,20 @@ module _ (limit : ℕ) (told now : Option (List ℕ)) (list : List (List ℕ)) (
       let counts : count ≡ n = sym (length-reservations count) ∙ ap length other ∙ length-reservations n in
       omega (arith, b.2, boundary.taken, counts))
 
-  module _ (images : List ℕ → Type 0) (durable : IfSome told (λ (bytes : List ℕ). Only bytes images)) (few : taken_by n ≤ limit) where
-    pub leaves : (later : List ℕ → Type 0) → NoNew images later → IfSome told (λ (x : List ℕ). LeavesBoundary later limit (taken_by n))
-    leaves later no_new = some_if told (λ (x : List ℕ). LeavesBoundary later limit (taken_by n)) (λ bytes is image left.
+  module _ (images : List ℕ → Type 0) (durable : IfSome told (λ (bytes : List ℕ). Only bytes images)) (few : taken_by n ≤ (limit_of keys)) where
+    pub leaves : (later : List ℕ → Type 0) → NoNew images later → IfSome told (λ (x : List ℕ). LeavesBoundary later (limit_of keys) (taken_by n))
+    leaves later no_new = some_if told (λ (x : List ℕ). LeavesBoundary later (limit_of keys) (taken_by n)) (λ bytes is image left.
         let only : image ≡ bytes = if_some told (λ (b : List ℕ). Only b images) bytes durable is image (no_new image left) in
-        subst (λ (b : List ℕ). IsBoundedBy limit (taken_by n) b) (sym only) (bounded_at limit n bytes few (is_reserved bytes is)))
+        subst (λ (b : List ℕ). IsBoundedBy (limit_of keys) (taken_by n) b) (sym only) (bounded_at (limit_of keys) n bytes few (is_reserved bytes is)))
 
-    pub store_read : (last : Option (List ℕ)) (later : List ℕ → Type 0) (new : List (List ℕ)) → last ≡ now → new ≡ list → length list ≡ n → limit % INDICES_PER_RESERVATION ≡ 0 → limit ≤ INDICES → NoNew images later → IsStore last later new limit (taken_by n) n
-    store_read last later new same_bytes same_list counted whole most no_new = record {
+    pub store_read : (last : Option (List ℕ)) (later : List ℕ → Type 0) (new : List (List ℕ)) → last ≡ now → new ≡ list → length list ≡ n → 1 ≤ keys → keys ≤ MOST_KEYS → NoNew images later → IsStore last later new keys (taken_by n) n
+    store_read last later new same_bytes same_list counted some most no_new = record {
       within = omega arith;
       last = omega arith;
       few = few;
-      whole = whole;
+      some = some;
       most = most;
       counted = ap length same_list ∙ counted;
       listed = some_if last (λ (x : List ℕ). new ≡ reservations n) (λ bytes is. same_list ∙ if_some now (λ (x : List ℕ). list ≡ reservations n) bytes listed (sym same_bytes ∙ is));
-      bounded = some_if last (λ (x : List ℕ). LeavesBoundary later limit (taken_by n)) (λ bytes is. if_some told (λ (x : List ℕ). LeavesBoundary later limit (taken_by n)) bytes (leaves later no_new) (sym (same_bytes ∙ same) ∙ is));
+      bounded = some_if last (λ (x : List ℕ). LeavesBoundary later (limit_of keys) (taken_by n)) (λ bytes is. if_some told (λ (x : List ℕ). LeavesBoundary later (limit_of keys) (taken_by n)) bytes (leaves later no_new) (sym (same_bytes ∙ same) ∙ is));
     }

@@ -1,8 +1,9 @@
 -- What a journal of reservations stands for. docs/FORMATS.md, 'Index journal'.
-use Rattle.std.specs.Prelude.{ℕ, zero, suc, ◌≡◌, ◌≤◌, ◌<◌, ◌+◌, ◌*◌, ◌%◌, ◌++◌, List, [], ◌∷◌, length, Option, IfSome}
+use Rattle.std.specs.Prelude.{ℕ, zero, suc, ◌≡◌, ◌≤◌, ◌<◌, ◌+◌, ◌*◌, ◌++◌, List, [], ◌∷◌, length, Option, IfSome}
 use Rattle.byteorder.specs.Endian.{big_bytes}
 use Rattle.stable_log.specs.Image.{StandsFor}
-use Rattle.key_index_store.specs.declared.store.TheConstants.{INDICES, INDICES_PER_RESERVATION}
+use Rattle.key_index_store.specs.Indices.{limit_of}
+use Rattle.key_index_store.specs.declared.store.TheConstants.{INDICES_PER_RESERVATION, MOST_KEYS}
 
 -- all indices that so many reservations take lie below this
 abbrev pub taken_by : ℕ → ℕ
@@ -34,12 +35,12 @@ LeavesBoundary images limit mark = (image : List ℕ) → images image → IsBou
 
 -- what a store keeps: its mark stands within the last reservation, its journal has just the reservations, and
 -- whatever a crash leaves has them all
-pub record IsStore (told : Option (List ℕ)) (images : List ℕ → Type 0) (list : List (List ℕ)) (limit mark count : ℕ) : Type 0 where
+pub record IsStore (told : Option (List ℕ)) (images : List ℕ → Type 0) (list : List (List ℕ)) (keys mark count : ℕ) : Type 0 where
   pub within : mark ≤ taken_by count
   pub last : taken_by count < mark + INDICES_PER_RESERVATION
-  pub few : taken_by count ≤ limit
-  pub whole : limit % INDICES_PER_RESERVATION ≡ 0
-  pub most : limit ≤ INDICES
+  pub few : taken_by count ≤ limit_of keys
+  pub some : 1 ≤ keys
+  pub most : keys ≤ MOST_KEYS
   pub counted : length list ≡ count
   pub listed : IfSome told (λ _. list ≡ reservations count)
-  pub bounded : IfSome told (λ _. LeavesBoundary images limit (taken_by count))
+  pub bounded : IfSome told (λ _. LeavesBoundary images (limit_of keys) (taken_by count))

@@ -1,4 +1,5 @@
 pub mod Boundary
+pub mod Indices
 pub mod Refusals
 pub mod State
 pub use Rattle.stable_log.specs.Crash

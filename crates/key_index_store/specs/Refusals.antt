@@ -2,6 +2,7 @@
 -- refused, `Device` where the disk failed.
 use Rattle.std.specs.Prelude.{ℕ, ◌≡◌, ◌≢◌, ◌≤◌, ◌<◌, ◌%◌, List, [], Option, IfSome, true, false}
 use Rattle.key_index_store.specs.Boundary.{IsBoundary, reservations, taken_by}
+use Rattle.key_index_store.specs.Indices.{limit_of}
 use Rattle.key_index_store.specs.State.{IndexState}
 use Rattle.key_index_store.specs.declared.store.TheConstants.{INDICES_PER_RESERVATION}
 use Rattle.key_index_store.specs.declared.error.IndexError.{IndexError}
@@ -44,7 +45,7 @@ IsIndexRecoverRefusal limit told _ = ⊥
 
 -- the store runs, and has an index to give
 abbrev pub MayGive : {D : Type 0} → IndexState D → Type 0
-MayGive store = (store.stopped ≡ false) × (store.mark < store.limit)
+MayGive store = (store.stopped ≡ false) × (store.mark < limit_of store.keys)
 
 -- and all indices that it reserved are given
 abbrev pub MustReserve : {D : Type 0} → IndexState D → Type 0
@@ -55,7 +56,7 @@ abbrev pub IsNextRefusal : {D : Type 0} → IndexState D → IndexError → Type
 IsNextRefusal store Memory = MustReserve store
 IsNextRefusal store Device = MustReserve store
 IsNextRefusal store Stopped = store.stopped ≡ true
-IsNextRefusal store Spent = (store.stopped ≡ false) × (store.mark ≡ store.limit)
+IsNextRefusal store Spent = (store.stopped ≡ false) × (store.mark ≡ limit_of store.keys)
 IsNextRefusal store BadEntry = ⊥
 
 -- storing one reservation more fails

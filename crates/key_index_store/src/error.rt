@@ -11,7 +11,7 @@ pub enum IndexError {
     Memory = 1,
     /// The disk failed in this call.
     Device = 2,
-    /// All 1,024 indices are given or skipped.
+    /// All indices of the keys are given or skipped.
     Spent = 3,
     /// The disk failed in an earlier `next`: take it out and recover it.
     Stopped = 4,

@@ -1,9 +1,13 @@
-//! One-time key indices 0 to 1023, each handed out at most once, also over crashes. Needs no threads, files or
-//! network.
+//! The one-time indices of one to four keys, each handed out at most once, also over crashes. Needs no threads, files
+//! or network.
 #![tactic(auto)]
 
 mod error;
+mod index;
 mod store;
 
 pub use error::IndexError;
-pub use store::{INDICES, INDICES_PER_RESERVATION, IndexStore, indices_are_those_of_the_format};
+pub use index::{key_of, q_of};
+pub use store::{
+    INDICES, INDICES_PER_RESERVATION, IndexStore, MOST_KEYS, indices_are_those_of_the_format,
+};

@@ -1,4 +1,4 @@
-//! The indices of a key.
+//! The indices of a replica's keys.
 ghost use Rattle.std.specs.Prelude.{◌≡◌, ◌≢◌, ◌<◌, ◌≤◌, ◌+◌, ◌-◌, ◌*◌, ◌%◌, ◌^◌, [], ℕ, List, IsTrue, true, false, if◌then◌else◌, IfSome, IsSome, ◌↔◌, option_map, length, IfOk, IfErr, OnErr, OnOk, IsErrOf};
 ghost use Rattle.faults.specs.Counting.{HasFailed};
 ghost use Rattle.stable_log.specs.Crash.{Torn, Follows};
@@ -6,7 +6,8 @@ ghost use Rattle.stable_log.specs.Devices.{AtAnyMoment, Untouched};
 ghost use Rattle.stable_log.specs.Image.{empty_journal};
 ghost use Rattle.key_index_store.specs.Boundary.{reservation, reservations, IsBoundary, IsBoundedBy, LeavesBoundary, taken_by};
 ghost use Rattle.wire.specs.declared.limits.TheConstants.{MOST_ENTRIES};
-ghost use Rattle.key_index_store.specs.declared.store.TheConstants.{INDICES, INDICES_PER_RESERVATION};
+ghost use Rattle.key_index_store.specs.declared.store.TheConstants.{INDICES, INDICES_PER_RESERVATION, MOST_KEYS};
+ghost use Rattle.key_index_store.specs.Indices.{key_of, limit_of};
 ghost use Rattle.key_index_store.specs.Refusals.{IsIndexCreateRefusal, IsIndexRecoverRefusal, MayGive, IsNextRefusal, IsReserveRefusal, IsReservationsRefusal};
 
 use crate::IndexError;
@@ -17,27 +18,38 @@ use std::marker::Model;
 /// How many indices a key has.
 pub const INDICES: u32 = 1024;
 
+/// How many keys a store has at most.
+pub const MOST_KEYS: u8 = 4;
+
 /// How many indices are taken at a time.
 pub const INDICES_PER_RESERVATION: u32 = 16;
 
-/// Both are as docs/FORMATS.md says, "Index journal": the contract is the law, and nothing is computed.
+/// All are as docs/FORMATS.md says, "Index journal": the contract is the law, and nothing is computed.
 pub fn indices_are_those_of_the_format()
     ensures indices { INDICES ≡ 1024 }
+    ensures keys { MOST_KEYS ≡ 4 }
     ensures reservation { INDICES_PER_RESERVATION ≡ 16 }
 {}
 
-/// The indices 0 to 1023 of a key, on a disk. An index is given once: before it is, a reservation of 16 indices that
-/// covers it is durable, and recovery skips what was reserved.
+// How many indices so many keys have.
+fn indices_of(keys: u8) -> u32
+    ensures { result ≡ limit_of keys }
+{
+    INDICES * u32::from(keys)
+}
+
+/// The indices of one to four keys, on a disk: each key has 1,024, so that index i is the one-time key i mod 1,024 of
+/// key i / 1,024 (`q_of` and `key_of`). An index is given once: before it is, a reservation of 16 indices that covers
+/// it is durable, and recovery skips what was reserved.
 ///
-/// The disk holds a journal whose entry k, from 0 to 63, is the big-endian u32 16(k+1): all indices below it are
-/// taken.
+/// The disk holds a journal of at most 64 entries a key, whose entry k is the big-endian u32 16(k+1): all indices
+/// below it are taken. It doesn't say how many keys there are: a store may be recovered with more keys than before.
 ///
-/// Contracts see the disk, how many indices the key has, the mark below which lies every index given or skipped, and whether the store is stopped.
+/// Contracts see the disk, how many keys the store has, the mark below which lies every index given or skipped, and whether the store is stopped.
 #[derive(Drop)]
 pub struct IndexStore<D: Disk> {
     journal: Journal<D>,
-    // how many indices the key has, a multiple of those of a reservation
-    limit: u32,
+    keys: u8,
     // the least index that was not given
     next: u32,
     // how many reservations are stored
@@ -50,9 +62,9 @@ impl<D: Disk> Model for IndexStore<D> {
 
     ghost Value = { IndexState D };
 
-    ghost view = { λ s. record { disk = s.journal.disk; limit = s.limit; mark = s.next; stopped = s.journal.stopped } };
+    ghost view = { λ s. record { disk = s.journal.disk; keys = s.keys; mark = s.next; stopped = s.journal.stopped } };
 
-    ghost invariant = { λ s. IsStore (D.bytes s.journal.disk) (D.images s.journal.disk) s.journal.payloads s.limit s.next s.count };
+    ghost invariant = { λ s. IsStore (D.bytes s.journal.disk) (D.images s.journal.disk) s.journal.payloads s.keys s.next s.count };
 }
 
 // What entry k of the journal holds.
@@ -70,11 +82,11 @@ fn is_reservation(entry: &[u8], k: u32) -> bool
     entry == reservation_text(k).as_slice()
 }
 
-// Stores that the indices of one reservation more are taken, which the key must have.
-fn reserve<D: Disk>(journal: &mut Journal<D>, count: u32, limit: u32) -> Result<(), IndexError>
+// Stores that the indices of one reservation more are taken, which are of these keys.
+fn reserve<D: Disk>(journal: &mut Journal<D>, count: u32, keys: u8) -> Result<(), IndexError>
     requires running { journal.old.stopped ≡ false }
-    requires room { taken_by (count + 1) ≤ limit }
-    requires most { limit ≤ INDICES }
+    requires room { taken_by (count + 1) ≤ limit_of keys }
+    requires most { keys ≤ MOST_KEYS }
     requires counted { length journal.old.payloads ≡ count }
     requires listed { IfSome (D.bytes journal.old.disk) (λ _.
         journal.old.payloads ≡ reservations count) }
@@ -83,14 +95,14 @@ fn reserve<D: Disk>(journal: &mut Journal<D>, count: u32, limit: u32) -> Result<
     ensures counted { OnOk result (length journal.new.payloads ≡ count + 1) }
     ensures running { OnOk result (journal.new.stopped ≡ false) }
     ensures durable { OnOk result (IfSome (D.bytes journal.old.disk) (λ _.
-        LeavesBoundary (D.images journal.new.disk) limit (taken_by (count + 1)))) }
+        LeavesBoundary (D.images journal.new.disk) (limit_of keys) (taken_by (count + 1)))) }
     ensures no_failure { OnOk result (D.failed journal.new.disk ≡ D.failed journal.old.disk) }
     ensures tells { IsSome (D.bytes journal.new.disk) ↔ IsSome (D.bytes journal.old.disk) }
     ensures bounded { IfSome (D.bytes journal.old.disk) (λ _.
-        LeavesBoundary (D.images journal.new.disk) limit (taken_by count)) }
+        LeavesBoundary (D.images journal.new.disk) (limit_of keys) (taken_by count)) }
     ensures any_moment { IfSome (D.bytes journal.old.disk) (λ _.
         AtAnyMoment D.Disk journal.old.disk journal.new.disk
-        (IsBoundedBy limit (taken_by count))) }
+        (IsBoundedBy (limit_of keys) (taken_by count))) }
     ensures first_refusal { IfErr result IsReserveRefusal }
     ensures device { IsErrOf result IndexError.Device → (journal.new.payloads ≡ journal.old.payloads)
         × (journal.new.stopped ≡ true) }
@@ -98,33 +110,33 @@ fn reserve<D: Disk>(journal: &mut Journal<D>, count: u32, limit: u32) -> Result<
     ensures cause { IsErrOf result IndexError.Device →
         HasFailed (D.failed journal.old.disk) (D.failed journal.new.disk) }
 {
-    prove!(INDICES_PER_RESERVATION * (count + 1) <= limit);
+    prove!(INDICES_PER_RESERVATION * (count + 1) <= INDICES * u32::from(keys));
     journal.append(&reservation_text(count))?;
     Ok(())
 }
 
-// How many reservations a journal has, where it has nothing else and they are of so many indices at most.
+// How many reservations a journal has, where it has nothing else and they are of these keys.
 fn read_reservations<D: Disk>(
     alloc: Global,
     journal: &mut Journal<D>,
-    limit: u32,
+    keys: u8,
 ) -> Result<u32, IndexError>
     requires running { journal.old.stopped ≡ false }
-    requires most { limit ≤ INDICES }
+    requires most { keys ≤ MOST_KEYS }
     ensures ok { IfOk result (λ n. IfSome (D.bytes journal.old.disk) (λ _.
         journal.old.payloads ≡ reservations n)) }
-    ensures counted { IfOk result (λ n. (length journal.old.payloads ≡ n) × (taken_by n ≤ limit)) }
+    ensures counted { IfOk result (λ n. (length journal.old.payloads ≡ n) × (taken_by n ≤ limit_of keys)) }
     ensures same { (journal.new.payloads ≡ journal.old.payloads) × (journal.new.stopped ≡ false)
         × Untouched D.Disk journal.old.disk journal.new.disk }
     ensures no_failure { OnOk result (D.failed journal.new.disk ≡ D.failed journal.old.disk) }
-    ensures first_refusal { IfErr result (IsReservationsRefusal limit (D.bytes journal.old.disk)
+    ensures first_refusal { IfErr result (IsReservationsRefusal (limit_of keys) (D.bytes journal.old.disk)
         journal.old.payloads) }
     ensures cause { IsErrOf result IndexError.Device →
         HasFailed (D.failed journal.old.disk) (D.failed journal.new.disk) }
     ensures kept { IfErr result (λ e. e ≢ IndexError.Device →
         D.failed journal.new.disk ≡ D.failed journal.old.disk) }
 {
-    if journal.count() > (limit / INDICES_PER_RESERVATION) as usize {
+    if journal.count() > (indices_of(keys) / INDICES_PER_RESERVATION) as usize {
         return Err(IndexError::BadEntry);
     }
     let count = journal.count() as u32;
@@ -139,15 +151,17 @@ fn read_reservations<D: Disk>(
 }
 
 impl<D: Disk> IndexStore<D> {
-    /// Makes an empty disk a store that has given nothing. A refusal hands the disk back; one that was not empty is
+    /// Makes an empty disk a store of so many keys that has given nothing. A refusal hands the disk back; one that was not empty is
     /// not written to, and after `Device` an empty one may hold any part of the 9 bytes of an empty journal. In this
     /// order: `Device`, `BadEntry`.
-    pub fn create(alloc: Global, disk: D) -> Result<IndexStore<D>, (IndexError, D)>
-        ensures ok { IfOk result (λ s. (s.limit ≡ INDICES) × (s.mark ≡ 0) × (s.stopped ≡ false)) }
+    pub fn create(alloc: Global, disk: D, keys: u8) -> Result<IndexStore<D>, (IndexError, D)>
+        requires some { 1 ≤ keys }
+        requires most { keys ≤ MOST_KEYS }
+        ensures ok { IfOk result (λ s. (s.keys ≡ keys) × (s.mark ≡ 0) × (s.stopped ≡ false)) }
         ensures exact { OnOk result (IfSome (D.bytes disk) (λ bytes. bytes ≡ [])) }
         ensures told { IfOk result (λ s. D.bytes s.disk ≡ option_map (λ _. empty_journal) (D.bytes disk)) }
         ensures bounded { IfOk result (λ s. IfSome (D.bytes disk) (λ _.
-            LeavesBoundary (D.images s.disk) s.limit s.mark)) }
+            LeavesBoundary (D.images s.disk) (limit_of keys) s.mark)) }
         ensures no_failure { IfOk result (λ s. D.failed s.disk ≡ D.failed disk) }
 
         ensures first_refusal { IfErr result (λ e. IsIndexCreateRefusal (D.bytes disk) e.0) }
@@ -162,7 +176,7 @@ impl<D: Disk> IndexStore<D> {
         match Journal::create(alloc, disk) {
             Ok(journal) => Ok(IndexStore {
                 journal,
-                limit: INDICES,
+                keys,
                 next: 0,
                 count: 0,
             }),
@@ -170,23 +184,26 @@ impl<D: Disk> IndexStore<D> {
         }
     }
 
-    /// Reads a store that a crash or a failed call may have left, and goes on at the stored boundary, 0 where nothing
-    /// is stored. It writes nothing. A refusal hands the disk back. In this order: `Memory`, `Device`, `BadEntry`.
-    pub fn recover(alloc: Global, disk: D) -> Result<IndexStore<D>, (IndexError, D)>
-        ensures ok { IfOk result (λ s. IfSome (D.bytes disk) (λ bytes. IsBoundary s.limit s.mark bytes)) }
-        ensures limit { IfOk result (λ s. s.limit ≡ INDICES) }
+    /// Reads a store that a crash or a failed call may have left, with so many keys from now on, and goes on at the
+    /// stored boundary, 0 where nothing is stored. It writes nothing. A refusal hands the disk back; a boundary beyond
+    /// these keys is a `BadEntry`. In this order: `Memory`, `Device`, `BadEntry`.
+    pub fn recover(alloc: Global, disk: D, keys: u8) -> Result<IndexStore<D>, (IndexError, D)>
+        requires some { 1 ≤ keys }
+        requires most { keys ≤ MOST_KEYS }
+        ensures ok { IfOk result (λ s. IfSome (D.bytes disk) (λ bytes. IsBoundary (limit_of keys) s.mark bytes)) }
+        ensures keys { IfOk result (λ s. s.keys ≡ keys) }
 
-        // No index is given again: each mark that the image bounds is at most the new one.
-        ensures not_again { IfOk result (λ s. IfSome (D.bytes disk) (λ bytes. (mark : ℕ) →
-            IsBoundedBy s.limit mark bytes → mark ≤ s.mark)) }
+        // No index is given again, however many keys there were: each mark that the image bounds is at most the new one.
+        ensures not_again { IfOk result (λ s. IfSome (D.bytes disk) (λ bytes. (limit mark : ℕ) →
+            IsBoundedBy limit mark bytes → mark ≤ s.mark)) }
 
         ensures running { IfOk result (λ s. s.stopped ≡ false) }
         ensures bounded { IfOk result (λ s. IfSome (D.bytes disk) (λ _.
-            LeavesBoundary (D.images s.disk) s.limit s.mark)) }
+            LeavesBoundary (D.images s.disk) (limit_of keys) s.mark)) }
         ensures same { IfOk result (λ s. Untouched D.Disk disk s.disk) }
         ensures no_failure { IfOk result (λ s. D.failed s.disk ≡ D.failed disk) }
 
-        ensures first_refusal { IfErr result (λ e. IsIndexRecoverRefusal INDICES (D.bytes disk) e.0) }
+        ensures first_refusal { IfErr result (λ e. IsIndexRecoverRefusal (limit_of keys) (D.bytes disk) e.0) }
         ensures err { IfErr result (λ e. Untouched D.Disk disk e.1) }
         ensures cause { IfErr result (λ e. e.0 ≡ IndexError.Device →
             HasFailed (D.failed disk) (D.failed e.1)) }
@@ -196,10 +213,10 @@ impl<D: Disk> IndexStore<D> {
             Ok(journal) => journal,
             Err((refusal, disk)) => return Err((IndexError::from(refusal), disk)),
         };
-        match read_reservations(alloc, &mut journal, INDICES) {
+        match read_reservations(alloc, &mut journal, keys) {
             Ok(count) => Ok(IndexStore {
                 journal,
-                limit: INDICES,
+                keys,
                 next: INDICES_PER_RESERVATION * count,
                 count,
             }),
@@ -212,12 +229,13 @@ impl<D: Disk> IndexStore<D> {
     /// and any but `Device` changes nothing. In this order: `Memory`, `Stopped`, `Spent`, `Device`.
     pub fn next(&mut self) -> Result<u32, IndexError>
         ensures ok { IfOk result (λ n. (n ≡ self.old.mark) × (self.new.mark ≡ self.old.mark + 1)) }
-        ensures limit { self.new.limit ≡ self.old.limit }
-        ensures below { IfOk result (λ n. n < INDICES) }
+        ensures keys { self.new.keys ≡ self.old.keys }
+        ensures below { IfOk result (λ n. n < limit_of self.old.keys) }
+        ensures key { IfOk result (λ n. key_of n < self.old.keys) }
         ensures exact { OnOk result (MayGive self.old) }
         ensures running { OnOk result (self.new.stopped ≡ false) }
         ensures bounded { IfSome (D.bytes self.old.disk) (λ _.
-            LeavesBoundary (D.images self.new.disk) self.old.limit self.new.mark) }
+            LeavesBoundary (D.images self.new.disk) (limit_of self.old.keys) self.new.mark) }
         ensures no_failure { OnOk result (D.failed self.new.disk ≡ D.failed self.old.disk) }
         ensures tells { IsSome (D.bytes self.new.disk) ↔ IsSome (D.bytes self.old.disk) }
         ensures same { self.old.mark % INDICES_PER_RESERVATION ≢ 0 → self.new.disk ≡ self.old.disk }
@@ -225,7 +243,7 @@ impl<D: Disk> IndexStore<D> {
         // A crash at any moment of the call leaves a boundary that is at least the mark from before it.
         ensures any_moment { IfSome (D.bytes self.old.disk) (λ _.
             AtAnyMoment D.Disk self.old.disk self.new.disk
-            (IsBoundedBy self.old.limit self.old.mark)) }
+            (IsBoundedBy (limit_of self.old.keys) self.old.mark)) }
 
         ensures first_refusal { IfErr result (IsNextRefusal self.old) }
         ensures device { IsErrOf result IndexError.Device → (self.new.mark ≡ self.old.mark)
@@ -237,26 +255,35 @@ impl<D: Disk> IndexStore<D> {
         if self.journal.stopped() {
             return Err(IndexError::Stopped);
         }
-        if self.next >= self.limit {
+        if self.next >= indices_of(self.keys) {
             return Err(IndexError::Spent);
         }
         if self.next >= INDICES_PER_RESERVATION * self.count {
             // The boundary is on the disk before an index below it is given.
-            reserve(&mut self.journal, self.count, self.limit)?;
+            reserve(&mut self.journal, self.count, self.keys)?;
             self.count += 1;
         }
         self.next += 1;
         Ok(self.next - 1)
     }
 
+    /// How many keys the store has, as `create` or `recover` was told.
+    pub fn keys(&self) -> u8
+        ensures exact { result ≡ self.now.keys }
+        ensures some { 1 ≤ result }
+        ensures most { result ≤ MOST_KEYS }
+    {
+        self.keys
+    }
+
     /// How many indices `next` can still give, 0 where the store is stopped.
     pub fn left(&self) -> u32
-        ensures { result ≡ (if self.now.stopped then 0 else self.now.limit - self.now.mark) }
+        ensures { result ≡ (if self.now.stopped then 0 else limit_of self.now.keys - self.now.mark) }
     {
         if self.journal.stopped() {
             0
         } else {
-            self.limit - self.next
+            indices_of(self.keys) - self.next
         }
     }
 
@@ -265,7 +292,7 @@ impl<D: Disk> IndexStore<D> {
     pub fn stopped(&self) -> bool
         ensures value { result ≡ self.now.stopped }
         ensures bounded { IfSome (D.bytes self.now.disk) (λ _.
-            LeavesBoundary (D.images self.now.disk) self.now.limit self.now.mark) }
+            LeavesBoundary (D.images self.now.disk) (limit_of self.now.keys) self.now.mark) }
     {
         self.journal.stopped()
     }
@@ -276,7 +303,7 @@ impl<D: Disk> IndexStore<D> {
     {
         let IndexStore {
             journal,
-            limit: _,
+            keys: _,
             next: _,
             count: _,
         } = self;

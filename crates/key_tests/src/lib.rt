@@ -1,5 +1,5 @@
-//! Tests of `key_files`: the files that keygen makes in a folder in memory, and each of its faults. The seed is that of
-//! replica 2 of the fixtures, and its public key is the stored bytes of an independent program.
+//! Tests of `key_files`: the files that keygen makes in a folder in memory, and each of its faults. One seed is that of
+//! replica 2 of the fixtures, and the public keys are the stored bytes of an independent program.
 #![tactic(auto)]
 
 #[cfg(test)]

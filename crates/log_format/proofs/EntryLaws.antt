@@ -16,10 +16,11 @@ use Rattle.certificates.specs.CertificateReading.{certificate_at, certificate_in
 use Rattle.certificates.proofs.CertificateLaws.{certificate_found, certificate_again}
 use Rattle.certificates.proofs.Entries.{length-entries_in}
 use Rattle.certificates.proofs.Pieces.{two_pieces}
+use Rattle.log_format.specs.declared.entry.KeyedSignature.{KeyedSignature}
 use Rattle.log_format.specs.declared.entry.EntryRefusal.{EntryRefusal}
 use Rattle.log_format.specs.declared.entry.EntryRefusal.TheVariants.{Memory, Length, Kind, Header as HeaderRefused, Parent, OwnVote, Certificate as CertificateRefused}
-use Rattle.log_format.specs.EntryText.{Entry, EntriesHaveOneSpelling, IsEntry, IsEntryOf, IsOn, IsSignature, entry_text, entry_kind, own_vote_text}
-use Rattle.log_format.specs.EntryReading.{IsEntryRefusal, IsOwnVoteOn, IsReadableEntry, PassesEntry, block_in, certificate_in_rest, certificate_place, entry_in, entry_order, entry_refusal_number, is_voted_in, entry_kind_in, parent_in, rest_in, signature_in}
+use Rattle.log_format.specs.EntryText.{Entry, EntriesHaveOneSpelling, IsEntry, IsEntryOf, IsOn, IsKeyedSignature, entry_text, entry_kind, own_vote_text}
+use Rattle.log_format.specs.EntryReading.{IsEntryRefusal, IsOwnVoteOn, IsReadableEntry, PassesEntry, block_in, certificate_in_rest, certificate_place, entry_in, entry_order, entry_refusal_number, is_voted_in, entry_kind_in, own_in, parent_in, rest_in}
 use Rattle.log_format.proofs.EntryParts.{read_header, read_certificate, whole_certificate, header_is, certificate_is, ok_from}
 
 -- ---- what is read is spelled so
@@ -27,7 +28,7 @@ use Rattle.log_format.proofs.EntryParts.{read_header, read_certificate, whole_ce
 AreBytes-drop : (n : ℕ) (bytes : List ℕ) → AreBytes bytes → AreBytes (drop n bytes)
 AreBytes-drop n bytes fit i = rw (get_or-drop n bytes i 0) (fit (n + i))
 
-whole_long : (len n : ℕ) → (nat_le 42 len && (len == 42 + 1454 * n)) ≡ true → 42 ≤ len
+whole_long : (len n : ℕ) → (nat_le 42 len && (len == 42 + 1455 * n)) ≡ true → 42 ≤ len
 whole_long len n e = grind (arith, nat_tests)
 
 -- there is a certificate's head behind the place
@@ -36,32 +37,34 @@ long_enough bytes place whole =
     let long = whole_long (length (drop place bytes)) (count_in (drop place bytes)) whole in
     omega (arith, long, length-drop place bytes)
 
-one_byte : (bytes : List ℕ) → 0 < length bytes → piece 1 bytes 0 ≡ slice_index bytes 0 ∷ []
-one_byte bytes some = ap (take 1) (drop_more bytes 0 0 some)
+one_byte : (bytes : List ℕ) (at : ℕ) → at < length bytes → piece 1 bytes at ≡ slice_index bytes at ∷ []
+one_byte bytes at some = ap (take 1) (drop_more bytes at 0 some)
 
-kind_is : (k : ℕ) (bytes : List ℕ) → (k ≡ 1) ⊎ (k ≡ 2) → k ≡ entry_kind (signature_in (k == 1) bytes)
-unfolding signature_in
-kind_is k bytes (inl one) = rw one refl
-kind_is k bytes (inr two) = rw two refl
+kind_is : (k : ℕ) (bytes : List ℕ) → (k ≡ 3) ⊎ (k ≡ 4) → k ≡ entry_kind (own_in (k == 3) bytes)
+unfolding own_in
+kind_is k bytes (inl voted) = rw voted refl
+kind_is k bytes (inr raised) = rw raised refl
 
-signed : (voted : Bool) (bytes : List ℕ) → certificate_place voted ≤ length bytes → IfSome (signature_in voted bytes) IsSignature
-unfolding signature_in
-signed true bytes long = length-piece 1452 bytes 209 (omega arith)
-signed false bytes long = tt
+signed : (voted : Bool) (bytes : List ℕ) → AreBytes bytes → certificate_place voted ≤ length bytes → IfSome (own_in voted bytes) IsKeyedSignature
+unfolding own_in
+signed true bytes fit long = record { key = fit 169; signature = length-piece 1452 bytes 210 (omega arith) }
+signed false bytes fit long = tt
 
 -- the own vote, if there is one, and the rest
 tail_spelled : (voted : Bool) (bytes : List ℕ) (block : Header) (rest : List ℕ) → AreBytes bytes → certificate_place voted ≤ length bytes
     → (voted ≡ true → IsOwnVoteOn block bytes) → drop (certificate_place voted) bytes ≡ rest
-    → drop 169 bytes ≡ own_vote_text block (signature_in voted bytes) ++ rest
-unfolding signature_in
+    → drop 169 bytes ≡ own_vote_text block (own_in voted bytes) ++ rest
+unfolding own_in
 tail_spelled true bytes block rest fit long own is =
     let on = own refl in
-    let view : piece 8 bytes 169 ≡ big_bytes 8 block.view = piece-number_at 8 bytes 169 fit (omega arith) ∙ ap (λ (n : ℕ). big_bytes 8 n) on.view in
-    let vote : piece 1492 bytes 169 ≡ big_bytes 8 block.view ++ (header_id block ++ piece 1452 bytes 209) =
-    sym (two_pieces bytes 169 8 1484)
-    ∙ ap (λ (t : List ℕ). piece 8 bytes 169 ++ t) (sym (two_pieces bytes 177 32 1452))
+    let view : piece 8 bytes 170 ≡ big_bytes 8 block.view = piece-number_at 8 bytes 170 fit (omega arith) ∙ ap (λ (n : ℕ). big_bytes 8 n) on.view in
+    let vote : piece 1492 bytes 170 ≡ big_bytes 8 block.view ++ (header_id block ++ piece 1452 bytes 210) =
+    sym (two_pieces bytes 170 8 1484)
+    ∙ ap (λ (t : List ℕ). piece 8 bytes 170 ++ t) (sym (two_pieces bytes 178 32 1452))
     ∙ rw (view, on.id) refl in
-    taken bytes 169 1492 _ rest vote is
+    let keyed : piece 1493 bytes 169 ≡ (slice_index bytes 169 ∷ []) ++ (big_bytes 8 block.view ++ (header_id block ++ piece 1452 bytes 210)) =
+    sym (two_pieces bytes 169 1 1492) ∙ rw (one_byte bytes 169 (omega arith), vote) refl in
+    taken bytes 169 1493 _ rest keyed is
 tail_spelled false bytes block rest fit long own is = is
 
 least_place : (voted : Bool) → 169 ≤ certificate_place voted
@@ -85,14 +88,14 @@ entry_found bytes fit readable =
     let block = header_found (piece 84 bytes 1) (block_in bytes) (AreBytes-piece 84 bytes 1 fit) (header_is (piece 84 bytes 1) headers.0) in
     let parent = header_found (piece 84 bytes 85) (parent_in bytes) (AreBytes-piece 84 bytes 85 fit) (header_is (piece 84 bytes 85) headers.1) in
     let last = certificate_found rest (certificate_in_rest rest) (AreBytes-drop (certificate_place voted) bytes fit) (certificate_is rest certificate.0) in
-    let first : piece 1 bytes 0 ≡ entry_kind (signature_in voted bytes) ∷ [] =
-    one_byte bytes (omega arith) ∙ ap (λ (k : ℕ). k ∷ []) (kind_is (entry_kind_in bytes) bytes kind) in
+    let first : piece 1 bytes 0 ≡ entry_kind (own_in voted bytes) ∷ [] =
+    one_byte bytes 0 (omega arith) ∙ ap (λ (k : ℕ). k ∷ []) (kind_is (entry_kind_in bytes) bytes kind) in
     record {
       entry = record {
         block = block.0;
         parent = parent.0;
         names = names;
-        signature = signed voted bytes (omega arith);
+        own = signed voted bytes fit (omega arith);
         certificate = last.0;
         on_parent = certificate.1;
       };
@@ -108,11 +111,11 @@ entry_found bytes fit readable =
 true_is_not_false : (b : Bool) → b ≡ true → b ≡ false → ⊥
 true_is_not_false b p q = absurd cc
 
-length-header_id : (h : Header) → length (header_id h) ≡ 32
+pub length-header_id : (h : Header) → length (header_id h) ≡ 32
 unfolding header_id
 length-header_id h = length-sha256 (header_text h)
 
-length-header_text : (h : Header) → IsHeader h → length (header_text h) ≡ 84
+pub length-header_text : (h : Header) → IsHeader h → length (header_text h) ≡ 84
 unfolding header_text
 length-header_text h is =
     let parent = is.parent in
@@ -151,58 +154,65 @@ reads_certificate text c is here =
       whole = whole_certificate text c read;
     }
 
+abbrev keyed_from : ℕ → List ℕ → KeyedSignature
+keyed_from k s = record { key = k; signature = s }
+
 -- behind the headers the own vote is read, if there is one, and then the rest
-record ReadsTail (text : List ℕ) (block : Header) (signature : Option (List ℕ)) (rest : List ℕ) : Type 0 where
-  kind : (slice_index text 0 ≡ 1) ⊎ (slice_index text 0 ≡ 2)
+record ReadsTail (text : List ℕ) (block : Header) (signed : Option KeyedSignature) (rest : List ℕ) : Type 0 where
+  kind : (slice_index text 0 ≡ 3) ⊎ (slice_index text 0 ≡ 4)
   own : is_voted_in text ≡ true → IsOwnVoteOn block text
-  same : signature_in (is_voted_in text) text ≡ signature
+  same : own_in (is_voted_in text) text ≡ signed
   rest_is : rest_in (is_voted_in text) text ≡ rest
 
-reads_tail : (text : List ℕ) (block : Header) (o : Option (List ℕ)) (rest : List ℕ) → IsHeader block → IfSome o IsSignature
+reads_tail : (text : List ℕ) (block : Header) (o : Option KeyedSignature) (rest : List ℕ) → IsHeader block → IfSome o IsKeyedSignature
     → length (header_id block) ≡ 32 → slice_index text 0 ≡ entry_kind o → drop 169 text ≡ own_vote_text block o ++ rest → ReadsTail text block o rest
-unfolding signature_in
+unfolding own_in
 reads_tail text block (Some s) rest is signed id kind here =
-    let voted : is_voted_in text ≡ true = ap (λ (k : ℕ). k == 1) kind in
-    let grouped : drop 169 text ≡ big_bytes 8 block.view ++ (header_id block ++ (s ++ rest)) = here ∙ ap (λ (t : List ℕ). big_bytes 8 block.view ++ t) (append_assoc (header_id block) s rest) in
-    let second : drop 177 text ≡ header_id block ++ (s ++ rest) = behind text 169 8 (big_bytes 8 block.view) (header_id block ++ (s ++ rest)) grouped refl in
-    let third : drop 209 text ≡ s ++ rest = behind text 177 32 (header_id block) (s ++ rest) second id in
+    let voted : is_voted_in text ≡ true = ap (λ (k : ℕ). k == 3) kind in
+    let vote = header_id block ++ (s.signature ++ rest) in
+    let grouped : drop 169 text ≡ (s.key ∷ []) ++ (big_bytes 8 block.view ++ vote) = here ∙ ap (λ (t : List ℕ). s.key ∷ (big_bytes 8 block.view ++ t)) (append_assoc (header_id block) s.signature rest) in
+    let first : drop 170 text ≡ big_bytes 8 block.view ++ vote = behind text 169 1 (s.key ∷ []) _ grouped refl in
+    let second : drop 178 text ≡ vote = behind text 170 8 (big_bytes 8 block.view) vote first refl in
+    let third : drop 210 text ≡ s.signature ++ rest = behind text 178 32 (header_id block) (s.signature ++ rest) second id in
+    let key : slice_index text 169 ≡ s.key = sym (get_or-drop 169 text 0 0) ∙ ap (λ (t : List ℕ). slice_index t 0) grouped in
+    let signature : piece 1452 text 210 ≡ s.signature = front text 210 1452 s.signature rest third signed.signature in
     record {
       kind = inl kind;
       own = λ _. record {
-        view = number_again 8 text 169 block.view is.view (front text 169 8 (big_bytes 8 block.view) (header_id block ++ (s ++ rest)) grouped refl);
-        id = front text 177 32 (header_id block) (s ++ rest) second id;
+        view = number_again 8 text 170 block.view is.view (front text 170 8 (big_bytes 8 block.view) vote first refl);
+        id = front text 178 32 (header_id block) (s.signature ++ rest) second id;
       };
-      same = ap (λ (v : Bool). signature_in v text) voted ∙ ap Some (front text 209 1452 s rest third signed);
-      rest_is = ap (λ (v : Bool). rest_in v text) voted ∙ behind text 209 1452 s rest third signed;
+      same = ap (λ (v : Bool). own_in v text) voted ∙ ap (λ (k : ℕ). Some (keyed_from k (piece 1452 text 210))) key ∙ ap (λ (t : List ℕ). Some (keyed_from s.key t)) signature;
+      rest_is = ap (λ (v : Bool). rest_in v text) voted ∙ behind text 210 1452 s.signature rest third signed.signature;
     }
 reads_tail text block None rest is signed id kind here =
-    let voted : is_voted_in text ≡ false = ap (λ (k : ℕ). k == 1) kind in
+    let voted : is_voted_in text ≡ false = ap (λ (k : ℕ). k == 3) kind in
     record {
       kind = inr kind;
       own = λ yes. absurd (true_is_not_false _ yes voted);
-      same = ap (λ (v : Bool). signature_in v text) voted;
+      same = ap (λ (v : Bool). own_in v text) voted;
       rest_is = ap (λ (v : Bool). rest_in v text) voted ∙ here;
     }
 
-abbrev entry_from : Header → Header → Option (List ℕ) → Certificate → Entry
-entry_from b p s c = record { block = b; parent = p; signature = s; certificate = c }
+abbrev entry_from : Header → Header → Option KeyedSignature → Certificate → Entry
+entry_from b p s c = record { block = b; parent = p; own = s; certificate = c }
 
-same_entry : (e : Entry) (b p : Header) (s : Option (List ℕ)) (c : Certificate) → b ≡ e.block → p ≡ e.parent → s ≡ e.signature → c ≡ e.certificate → entry_from b p s c ≡ e
+same_entry : (e : Entry) (b p : Header) (s : Option KeyedSignature) (c : Certificate) → b ≡ e.block → p ≡ e.parent → s ≡ e.own → c ≡ e.certificate → entry_from b p s c ≡ e
 same_entry e b p s c q r t u =
     ap (λ (x : Header). entry_from x p s c) q ∙ ap (λ (x : Header). entry_from e.block x s c) r
-    ∙ ap (λ (x : Option (List ℕ)). entry_from e.block e.parent x c) t ∙ ap (entry_from e.block e.parent e.signature) u
+    ∙ ap (λ (x : Option KeyedSignature). entry_from e.block e.parent x c) t ∙ ap (entry_from e.block e.parent e.own) u
 
 -- what is written is read, with its parts
 pub entry_again : (bytes : List ℕ) (e : Entry) → IsEntryOf bytes e → IsReadableEntry bytes × (entry_in bytes ≡ e)
 unfolding entry_text block_in parent_in certificate_in_rest
 entry_again text e is =
     let entry = is.entry in
-    let own = own_vote_text e.block e.signature ++ certificate_text e.certificate in
-    let start : drop 0 text ≡ (entry_kind e.signature ∷ []) ++ (header_text e.block ++ (header_text e.parent ++ own)) = is.text in
-    let block = reads_header text 1 e.block (header_text e.parent ++ own) entry.block (behind text 0 1 (entry_kind e.signature ∷ []) _ start refl) in
+    let own = own_vote_text e.block e.own ++ certificate_text e.certificate in
+    let start : drop 0 text ≡ (entry_kind e.own ∷ []) ++ (header_text e.block ++ (header_text e.parent ++ own)) = is.text in
+    let block = reads_header text 1 e.block (header_text e.parent ++ own) entry.block (behind text 0 1 (entry_kind e.own ∷ []) _ start refl) in
     let parent = reads_header text 85 e.parent own entry.parent block.rest_is in
-    let kind : slice_index text 0 ≡ entry_kind e.signature = ap (λ (t : List ℕ). slice_index t 0) start in
-    let tail = reads_tail text e.block e.signature (certificate_text e.certificate) entry.block entry.signature (length-header_id e.block) kind parent.rest_is in
+    let kind : slice_index text 0 ≡ entry_kind e.own = ap (λ (t : List ℕ). slice_index t 0) start in
+    let tail = reads_tail text e.block e.own (certificate_text e.certificate) entry.block entry.own (length-header_id e.block) kind parent.rest_is in
     let last = reads_certificate (rest_in (is_voted_in text) text) e.certificate entry.certificate tail.rest_is in
     let names : NamesParent (block_in text) (parent_in text) =
     subst (λ (h : Header). NamesParent h (parent_in text)) (sym block.same) (subst (λ (h : Header). NamesParent e.block h) (sym parent.same) entry.names) in
@@ -242,10 +252,10 @@ one_spelling e f is_e is_f same =
 
 -- ---- how long an entry is
 
-whole_is : (len n : ℕ) → (nat_le 42 len && (len == 42 + 1454 * n)) ≡ true → len ≡ 42 + 1454 * n
+whole_is : (len n : ℕ) → (nat_le 42 len && (len == 42 + 1455 * n)) ≡ true → len ≡ 42 + 1455 * n
 whole_is len n e = grind (arith, nat_tests)
 
-length-certificate_text : (c : Certificate) → IsCertificate c → length (certificate_text c) ≤ 45116
+length-certificate_text : (c : Certificate) → IsCertificate c → length (certificate_text c) ≤ 45147
 length-certificate_text c is =
     let text = certificate_text c in
     let reads = reads_certificate text c is refl in
@@ -254,21 +264,21 @@ length-certificate_text c is =
     let long = whole_is (length text) (count_in text) reads.whole in
     omega arith
 
-length-own_vote_text : (block : Header) (o : Option (List ℕ)) → IfSome o IsSignature → length (own_vote_text block o) ≤ 1492
+length-own_vote_text : (block : Header) (o : Option KeyedSignature) → IfSome o IsKeyedSignature → length (own_vote_text block o) ≤ 1493
 length-own_vote_text block (Some s) signed =
-    let both = length-append (header_id block) s in
+    let both = length-append (header_id block) s.signature in
     let id = length-header_id block in
-    omega (arith, signed)
+    omega (arith, signed.signature)
 length-own_vote_text block None signed = omega arith
 
-pub length-entry_text : (e : Entry) → IsEntry e → (0 < length (entry_text e)) × (length (entry_text e) ≤ 46777)
+pub length-entry_text : (e : Entry) → IsEntry e → (0 < length (entry_text e)) × (length (entry_text e) ≤ 46809)
 unfolding entry_text
 length-entry_text e is =
-    let own = own_vote_text e.block e.signature in
+    let own = own_vote_text e.block e.own in
     let certificate = certificate_text e.certificate in
     let a = length-header_text e.block is.block in
     let b = length-header_text e.parent is.parent in
-    let c = length-own_vote_text e.block e.signature is.signature in
+    let c = length-own_vote_text e.block e.own is.own in
     let d = length-certificate_text e.certificate is.certificate in
     let p = length-append own certificate in
     let q = length-append (header_text e.parent) (own ++ certificate) in
@@ -278,14 +288,14 @@ length-entry_text e is =
 -- ---- what is written
 
 -- the pieces of an entry, one after the other
-pub written : (e : Entry) (a b c d f g : List ℕ) → a ≡ [] → b ≡ a ++ entry_kind e.signature ∷ [] → c ≡ b ++ header_text e.block
-    → d ≡ c ++ header_text e.parent → f ≡ d ++ own_vote_text e.block e.signature → g ≡ f ++ certificate_text e.certificate → g ≡ entry_text e
+pub written : (e : Entry) (a b c d f g : List ℕ) → a ≡ [] → b ≡ a ++ entry_kind e.own ∷ [] → c ≡ b ++ header_text e.block
+    → d ≡ c ++ header_text e.parent → f ≡ d ++ own_vote_text e.block e.own → g ≡ f ++ certificate_text e.certificate → g ≡ entry_text e
 unfolding entry_text
 written e a b c d f g p q r s t u =
-    let kind = entry_kind e.signature ∷ [] in
+    let kind = entry_kind e.own ∷ [] in
     let block = header_text e.block in
     let parent = header_text e.parent in
-    let own = own_vote_text e.block e.signature in
+    let own = own_vote_text e.block e.own in
     let last = certificate_text e.certificate in
     u ∙ ap (λ (x : List ℕ). x ++ last) (t ∙ ap (λ (x : List ℕ). x ++ own) (s ∙ ap (λ (x : List ℕ). x ++ parent) (r ∙ ap (λ (x : List ℕ). x ++ block) (q ∙ ap (λ (x : List ℕ). x ++ kind) p))))
     ∙ append_assoc ((kind ++ block) ++ parent) own last

@@ -6,6 +6,7 @@ use Rattle.blocks.specs.Headers.{Header as BlockHeader, NamesParent, header_id}
 use Rattle.blocks.specs.HeaderReading.{header_at, header_in}
 use Rattle.certificates.specs.Certificates.{Certificate as ParentCertificate}
 use Rattle.certificates.specs.CertificateReading.{certificate_at, certificate_in, is_whole_certificate}
+use Rattle.log_format.specs.declared.entry.KeyedSignature.{KeyedSignature}
 use Rattle.log_format.specs.declared.entry.EntryRefusal.{EntryRefusal}
 use Rattle.log_format.specs.declared.entry.EntryRefusal.TheVariants.{Memory, Length, Kind, Header, Parent, OwnVote, Certificate}
 use Rattle.lms_tree.specs.declared.TheConstants.{SIGNATURE_LEN}
@@ -13,12 +14,12 @@ use Rattle.log_format.specs.EntryText.{Entry, IsOn}
 
 -- ---- the parts of an entry at their places
 
--- 1 with the replica's own vote, 2 without
+-- 3 with the replica's own vote, 4 without
 abbrev pub entry_kind_in : List ℕ → ℕ
 entry_kind_in bytes = slice_index bytes 0
 
 abbrev pub is_voted_in : List ℕ → Bool
-is_voted_in bytes = entry_kind_in bytes == 1
+is_voted_in bytes = entry_kind_in bytes == 3
 
 -- the block's header, and its parent's
 unfoldable pub block_in : List ℕ → BlockHeader
@@ -27,13 +28,13 @@ block_in bytes = header_at (piece 84 bytes 1)
 unfoldable pub parent_in : List ℕ → BlockHeader
 parent_in bytes = header_at (piece 84 bytes 85)
 
--- the signature in the own vote, if there is one
-unfoldable pub signature_in : Bool → List ℕ → Option (List ℕ)
-signature_in voted bytes = if voted then Some (piece SIGNATURE_LEN bytes 209) else None
+-- the number of the key of the own vote, and its signature, if there is one
+unfoldable pub own_in : Bool → List ℕ → Option KeyedSignature
+own_in voted bytes = if voted then Some (record { key = slice_index bytes 169; signature = piece SIGNATURE_LEN bytes 210 }) else None
 
 -- the certificate is the rest, behind the own vote or in its place
 abbrev pub certificate_place : Bool → ℕ
-certificate_place voted = if voted then 1661 else 169
+certificate_place voted = if voted then 1662 else 169
 
 abbrev pub rest_in : Bool → List ℕ → List ℕ
 rest_in voted bytes = drop (certificate_place voted) bytes
@@ -45,7 +46,7 @@ abbrev pub entry_in : List ℕ → Entry
 entry_in bytes = record {
   block = block_in bytes;
   parent = parent_in bytes;
-  signature = signature_in (is_voted_in bytes) bytes;
+  own = own_in (is_voted_in bytes) bytes;
   certificate = certificate_in_rest (rest_in (is_voted_in bytes) bytes);
 }
 
@@ -53,8 +54,8 @@ entry_in bytes = record {
 
 -- the own vote is on this block, by view and id
 pub record IsOwnVoteOn (b : BlockHeader) (bytes : List ℕ) : Type 0 where
-  pub view : number_at 8 bytes 169 ≡ b.view
-  pub id : piece 32 bytes 177 ≡ header_id b
+  pub view : number_at 8 bytes 170 ≡ b.view
+  pub id : piece 32 bytes 178 ≡ header_id b
 
 abbrev pub AreReadable : List ℕ → List ℕ → Type 0
 AreReadable block parent = IsOk (header_in block) × IsOk (header_in parent)
@@ -66,7 +67,7 @@ IsReadableOn parent rest = IsOk (certificate_in rest) × IsOn parent (certificat
 abbrev pub PassesEntry : List ℕ → EntryRefusal → Type 0
 PassesEntry bytes Memory = ⊤
 PassesEntry bytes Length = is_whole_certificate (rest_in (is_voted_in bytes) bytes) ≡ true
-PassesEntry bytes Kind = 0 < length bytes → (entry_kind_in bytes ≡ 1) ⊎ (entry_kind_in bytes ≡ 2)
+PassesEntry bytes Kind = 0 < length bytes → (entry_kind_in bytes ≡ 3) ⊎ (entry_kind_in bytes ≡ 4)
 PassesEntry bytes Header = AreReadable (piece 84 bytes 1) (piece 84 bytes 85)
 PassesEntry bytes Parent = NamesParent (block_in bytes) (parent_in bytes)
 PassesEntry bytes OwnVote = is_voted_in bytes ≡ true → IsOwnVoteOn (block_in bytes) bytes

@@ -6,8 +6,8 @@ ghost use Rattle.wire.specs.Pieces.{piece};
 ghost use Rattle.blocks.specs.Headers.{Header as HeaderValue, IsHeader, NamesParent, header_id};
 ghost use Rattle.certificates.specs.Assembling.{IsVoteFor};
 ghost use Rattle.certificates.specs.CertificateReading.{is_whole_certificate};
-ghost use Rattle.log_format.specs.EntryReading.{AreReadable, IsEntryRefusal, IsOwnVoteOn, IsReadableEntry, IsReadableOn, IsCertificateRefusal, block_in, certificate_in_rest, certificate_place, entry_in, entry_refusal_number, is_voted_in, entry_kind_in, parent_in, signature_in};
-ghost use Rattle.log_format.specs.EntryText.{Entry as EntryValue, EntriesHaveOneSpelling, IsEntry, IsEntryOf, IsOn, entry_text, entry_kind, is_signed, own_vote_text, signature_of, stored_in, own_vote_of};
+ghost use Rattle.log_format.specs.EntryReading.{AreReadable, IsEntryRefusal, IsOwnVoteOn, IsReadableEntry, IsReadableOn, IsCertificateRefusal, block_in, certificate_in_rest, certificate_place, entry_in, entry_refusal_number, is_voted_in, entry_kind_in, own_in, parent_in};
+ghost use Rattle.log_format.specs.EntryText.{Entry as EntryValue, EntriesHaveOneSpelling, IsEntry, IsEntryOf, IsOn, entry_text, entry_kind, is_signed, own_of, own_vote_text, stored_in, own_vote_of};
 
 use blocks::{Header, Id};
 use certificates::{
@@ -20,10 +20,10 @@ use std::marker::Model;
 use wire::{append, array_at, u64_at};
 
 /// The first byte of an entry with the replica's own vote.
-const VOTED: u8 = 1;
+const VOTED: u8 = 3;
 
 /// The first byte of an entry without one.
-const RAISED: u8 = 2;
+const RAISED: u8 = 4;
 
 /// Where the parent's header begins, in bytes.
 const PARENT_AT: usize = 85;
@@ -32,17 +32,24 @@ const PARENT_AT: usize = 85;
 const VOTE_AT: usize = 169;
 
 /// Where the certificate begins behind an own vote.
-const BEHIND_VOTE: usize = 1661;
+const BEHIND_VOTE: usize = 1662;
+
+/// The signature of a replica's own vote, and the number of the key that signed it.
+#[derive(Clone, Copy)]
+struct KeyedSignature {
+    key: u8,
+    signature: Signature,
+}
 
 /// What a replica stores of a block that it voted for, or that raised its lock without a vote: the block's
-/// header, its parent's, the signature of the own vote if it voted, and the parent's certificate. The
-/// block names this parent by id and view, and the certificate is on the parent. Made by `Entry::read`
-/// and `Entry::of` alone. No signature is checked.
+/// header, its parent's, the signature of the own vote and the number of its key if it voted, and the parent's
+/// certificate. The block names this parent by id and view, and the certificate is on the parent. Made by
+/// `Entry::read` and `Entry::of` alone. No signature is checked, and no number of a key is looked at.
 #[derive(Drop)]
 pub struct Entry {
     block: Header,
     parent: Header,
-    signature: Option<Signature>,
+    own: Option<KeyedSignature>,
     certificate: Certificate,
 }
 
@@ -51,9 +58,9 @@ impl Model for Entry {
 
     ghost Value = { EntryValue };
 
-    ghost view = { λ e. record { block = e.block; parent = e.parent; signature = e.signature; certificate = e.certificate } };
+    ghost view = { λ e. record { block = e.block; parent = e.parent; own = e.own; certificate = e.certificate } };
 
-    ghost invariant = { λ e. IsEntry (record { block = e.block; parent = e.parent; signature = e.signature; certificate = e.certificate }) };
+    ghost invariant = { λ e. IsEntry (record { block = e.block; parent = e.parent; own = e.own; certificate = e.certificate }) };
 }
 
 /// Why bytes are no entry.
@@ -63,7 +70,7 @@ pub enum EntryRefusal {
     Memory = 1,
     /// There are no bytes, or not as many as the kind and the certificate's number of votes ask for.
     Length = 2,
-    /// The first byte is neither 1 nor 2.
+    /// The first byte is neither 3 nor 4.
     Kind = 3,
     /// One of the two headers can not be read.
     Header = 4,
@@ -87,7 +94,7 @@ impl EntryRefusal {
 // Whether the own vote stands in the entry, as its first byte says.
 fn is_voted(bytes: &[u8]) -> Result<bool, EntryRefusal>
     ensures ok { IfOk result (λ voted. is_voted_in bytes.now ≡ voted) }
-    ensures kind { OnOk result ((entry_kind_in bytes.now ≡ 1) ⊎ (entry_kind_in bytes.now ≡ 2)) }
+    ensures kind { OnOk result ((entry_kind_in bytes.now ≡ 3) ⊎ (entry_kind_in bytes.now ≡ 4)) }
     ensures first_refusal { IfErr result (IsEntryRefusal bytes.now) }
 {
     match bytes.first() {
@@ -140,21 +147,24 @@ fn names_parent(block: &Header, parent: &Header) -> bool
 
 // Whether the own vote is on this block.
 fn is_own_vote_on(block: &Header, bytes: &[u8]) -> bool
-    requires { 1661 ≤ length bytes.now }
+    requires { 1662 ≤ length bytes.now }
     ensures { IsTrue result ↔ IsOwnVoteOn block.now bytes.now }
 {
-    let id: Id = array_at(bytes, VOTE_AT + 8);
-    u64_at(bytes, VOTE_AT) == block.view && id == block.id()
+    let id: Id = array_at(bytes, VOTE_AT + 9);
+    u64_at(bytes, VOTE_AT + 1) == block.view && id == block.id()
 }
 
-// The signature in the own vote, if there is one.
-#[tactic(auto, unfolding(crate::specs::EntryReading::signature_in))]
-fn signature_in(voted: bool, bytes: &[u8]) -> Option<Signature>
+// The signature in the own vote and the number of its key, if there is one.
+#[tactic(auto, unfolding(crate::specs::EntryReading::own_in))]
+fn own_in(voted: bool, bytes: &[u8]) -> Option<KeyedSignature>
     requires { certificate_place voted ≤ length bytes.now }
-    ensures { result ≡ signature_in voted bytes.now }
+    ensures { result ≡ own_in voted bytes.now }
 {
     if voted {
-        Some(array_at(bytes, VOTE_AT + 40))
+        Some(KeyedSignature {
+            key: bytes[VOTE_AT],
+            signature: array_at(bytes, VOTE_AT + 41),
+        })
     } else {
         None
     }
@@ -191,56 +201,56 @@ fn certificate_in(
     Ok(certificate)
 }
 
-// The signature of a vote, if there is one.
-fn signature_of(vote: Option<SignedVote>) -> Option<Signature>
-    ensures { result ≡ signature_of vote }
+// The signature of a vote and the number of its key, if there is one.
+fn own_of(vote: Option<SignedVote>) -> Option<KeyedSignature>
+    ensures { result ≡ own_of vote }
 {
-    match vote {
-        Some(vote) => Some(vote.signature),
-        None => None,
-    }
+    let SignedVote { key, signature, .. } = vote?;
+    Some(KeyedSignature { key, signature })
 }
 
 // The first byte of an entry with this signature or without one.
-fn entry_kind(signature: &Option<Signature>) -> u8
-    ensures { result ≡ entry_kind signature.now }
+fn entry_kind(own: &Option<KeyedSignature>) -> u8
+    ensures { result ≡ entry_kind own.now }
 {
-    match signature {
+    match own {
         Some(_) => VOTED,
         None => RAISED,
     }
 }
 
 // Whether there is a signature.
-fn is_signed(signature: &Option<Signature>) -> bool
-    ensures { result ≡ is_signed signature.now }
+fn is_signed(own: &Option<KeyedSignature>) -> bool
+    ensures { result ≡ is_signed own.now }
 {
-    signature.is_some()
+    own.is_some()
 }
 
 // Adds the own vote, if there is one.
 fn put_own_vote(
     text: &mut Vec<u8>,
     block: &Header,
-    signature: &Option<Signature>,
+    own: &Option<KeyedSignature>,
 ) -> Result<(), AllocError>
-    ensures { OnOk result (text.new.items ≡ text.old.items ++ own_vote_text block.now signature.now) }
+    ensures { OnOk result (text.new.items ≡ text.old.items ++ own_vote_text block.now own.now) }
 {
-    if let Some(signature) = signature {
+    if let Some(own) = own {
+        append(text, &[own.key])?;
         append(text, &block.view.to_be_bytes())?;
         append(text, &block.id())?;
-        append(text, signature)?;
+        append(text, &own.signature)?;
     }
     Ok(())
 }
 
 impl Entry {
-    /// The entry that the bytes spell: the kind (1 byte at 0, 1 with the replica's own vote and 2 without),
-    /// the block's header (84 at 1), its parent's (84 at 85), with kind 1 the own vote (1,492 at 169: the
-    /// view, 8, the id, 32, and the signature, 1,452), and the parent's certificate, 42 and 1,454 for each
-    /// of its votes. Refused in this order: Memory, where memory was refused, Kind, Length, Header, Parent,
-    /// OwnVote, Certificate; no bytes are refused as Length. Memory is asked for once all but the
-    /// certificate is good.
+    /// The entry that the bytes spell: the kind (1 byte at 0, 3 with the replica's own vote and 4 without),
+    /// the block's header (84 at 1), its parent's (84 at 85), with kind 3 the own vote (1,493 at 169: the
+    /// number of the key, 1, the view, 8 at 170, the id, 32 at 178, and the signature, 1,452 at 210), and the
+    /// parent's certificate (at 1,662, with kind 4 at 169), 42 and 1,455 for each of its votes. Any number
+    /// of a key is read. Refused in this order: Memory, where memory was refused, Kind, Length, Header,
+    /// Parent, OwnVote, Certificate; no bytes are refused as Length, and the kinds 1 and 2, of logs from
+    /// before there were numbers of keys, as Kind. Memory is asked for once all but the certificate is good.
     pub fn read(alloc: Global, bytes: &[u8]) -> Result<Entry, EntryRefusal>
         // What is read is spelled so.
         ensures found { IfOk result (IsEntryOf bytes.now) }
@@ -276,43 +286,43 @@ impl Entry {
         Ok(Entry {
             block,
             parent,
-            signature: signature_in(voted, bytes),
+            own: own_in(voted, bytes),
             certificate,
         })
     }
 
-    /// The bytes of the entry: 169, 1,492 for an own vote, 42 for the certificate, and 1,454 for each of its
-    /// votes. There are at most 46,777.
+    /// The bytes of the entry: 169, 1,493 for an own vote, 42 for the certificate, and 1,455 for each of its
+    /// votes. There are at most 46,809.
     pub fn write(&self, alloc: Global) -> Result<Vec<u8>, AllocError>
         ensures text { IfOk result (λ text. text.items ≡ entry_text self.now) }
 
         // So what is written is read, with the same parts.
         ensures spells { IfOk result (λ text. IsEntryOf text.items self.now) }
-        ensures size { IfOk result (λ text. (0 < length text.items) × (length text.items ≤ 46777)) }
+        ensures size { IfOk result (λ text. (0 < length text.items) × (length text.items ≤ 46809)) }
     {
         let certificate = self.certificate.write(alloc)?;
         let mut text = Vec::new(alloc);
-        append(&mut text, &[entry_kind(&self.signature)])?;
+        append(&mut text, &[entry_kind(&self.own)])?;
         append(&mut text, &self.block.to_bytes())?;
         append(&mut text, &self.parent.to_bytes())?;
-        put_own_vote(&mut text, &self.block, &self.signature)?;
+        put_own_vote(&mut text, &self.block, &self.own)?;
         append(&mut text, &certificate)?;
         Ok(text)
     }
 
     /// The entry of a block whose certificate is good, its parent, and the own vote for it, if there is one.
     /// The block has to name this parent by id and view, and the vote to be on the block's view and id. The
-    /// number of the replica is not kept. It takes no memory.
+    /// number of the replica is not kept, that of the key is. It takes no memory.
     pub fn of(block: CheckedBlock, parent: Header, vote: Option<SignedVote>) -> Entry
         requires names { NamesParent block.header parent }
         requires on_block { ForSome vote (IsVoteFor block.header.view (header_id block.header)) }
-        ensures { result ≡ record { block = block.entry.header; parent = parent; signature = signature_of vote; certificate = block.entry.certificate } }
+        ensures { result ≡ record { block = block.entry.header; parent = parent; own = own_of vote; certificate = block.entry.certificate } }
     {
         let (header, certificate) = block.into_parts();
         Entry {
             block: header,
             parent,
-            signature: signature_of(vote),
+            own: own_of(vote),
             certificate,
         }
     }
@@ -346,21 +356,23 @@ impl Entry {
         ensures { result ≡ stored_in self.now }
     {
         Stored {
-            voted: is_signed(&self.signature),
+            voted: is_signed(&self.own),
             block: self.block,
             parent: self.parent,
         }
     }
 
-    /// The replica's vote for the block, if it voted. An entry does not say whose log it stands in.
+    /// The replica's vote for the block, with the number of its key, if it voted. An entry does not say whose
+    /// log it stands in.
     pub fn vote(&self, replica: u16) -> Option<SignedVote>
         ensures { result ≡ own_vote_of self.now replica }
     {
-        let signature = self.signature?;
+        let KeyedSignature { key, signature } = self.own?;
         Some(SignedVote {
             replica,
             view: self.block.view,
             id: self.block.id(),
+            key,
             signature,
         })
     }

@@ -53,8 +53,8 @@ fn entries_are_read_and_written_again(rt: HostRuntime) {
 
 // The signature of the own vote in the entry of A2.
 fn signature_in<R: Abort>(rt: &R, bytes: &[u8]) -> [u8; 1452] {
-    assert!(rt; bytes.len() == 6_065);
-    array_at(bytes, 209)
+    assert!(rt; bytes.len() == 6_069);
+    array_at(bytes, 210)
 }
 
 // Whether the vote of replica 9 in an entry is on the block, of view 2, with this signature.
@@ -64,6 +64,7 @@ fn has_vote_of_9(entry: &Entry, signature: &[u8; 1452]) -> bool {
             vote.replica == 9
                 && vote.view == 2
                 && vote.id == entry.block().id()
+                && vote.key == 0
                 && vote.signature == *signature
         }
         None => false,
@@ -88,6 +89,19 @@ fn parts_of_an_entry_with_a_vote(rt: HostRuntime) {
     assert!(rt; has_vote_of_9(&entry, &signature));
 }
 
+// The number of the key in the vote of an entry, where it has one.
+fn key_in(entry: &Entry) -> Option<u8> {
+    entry.vote(0).map(|vote| vote.key)
+}
+
+#[test]
+fn the_key_of_a_vote_is_kept(rt: HostRuntime) {
+    for key in [0, 3, 255] {
+        let other = changed(&rt, texts::a2_voted(), 169, key);
+        assert!(rt; key_in(&read(&rt, &other)) == Some(key), "{key}");
+    }
+}
+
 #[test]
 fn parts_of_an_entry_without_a_vote(rt: HostRuntime) {
     let entry = read(&rt, texts::x6_raised());
@@ -96,10 +110,12 @@ fn parts_of_an_entry_without_a_vote(rt: HostRuntime) {
 }
 
 // A place in the entry of A2, another byte for it, and the refusal that this gives.
-const CHANGES: [(usize, u8, EntryRefusal); 19] = [
-    (0, 3, EntryRefusal::Kind),
+const CHANGES: [(usize, u8, EntryRefusal); 21] = [
     (0, 0, EntryRefusal::Kind),
-    (0, 2, EntryRefusal::Length),
+    (0, 1, EntryRefusal::Kind),
+    (0, 2, EntryRefusal::Kind),
+    (0, 4, EntryRefusal::Length),
+    (0, 5, EntryRefusal::Kind),
     (1, 0, EntryRefusal::Header),
     (12, 3, EntryRefusal::OwnVote),
     (20, 0, EntryRefusal::Parent),
@@ -110,12 +126,12 @@ const CHANGES: [(usize, u8, EntryRefusal); 19] = [
     (96, 5, EntryRefusal::Parent),
     (104, 1, EntryRefusal::Header),
     (168, 1, EntryRefusal::Parent),
-    (176, 3, EntryRefusal::OwnVote),
-    (177, 0, EntryRefusal::OwnVote),
-    (1668, 2, EntryRefusal::Certificate),
-    (1669, 0, EntryRefusal::Certificate),
-    (1702, 2, EntryRefusal::Length),
-    (1704, 1, EntryRefusal::Certificate),
+    (177, 3, EntryRefusal::OwnVote),
+    (178, 0, EntryRefusal::OwnVote),
+    (1669, 2, EntryRefusal::Certificate),
+    (1670, 0, EntryRefusal::Certificate),
+    (1703, 2, EntryRefusal::Length),
+    (1705, 1, EntryRefusal::Certificate),
 ];
 
 #[test]
@@ -126,21 +142,22 @@ fn each_field_of_an_entry_counts(rt: HostRuntime) {
     }
 }
 
-// The own signature, and one of the certificate.
+// The own key and signature, and those of the certificate.
 #[test]
-fn no_signature_is_checked(rt: HostRuntime) {
-    for at in &[209, 1660, 1705, 6064] {
+fn no_key_or_signature_is_checked(rt: HostRuntime) {
+    for at in &[169, 210, 1661, 1706, 1707, 6068] {
         let other = changed(&rt, texts::a2_voted(), *at, 0x5a);
         assert!(rt; is_written_again(rt.alloc(), &other), "at {at}");
     }
 }
 
 // Bytes too few for an entry, and how they are refused.
-const SHORT: [(&[u8], EntryRefusal); 5] = [
+const SHORT: [(&[u8], EntryRefusal); 6] = [
     (&[], EntryRefusal::Length),
-    (&[3], EntryRefusal::Kind),
-    (&[1], EntryRefusal::Length),
-    (&[2; 169], EntryRefusal::Length),
+    (&[1], EntryRefusal::Kind),
+    (&[3], EntryRefusal::Length),
+    (&[4; 169], EntryRefusal::Length),
+    (&[2; 169], EntryRefusal::Kind),
     (&[0; 169], EntryRefusal::Kind),
 ];
 
@@ -156,7 +173,7 @@ fn bytes_of_no_entry(rt: HostRuntime) {
 
 #[test]
 fn entries_with_a_byte_less_or_more(rt: HostRuntime) {
-    let shorter = texts::a1_voted().get(..1702).expect(&rt, "1,702 bytes");
+    let shorter = texts::a1_voted().get(..1703).expect(&rt, "1,703 bytes");
     assert!(rt; refusal_of(rt.alloc(), shorter) == Some(EntryRefusal::Length));
     let mut longer = texts::a1_voted().to_vec(rt.alloc()).expect(&rt, "memory");
     longer.push(0).expect(&rt, "memory");
@@ -168,7 +185,7 @@ fn entries_that_lie_of_the_parent(rt: HostRuntime) {
     let refused = refusal_of(rt.alloc(), texts::c5_of_wrong_parent_view());
     assert!(rt; refused == Some(EntryRefusal::Parent));
     // A certificate without votes above view 0, though on no parent either.
-    let other = changed(&rt, texts::a1_voted(), 1668, 1);
+    let other = changed(&rt, texts::a1_voted(), 1669, 1);
     assert!(rt; refusal_of(rt.alloc(), &other) == Some(EntryRefusal::Certificate));
 }
 
@@ -199,6 +216,7 @@ pub(crate) fn entry_of<R: Abort>(
         replica: 0,
         view: header.view,
         id: header.id(),
+        key: 0,
         signature,
     };
     Entry::of(block, parent, Some(vote))

@@ -9,3 +9,7 @@ mod export_tests;
 mod limit_tests;
 #[cfg(test)]
 mod log_tests;
+#[cfg(test)]
+mod migration_tests;
+#[cfg(test)]
+mod old_logs;

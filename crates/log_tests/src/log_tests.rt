@@ -10,14 +10,14 @@ use std::alloc::{AllocError, Global};
 use std::process::Abort;
 use vote_log::{LogError, VoteLog};
 
-// A disk of these bytes.
-fn disk_of<R: Abort + AllocGlobal>(rt: &R, bytes: &[u8]) -> MemoryDisk {
+/// A disk of these bytes.
+pub(crate) fn disk_of<R: Abort + AllocGlobal>(rt: &R, bytes: &[u8]) -> MemoryDisk {
     let bytes = bytes.to_vec(rt.alloc()).expect(rt, "memory");
     MemoryDisk::new(rt.alloc(), bytes).expect(rt, "memory")
 }
 
-// The genesis of the committee.
-fn genesis<R: Abort>(rt: &R) -> Header
+/// The genesis of the committee.
+pub(crate) fn genesis<R: Abort>(rt: &R) -> Header
     ensures { IsGenesis result }
 {
     let committee = CommitteeView::parse(verdicts::committee());
@@ -105,14 +105,14 @@ fn entry_refusal<D: Disk>(log: &mut VoteLog<D>, k: usize) -> Option<LogError> {
     }
 }
 
-// An open gate, and the length of an entry of 1,703 bytes, as A1's.
-const SHORT: &[u8] = b"\x01\0\0\x06\xa7";
+/// An open gate, and the length of an entry of 1,704 bytes, as A1's.
+pub(crate) const SHORT: &[u8] = b"\x01\0\0\x06\xa8";
 
-// The same for the 6,065 bytes of A2's.
-const LONG: &[u8] = b"\x01\0\0\x17\xb1";
+/// The same for the 6,069 bytes of A2's.
+pub(crate) const LONG: &[u8] = b"\x01\0\0\x17\xb5";
 
-// The journal file of these pieces.
-fn file_of(alloc: Global, pieces: &[&[u8]]) -> Result<Vec<u8>, AllocError> {
+/// The journal file of these pieces.
+pub(crate) fn file_of(alloc: Global, pieces: &[&[u8]]) -> Result<Vec<u8>, AllocError> {
     let mut file = b"HSJ1\0\0\0\0".to_vec(alloc)?;
     for piece in pieces {
         file.extend_from_slice(piece)?;

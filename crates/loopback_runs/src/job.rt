@@ -1,5 +1,6 @@
-//! A run of the tool.
+//! Runs of the tool, and of the checker.
 
+use check_command::run_program;
 use std::alloc::Global;
 use std::fs::{File, Files};
 use std::net::{Net, TcpListener, TcpStream};
@@ -17,20 +18,33 @@ const MOST_KNOCKS: u32 = 600;
 const KNOCK_MILLISECONDS: u64 = 100;
 
 /// How many hex digits a vote has.
-const VOTE_DIGITS: usize = 2_988;
+const VOTE_DIGITS: usize = 2_990;
+
+/// A replica that hands out its log.
+#[derive(Clone, Copy)]
+pub(crate) struct Served<'a> {
+    pub number: u16,
+    pub address: &'a str,
+}
 
 /// A run of the tool.
 #[derive(Clone, Copy)]
 pub(crate) enum Job<'a> {
-    /// A replica over the lines of a file, which then hands out its log twice.
+    /// A replica on the folder of its number over the lines of a file, which then hands out its log twice.
     Replica {
         number: u16,
+        prefix: &'a str,
         lines: &'a str,
         address: &'a str,
     },
-    /// An audit of all replicas, once each was knocked at: a connection that asks for nothing.
+    /// An audit of these replicas, once each was knocked at: a connection that asks for nothing.
     Audit {
-        addresses: &'a [String],
+        served: &'a [Served<'a>],
+        out_dir: &'a str,
+    },
+    /// The log from before votes named their keys, to the folder of its replica.
+    Migration {
+        number: u16,
     },
 }
 
@@ -63,18 +77,25 @@ impl Job<'_> {
         let (words, input) = match self {
             Job::Replica {
                 number,
+                prefix,
                 lines,
                 address,
             } => (
                 format!(in alloc;
-                    "replica committee.hsc {number} replica_{number} --serve {address} --requests 2"
+                    "replica committee.hsc {number} {prefix}_{number} --serve {address} --requests 2"
                 )?,
                 fs::read(rt, lines)?,
             ),
-            Job::Audit { addresses } => {
-                fs::create_dir(rt, "verdicts")?;
-                (audit_words(rt, alloc, addresses)?, Vec::new(alloc))
+            Job::Audit { served, out_dir } => {
+                fs::create_dir(rt, out_dir)?;
+                (audit_words(rt, alloc, served, out_dir)?, Vec::new(alloc))
             }
+            Job::Migration { number } => (
+                format!(in alloc;
+                    "migrate old_{number}.hsj migrated_{number}/log.hsj committee.hsc"
+                )?,
+                Vec::new(alloc),
+            ),
         };
         let words = strings(alloc, &words)?;
         let host = Host {
@@ -97,15 +118,31 @@ impl Job<'_> {
     }
 }
 
+/// What the checker says of the verdict in a file.
+pub(crate) fn check<R: Files<File = File> + AllocGlobal>(
+    rt: &R,
+    verdict: &str,
+) -> io::Result<Transcript> {
+    let alloc = rt.alloc();
+    let words = strings(alloc, &format!(in alloc; "committee.hsc {verdict}")?)?;
+    let mut out = MemorySink::new(alloc);
+    let mut faults = MemorySink::new(alloc);
+    let input: &[u8] = b"";
+    let status = run_program(rt, alloc, &words, input, &mut out, &mut faults);
+    let text = told(alloc, out.bytes(), faults.bytes(), status)?;
+    Ok(Transcript { text })
+}
+
 fn audit_words<R: Net<Stream = TcpStream> + Clock>(
     rt: &R,
     alloc: Global,
-    addresses: &[String],
+    served: &[Served<'_>],
+    out_dir: &str,
 ) -> io::Result<String> {
-    let mut words = "audit committee.hsc verdicts".to_string(alloc)?;
-    for (number, address) in addresses.iter().enumerate() {
-        knock(rt, address)?;
-        words.push_str(&format!(in alloc; " {number}=tcp:{address}")?)?;
+    let mut words = format!(in alloc; "audit committee.hsc {out_dir}")?;
+    for replica in served {
+        knock(rt, replica.address)?;
+        words.push_str(&format!(in alloc; " {}=tcp:{}", replica.number, replica.address)?)?;
     }
     Ok(words)
 }

@@ -1,16 +1,22 @@
-//! Four replicas that hand out their logs over the loopback, and an audit of them, all at the same time. Prints what each
-//! said. Replicas 0, 1 and 2 vote for one chain and replica 3 for the other, each by the rule: the two that broke it in
-//! between are found by the votes that the second chain's certificates have of them. At last replica 3 is started again
-//! with an address that is none.
+//! Replicas that hand out their logs over the loopback, and audits of them, all at the same time. Prints what each said.
+//! First four replicas: 0, 1 and 2 vote for one chain and replica 3 for the other, each by the rule; the two that broke it
+//! in between are found by the votes that the second chain's certificates have of them. Then the logs of 0 and 3 as they
+//! were before votes named their keys, migrated and handed out. At last replica 3 is started with an address that is none.
 #![tactic(auto)]
 
 mod folder;
 mod job;
+mod migrated;
 
 use folder::make_folder;
-use job::{Job, Transcript};
+use job::{Job, Served, Transcript};
+use migrated::run_migrated;
 use std::alloc::Global;
+use std::fs::{File, Files};
 use std::net::{Net, TcpListener, TcpStream};
+use std::sync::Wait;
+use std::thread::Threads;
+use std::time::Clock;
 use std::{io, thread};
 
 /// The replicas, and the lines that each is run over.
@@ -21,14 +27,15 @@ const REPLICAS: [(u16, &str); 4] = [
     (3, "chain_b.stdin"),
 ];
 
-// Addresses at which no one listens, as far as can be known.
+// So many addresses at which no one listens, as far as can be known.
 fn free_addresses<R: Net<Listener = TcpListener, Stream = TcpStream>>(
     rt: &R,
     alloc: Global,
+    count: usize,
 ) -> io::Result<Vec<String>> {
-    let mut listeners = Vec::with_capacity(alloc, REPLICAS.len())?;
-    let mut addresses = Vec::with_capacity(alloc, REPLICAS.len())?;
-    for _ in REPLICAS {
+    let mut listeners = Vec::new(alloc);
+    let mut addresses = Vec::new(alloc);
+    for _ in 0..count {
         let listener = TcpListener::bind(rt, "127.0.0.1:0")?;
         let address = listener.local_addr()?;
         addresses.push(format!(in alloc; "{address}")?)?;
@@ -37,17 +44,42 @@ fn free_addresses<R: Net<Listener = TcpListener, Stream = TcpStream>>(
     Ok(addresses)
 }
 
-fn jobs<'a>(alloc: Global, addresses: &'a [String]) -> io::Result<Vec<Job<'a>>> {
-    let mut jobs = Vec::with_capacity(alloc, REPLICAS.len() + 1)?;
-    for ((number, lines), address) in REPLICAS.iter().zip(addresses) {
+/// Runs replicas with these folders over these lines, and an audit that writes its verdicts to `out_dir`, all at the same
+/// time, and prints what each said.
+fn run_all<
+    R: Files<File = File>
+        + Threads
+        + Wait
+        + Clock
+        + Net<Listener = TcpListener, Stream = TcpStream>
+        + Sync
+        + AllocGlobal
+        + Print,
+>(rt: &R, prefix: &str, replicas: &[(u16, &str)], out_dir: &str) -> io::Result<()>
+where
+    R::Dir: Send,
+{
+    let alloc = rt.alloc();
+    let addresses = free_addresses(rt, alloc, replicas.len())?;
+    let mut served = Vec::new(alloc);
+    let mut jobs = Vec::new(alloc);
+    for ((number, lines), address) in replicas.iter().zip(&addresses) {
+        served.push(Served {
+            number: *number,
+            address,
+        })?;
         jobs.push(Job::Replica {
             number: *number,
+            prefix,
             lines,
             address,
         })?;
     }
-    jobs.push(Job::Audit { addresses })?;
-    Ok(jobs)
+    jobs.push(Job::Audit {
+        served: &served,
+        out_dir,
+    })?;
+    print_all(rt, thread::map_vec(rt, jobs, &|job: Job| job.run(rt))?)
 }
 
 fn print_all<R: Print>(rt: &R, transcripts: Vec<io::Result<Transcript>>) -> io::Result<()> {
@@ -58,16 +90,14 @@ fn print_all<R: Print>(rt: &R, transcripts: Vec<io::Result<Transcript>>) -> io::
 }
 
 fn main(rt: HostRuntime) -> io::Result<()> {
-    let alloc = rt.alloc();
     for (number, _) in REPLICAS {
         make_folder(&rt, number)?;
     }
-    let addresses = free_addresses(&rt, alloc)?;
-    let jobs = jobs(alloc, &addresses)?;
-    let transcripts = thread::map_vec(&rt, jobs, &|job: Job| job.run(&rt))?;
-    print_all(&rt, transcripts)?;
+    run_all(&rt, "replica", &REPLICAS, "verdicts")?;
+    run_migrated(&rt)?;
     let last = Job::Replica {
         number: 3,
+        prefix: "replica",
         lines: "no_lines.stdin",
         address: "nowhere",
     };

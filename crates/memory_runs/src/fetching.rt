@@ -8,12 +8,12 @@ use log_transfer::{Fetched, MemoryConnector, Payload, fetch};
 use std::alloc::{AllocError, Global};
 use streams::Sink;
 
-// The bytes of the magic, of a frame's length, and of a frame: its length and a payload of 1,703 bytes.
+// The bytes of the magic, of a frame's length, and of a frame: its length and a payload of 1,704 bytes.
 const MAGIC: usize = 4;
 
 const LENGTH: usize = 4;
 
-const FRAME: usize = 1_707;
+const FRAME: usize = 1_708;
 
 // Where the first connection ends, in the fifth frame.
 const CUT: usize = 7_536;

@@ -97,10 +97,11 @@ pub(crate) fn new_parts<R: Threads + Sync + AllocGlobal>(rt: &R) -> Option<Parts
     };
     let tree = generate_parallel(rt, alloc, secret).ok()?;
     let disk = MemoryDisk::new(alloc, Vec::new(alloc)).ok()?;
-    let index = IndexStore::create(alloc, disk).ok()?;
+    let index = IndexStore::create(alloc, disk, 1).ok()?;
     let disk = MemoryDisk::new(alloc, Vec::new(alloc)).ok()?;
     let log = VoteLog::create(alloc, disk, committee()?.genesis()).ok()?;
-    Some(Parts { tree, index, log })
+    let trees = vec![in alloc; tree].ok()?;
+    Some(Parts { trees, index, log })
 }
 
 /// The log on this disk, which is tried twice; and what came of it.
@@ -124,7 +125,7 @@ pub(crate) fn recovered_log(
 
 // The same of the index store.
 fn recovered_index(alloc: Global, disk: MemoryDisk) -> Option<(IndexStore<MemoryDisk>, Outcome)> {
-    match IndexStore::recover(alloc, disk) {
+    match IndexStore::recover(alloc, disk, 1) {
         Ok(index) => Some((index, Outcome::Ample)),
         Err((refusal, disk)) => {
             let outcome = match refusal {
@@ -132,7 +133,7 @@ fn recovered_index(alloc: Global, disk: MemoryDisk) -> Option<(IndexStore<Memory
                 IndexError::Device => Outcome::Device,
                 _ => Outcome::Wrong,
             };
-            Some((IndexStore::recover(alloc, disk).ok()?, outcome))
+            Some((IndexStore::recover(alloc, disk, 1).ok()?, outcome))
         }
     }
 }
@@ -142,10 +143,10 @@ pub(crate) fn restarted(
     alloc: Global,
     parts: Parts<MemoryDisk>,
 ) -> Option<(Parts<MemoryDisk>, Outcome)> {
-    let Parts { tree, index, log } = parts;
+    let Parts { trees, index, log } = parts;
     let (index, first) = recovered_index(alloc, index.into_disk())?;
     let (log, second) = recovered_log(alloc, log.into_disk())?;
-    Some((Parts { tree, index, log }, first.and(second)))
+    Some((Parts { trees, index, log }, first.and(second)))
 }
 
 /// Whether the steps are the first of those that the run stores: votes for A1, A2 and A3, and the lock that X6 raises.

@@ -5,7 +5,7 @@ use Rattle.hex.specs.Hex.{encode_lower}
 use Rattle.faults.specs.Counting.{one_more}
 use Rattle.streams.specs.Streams.{Wrote, WrotePart}
 use Rattle.blocks.specs.declared.committee.CommitteeRefusal.{CommitteeRefusal}
-use Rattle.blocks.specs.declared.committee.CommitteeRefusal.TheVariants.{Length, Magic, Size, Key, SameKey, Weight}
+use Rattle.blocks.specs.declared.committee.CommitteeRefusal.TheVariants.{Length, Magic, Size, KeyCount, Key, SameKey, Weight}
 
 -- whether a byte is printed as it is: no control character, and no backslash
 abbrev pub is_plain : ℕ → Bool
@@ -26,11 +26,12 @@ printed text = flat_map printed_byte text
 abbrev pub file_line : List ℕ → List ℕ → List ℕ
 file_line path rest = codes "fault file " ++ (printed path ++ (rest ++ codes "\n"))
 
--- the number of a refusal, its name, and the replicas that it names
+-- the number of a refusal, its name, and the replicas or keys that it names
 abbrev pub refusal_text : CommitteeRefusal → List ℕ
 refusal_text Length = codes "1 Length"
 refusal_text Magic = codes "2 Magic"
 refusal_text Size = codes "3 Size"
+refusal_text (KeyCount r) = codes "7 KeyCount " ++ decimal r
 refusal_text (Key k) = codes "4 Key " ++ decimal k
 refusal_text (SameKey j k) = codes "5 SameKey " ++ decimal j ++ codes " " ++ decimal k
 refusal_text (Weight k) = codes "6 Weight " ++ decimal k

@@ -18,7 +18,7 @@ pub fn committee_fault(refusal: CommitteeRefusal) -> Line
     line
 }
 
-/// The number and the name of a refusal and the replicas that it names, as `4 Key 2`.
+/// The number and the name of a refusal and the replicas or keys that it names, as `4 Key 2`.
 pub fn refusal_text(refusal: CommitteeRefusal) -> Line
     ensures text { result ≡ refusal_text refusal }
     ensures room { length result ≤ 47 }
@@ -28,9 +28,13 @@ pub fn refusal_text(refusal: CommitteeRefusal) -> Line
         CommitteeRefusal::Length => line.push(b"1 Length"),
         CommitteeRefusal::Magic => line.push(b"2 Magic"),
         CommitteeRefusal::Size => line.push(b"3 Size"),
-        CommitteeRefusal::Key(replica) => {
-            line.push(b"4 Key ");
+        CommitteeRefusal::KeyCount(replica) => {
+            line.push(b"7 KeyCount ");
             line.push(Buffer::new().format(replica).as_bytes());
+        }
+        CommitteeRefusal::Key(key) => {
+            line.push(b"4 Key ");
+            line.push(Buffer::new().format(key).as_bytes());
         }
         CommitteeRefusal::SameKey(first, second) => {
             line.push(b"5 SameKey ");

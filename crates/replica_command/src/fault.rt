@@ -19,7 +19,7 @@ impl ReplicaFile {
     /// Its name in the folder.
     pub fn name(self) -> &'static str
         ensures name { result.now ≡ name_in_folder self }
-        ensures short { length result.now ≤ 9 }
+        ensures short { length result.now ≤ 10 }
     {
         match self {
             ReplicaFile::Lock => "lock",

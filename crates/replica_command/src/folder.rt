@@ -1,12 +1,13 @@
 //! What a replica's folder stores.
 
-ghost use Rattle.std.specs.Prelude.{◌≢◌, IfErr};
+ghost use Rattle.std.specs.Prelude.{◌≢◌, ◌≤◌, IfErr};
 ghost use Rattle.blocks.specs.Headers.{IsGenesis};
+ghost use Rattle.key_index_store.specs.declared.store.TheConstants.{MOST_KEYS};
 
 use crate::fault::{ReplicaFault, ReplicaFile};
-use blocks::Header;
+use blocks::{CommitteeView, Header};
 use file_input::{InputFault, read_at_most};
-use key_files::KeyFile;
+use key_files::{KeyFile, KeyNumber};
 use key_index_store::{IndexError, IndexStore};
 use lmots::PrivateSeed;
 use lms_tree::SigningTree;
@@ -45,29 +46,60 @@ impl<F: Files<File = File>> Folder<'_, F> {
         }
     }
 
-    /// Opens what the replica is run on: its seed first, then the index store and the log, each recovered as soon as
-    /// it is opened. The key is computed last, which takes a few seconds.
-    pub fn open_parts(&self, genesis: Header) -> Result<Parts<FileDisk>, ReplicaFault>
-        requires { IsGenesis genesis }
+    /// Opens what replica `replica` of the committee is run on: the seeds of its keys first, in the order of their numbers,
+    /// then the index store and the log, each recovered as soon as it is opened. The keys are computed last, which takes a
+    /// few seconds each. Where the committee has no such replica it is one key, and the desk refuses.
+    pub fn open_parts(
+        &self,
+        committee: &CommitteeView,
+        replica: u16,
+    ) -> Result<Parts<FileDisk>, ReplicaFault>
         ensures { IfErr result (λ fault. fault ≢ ReplicaFault.Output) }
     {
-        let seed = self.read_seed()?;
-        let index = self.recover_indices()?;
-        let log = self.recover_log(genesis)?;
+        let keys = if replica < committee.n() {
+            committee.keys(replica)
+        } else {
+            1
+        };
+        let seeds = self.read_seeds(keys)?;
+        let index = self.recover_indices(keys)?;
+        let log = self.recover_log(committee.genesis())?;
         Ok(Parts {
-            tree: SigningTree::generate(self.alloc, seed)?,
+            trees: self.grow(&seeds)?,
             index,
             log,
         })
     }
 
-    // The seed of the key. One byte more than it has is read, to see that the file ends there.
-    fn read_seed(&self) -> Result<PrivateSeed, ReplicaFault>
+    fn read_seeds(&self, keys: u8) -> Result<Vec<PrivateSeed>, ReplicaFault>
+        requires { keys ≤ MOST_KEYS }
+        ensures { IfErr result (λ fault. fault ≢ ReplicaFault.Output) }
+    {
+        let mut seeds = Vec::new(self.alloc);
+        for k in 0..keys {
+            seeds.push(self.read_seed(KeyNumber::of(k))?)?;
+        }
+        Ok(seeds)
+    }
+
+    // The keys of these seeds.
+    fn grow(&self, seeds: &[PrivateSeed]) -> Result<Vec<SigningTree>, ReplicaFault>
+        ensures { IfErr result (λ fault. fault ≢ ReplicaFault.Output) }
+    {
+        let mut trees = Vec::new(self.alloc);
+        for seed in seeds {
+            trees.push(SigningTree::generate(self.alloc, *seed)?)?;
+        }
+        Ok(trees)
+    }
+
+    // The seed of a key. One byte more than it has is read, to see that the file ends there.
+    fn read_seed(&self, number: KeyNumber) -> Result<PrivateSeed, ReplicaFault>
         ensures { IfErr result (λ fault. fault ≢ ReplicaFault.Output) }
     {
         let mut how = OpenOptions::new();
         how.read(true);
-        let file = ReplicaFile::Key(KeyFile::Seed);
+        let file = ReplicaFile::Key(KeyFile::Seed(number));
         let bytes = match read_at_most(self.alloc, self.open(&how, file)?, SEED_LEN as u64 + 1) {
             Ok(bytes) => bytes,
             Err(InputFault::Memory) => return Err(ReplicaFault::Memory),
@@ -82,10 +114,11 @@ impl<F: Files<File = File>> Folder<'_, F> {
         })
     }
 
-    fn recover_indices(&self) -> Result<IndexStore<FileDisk>, ReplicaFault>
+    fn recover_indices(&self, keys: u8) -> Result<IndexStore<FileDisk>, ReplicaFault>
+        requires { (1 ≤ keys) × (keys ≤ MOST_KEYS) }
         ensures { IfErr result (λ fault. fault ≢ ReplicaFault.Output) }
     {
-        match IndexStore::recover(self.alloc, self.open_disk(KeyFile::Indices)?) {
+        match IndexStore::recover(self.alloc, self.open_disk(KeyFile::Indices)?, keys) {
             Ok(store) => Ok(store),
             Err((IndexError::Memory, _)) => Err(ReplicaFault::Memory),
             Err((refusal, _)) => Err(ReplicaFault::Store(refusal.number())),

@@ -57,7 +57,7 @@ pub fn run_replica<F: Files<File = File>, T: Threads + Wait + Sync, R: Feed, W: 
 {
     let folder = Folder { files, alloc, path };
     let lock = folder.lock()?;
-    let parts = folder.open_parts(committee.genesis())?;
+    let parts = folder.open_parts(committee, replica)?;
     let requests = read_requests(alloc, lines)?;
     let end = stay_once(rt, alloc, committee, replica, parts, workers, requests, out)?;
     Ok(ReplicaEnd { end, lock })

@@ -48,12 +48,13 @@ fn parts<R: Abort>(
         key_id: [0; 16],
         seed: [16; 32],
     };
-    let index = IndexStore::create(alloc, disk(rt, alloc, index_calls)).ok();
+    let index = IndexStore::create(alloc, disk(rt, alloc, index_calls), 1).ok();
     let log = VoteLog::create(alloc, disk(rt, alloc, log_calls), committee.genesis()).ok();
+    let tree = SigningTree::generate(alloc, secret)
+        .ok()
+        .expect(rt, "a key");
     Parts {
-        tree: SigningTree::generate(alloc, secret)
-            .ok()
-            .expect(rt, "a key"),
+        trees: vec![in alloc; tree].ok().expect(rt, "memory"),
         index: index.expect(rt, "an index store"),
         log: log.expect(rt, "a log"),
     }

@@ -2,7 +2,7 @@
 
 use blocks::CommitteeView;
 use fixtures::verdicts;
-use key_files::KeyFile;
+use key_files::{KeyFile, KeyNumber};
 use replica_command::{ReplicaFault, ReplicaFile, run_replica};
 use std::fs;
 use std::fs::OpenOptions;
@@ -32,7 +32,9 @@ fn a_second_replica_of_a_folder_is_refused(rt: HostRuntime) -> Result<(), Fail> 
         &rt, &rt, alloc, &committee, 0, "held", 1, &mut lines, &mut out,
     );
     let fault = refused.err();
-    assert!(rt; fault == Some(ReplicaFault::File(ReplicaFile::Key(KeyFile::Seed))));
+    assert!(rt;
+        fault == Some(ReplicaFault::File(ReplicaFile::Key(KeyFile::Seed(KeyNumber::Zero))))
+    );
     let mut rest = [0; 16];
     let read = lines.read(&mut rest).ok();
     assert!(rt; read == Some(10) && out.bytes().is_empty());

@@ -64,19 +64,20 @@ fn replies_without_a_vote_are_these(rt: HostRuntime) {
 #[test]
 fn a_vote_is_written_with_all_its_bytes(rt: HostRuntime) -> Result<(), Fail> {
     let line = voted_line();
-    let digits = line.get(8..2996).ok_or("the vote")?;
+    let digits = line.get(8..2998).ok_or("the vote")?;
     let vote = hex::decode(rt.alloc(), digits)?;
-    let digits = line.get(3007..3071).ok_or("the id")?;
+    let digits = line.get(3009..3073).ok_or("the id")?;
     let id = hex::decode(rt.alloc(), digits)?;
-    assert!(rt; vote.len() == 1494 && id.len() == 32);
+    assert!(rt; vote.len() == 1495 && id.len() == 32);
     let outcome = Outcome::Replied(Reply {
         act: Answer::Voted(Receipt {
             number: 3,
             vote: SignedVote {
                 replica: u16_at(&vote, 0),
-                view: u64_at(&vote, 2),
-                id: array_at(&vote, 10),
-                signature: array_at(&vote, 42),
+                view: u64_at(&vote, 3),
+                id: array_at(&vote, 11),
+                key: vote[2],
+                signature: array_at(&vote, 43),
             },
         }),
         committed: Some(array_at(&id, 0)),

@@ -1,7 +1,9 @@
 -- The line of an entry from its pieces.
-use Rattle.std.proofs.Common.{◌≡◌, ◌≢◌, ℕ, List, ◌++◌, Option, codes, refl, ap, ◌∙◌, append_assoc}
+use Rattle.std.proofs.Common.{◌≡◌, ◌≢◌, ℕ, List, ◌++◌, Option, Some, None, option_map, codes, refl, ap, ◌∙◌, append_assoc}
+use Rattle.blocks.specs.Headers.{header_id}
 use Rattle.log_format.specs.EntryReading.{IsEntryRefusal, IsFirstFailed}
-use Rattle.log_format.specs.EntryText.{Entry}
+use Rattle.log_format.specs.EntryText.{Entry, own_of, own_vote_of}
+use Rattle.log_format.specs.declared.entry.KeyedSignature.{KeyedSignature}
 use Rattle.log_format.specs.declared.entry.EntryRefusal.{EntryRefusal}
 use Rattle.log_format.specs.declared.entry.EntryRefusal.TheVariants.{Memory, Length, Kind, Header, Parent, OwnVote, Certificate}
 use Rattle.show_command.specs.Entries.{AreVoterParts, IsEntryLine, IsOwnPart, act_name}
@@ -10,12 +12,21 @@ use Rattle.show_command.specs.Series.{AddsText}
 use Rattle.show_command.specs.declared.mark.Mark.{Mark}
 use Rattle.show_command.proofs.Longer.{five_pieces}
 
+-- the own vote as it stands in the entry, whosesoever it is
+kept : (replica view : ℕ) (id : List ℕ) (own : Option KeyedSignature)
+    → own_of (option_map (λ (s : KeyedSignature). record { replica = replica; view = view; id = id; key = s.key; signature = s.signature }) own) ≡ own
+kept replica view id (Some own) = refl
+kept replica view id None = refl
+
+pub own_is : (e : Entry) (replica : ℕ) → own_of (own_vote_of e replica) ≡ e.own
+own_is e replica = kept replica e.block.view (header_id e.block) e.own
+
 pub entry_added : (committee : Option (List ℕ)) (k : ℕ) (e : Entry) (t0 t1 t2 t3 t4 t5 : List ℕ) (m0 m1 m2 : List Mark)
-    → t1 ≡ t0 ++ entry_front k (act_name e.signature) e.block → AddsText t1 t2 m0 m1 (IsOwnPart committee e e.signature)
+    → t1 ≡ t0 ++ entry_front k (act_name e.own) e.block → AddsText t1 t2 m0 m1 (IsOwnPart committee e e.own)
     → t3 ≡ t2 ++ parent_part e.block → AddsText t3 t4 m1 m2 (AreVoterParts committee e.certificate) → t5 ≡ t4 ++ codes "\n"
     → AddsText t0 t5 m0 m2 (IsEntryLine committee k e)
 entry_added committee k e t0 t1 t2 t3 t4 t5 m0 m1 m2 front (own_text, own_marks, own, own_added, own_seen) parent (voters_text, voters_marks, voters, voters_added, voters_seen) end =
-    let front_text = entry_front k (act_name e.signature) e.block in (
+    let front_text = entry_front k (act_name e.own) e.block in (
       front_text ++ own_text ++ parent_part e.block ++ voters_text ++ codes "\n",
       own_marks ++ voters_marks,
       record { own_text = own_text; own_marks = own_marks; own = own; voters_text = voters_text; voters_marks = voters_marks; voters = voters; text_is = refl; marks_are = refl },

@@ -8,8 +8,9 @@ use Rattle.certificates.specs.declared.vote.SignedVote.{SignedVote}
 use Rattle.certificates.specs.declared.certificate.Endorsement.{Endorsement}
 use Rattle.log_format.specs.EntryText.{Entry, IsEntryOf, own_vote_of}
 use Rattle.log_format.specs.EntryReading.{IsFirstFailed, entry_refusal_number}
+use Rattle.log_format.specs.declared.entry.KeyedSignature.{KeyedSignature}
 use Rattle.log_format.specs.declared.entry.EntryRefusal.{EntryRefusal}
-use Rattle.show_command.specs.Lines.{entry_front, index_part, parent_part, refused_entry_line, voter_part}
+use Rattle.show_command.specs.Lines.{entry_front, key_part, parent_part, refused_entry_line, voter_part}
 use Rattle.show_command.specs.Marks.{IsMark}
 use Rattle.show_command.specs.Names.{entry_refusal_name}
 use Rattle.show_command.specs.Series.{AreOf}
@@ -38,14 +39,16 @@ signer_mark None = Bad
 
 -- ---- an entry
 
--- what is shown of the own vote, if there is one: the index of its one-time key, and its signer where a committee was
--- given to ask
-abbrev pub IsOwnPart : Option (List ℕ) → Entry → Option (List ℕ) → List ℕ → List Mark → Type 0
+-- the key and the index that an own vote names; its signature begins with the index
+abbrev pub own_key_part : KeyedSignature → List ℕ
+own_key_part own = key_part own.key (number_at 4 own.signature 0)
+
+-- what is shown of the own vote, if there is one: its key and index, and its signer where a committee was given to ask
+abbrev pub IsOwnPart : Option (List ℕ) → Entry → Option KeyedSignature → List ℕ → List Mark → Type 0
 IsOwnPart committee e None text marks = (text ≡ []) × (marks ≡ [])
-IsOwnPart None e (Some signature) text marks = (text ≡ index_part (number_at 4 signature 0)) × (marks ≡ [])
-IsOwnPart (Some committee) e (Some signature) text marks =
-    (signer : Option ℕ) × IsSigner committee e signer
-    × (text ≡ index_part (number_at 4 signature 0) ++ signer_text signer) × (marks ≡ signer_mark signer ∷ [])
+IsOwnPart None e (Some own) text marks = (text ≡ own_key_part own) × (marks ≡ [])
+IsOwnPart (Some committee) e (Some own) text marks =
+    (signer : Option ℕ) × IsSigner committee e signer × (text ≡ own_key_part own ++ signer_text signer) × (marks ≡ signer_mark signer ∷ [])
 
 -- what is shown of another replica's vote: its number, and the mark
 abbrev pub IsVotePart : Option (List ℕ) → SignedVote → List ℕ → List Mark → Type 0
@@ -60,19 +63,19 @@ abbrev pub AreVoterParts : Option (List ℕ) → Certificate → List ℕ → Li
 AreVoterParts committee certificate text marks = AreOf (IsVoterPart committee certificate) 0 certificate.entries text marks
 
 -- "vote" or "lock"
-abbrev pub act_name : Option (List ℕ) → List ℕ
-act_name (Some signature) = codes "vote"
+abbrev pub act_name : Option KeyedSignature → List ℕ
+act_name (Some own) = codes "vote"
 act_name None = codes "lock"
 
--- "entry K vote view V id ID index I by R parent V ID voters R R .."
+-- "entry K vote view V id ID key K index I by R parent V ID voters R R .."
 pub record IsEntryLine (committee : Option (List ℕ)) (k : ℕ) (e : Entry) (text : List ℕ) (marks : List Mark) : Type 0 where
   pub own_text : List ℕ
   pub own_marks : List Mark
-  pub own : IsOwnPart committee e e.signature own_text own_marks
+  pub own : IsOwnPart committee e e.own own_text own_marks
   pub voters_text : List ℕ
   pub voters_marks : List Mark
   pub voters : AreVoterParts committee e.certificate voters_text voters_marks
-  pub text_is : text ≡ entry_front k (act_name e.signature) e.block ++ own_text ++ parent_part e.block ++ voters_text ++ codes "\n"
+  pub text_is : text ≡ entry_front k (act_name e.own) e.block ++ own_text ++ parent_part e.block ++ voters_text ++ codes "\n"
   pub marks_are : marks ≡ own_marks ++ voters_marks
 
 -- the bytes are the entry that is shown

@@ -11,8 +11,9 @@ use Rattle.log_format.specs.declared.status.Status.{Status}
 use Rattle.stable_log.specs.Image.{StandsFor, magic}
 use Rattle.stable_log.specs.Refusals.{IsDamaged}
 use Rattle.key_index_store.specs.Boundary.{IsBoundary}
+use Rattle.key_index_store.specs.Indices.{limit_of}
 use Rattle.key_index_store.specs.Refusals.{HasNoBoundary}
-use Rattle.key_index_store.specs.declared.store.TheConstants.{INDICES}
+use Rattle.key_index_store.specs.declared.store.TheConstants.{MOST_KEYS}
 use Rattle.show_command.specs.Entries.{ArePayloadsShown}
 use Rattle.show_command.specs.Kinds.{kind_in}
 use Rattle.show_command.specs.Lines.{committee_file, good_count_line, export_line, indices_line, journal_line, shown_key_line, path_line, shown_refusal_line, seed_line, verdict_lines}
@@ -65,15 +66,15 @@ IsNoJournalText bytes text =
     ((take 8 bytes ≢ magic) × (text ≡ shown_refusal_line (codes "journal") 3 (codes "NotAJournal")))
     ⊎ (IsDamaged bytes × (text ≡ shown_refusal_line (codes "journal") 4 (codes "Damaged")))
 
--- ---- the indices that are taken
+-- ---- the indices that are taken, read as those of the most keys
 
 pub record IsIndicesText (bytes text : List ℕ) : Type 0 where
   pub boundary : ℕ
-  pub is_boundary : IsBoundary INDICES boundary bytes
+  pub is_boundary : IsBoundary (limit_of MOST_KEYS) boundary bytes
   pub text_is : text ≡ indices_line boundary
 
 abbrev pub IsNoIndicesText : List ℕ → List ℕ → Type 0
-IsNoIndicesText bytes text = HasNoBoundary INDICES bytes × (text ≡ shown_refusal_line (codes "indices") 5 (codes "BadEntry"))
+IsNoIndicesText bytes text = HasNoBoundary (limit_of MOST_KEYS) bytes × (text ≡ shown_refusal_line (codes "indices") 5 (codes "BadEntry"))
 
 -- ---- a public key
 

@@ -18,7 +18,8 @@ kind_in bytes =
     if length bytes == 48 then Seed
     else if has_magic bytes (codes "HSC1") then Committee
     else if has_magic bytes (codes "HSC2") then Committee
-    else if has_magic bytes (codes "HSX1") then Verdict
+    else if has_magic bytes (codes "HSC3") then Committee
+    else if has_magic bytes (codes "HSX2") then Verdict
     else if has_magic bytes (codes "HSL1") then Export
     else if has_magic bytes (codes "HSJ1") then (if begins_with_index bytes then Indices else Journal)
     else Other

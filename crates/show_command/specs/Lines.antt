@@ -1,16 +1,19 @@
 -- The lines that are printed, as docs/hs_show.md lays them out. Each ends with a line feed.
-use Rattle.std.specs.Prelude.{ℕ, zero, suc, ◌/◌, ◌==◌, ◌++◌, List, [], length, count_by, codes, decimal, Option, None, Some, Result, Ok, Err, if◌then◌else◌}
+use Rattle.std.specs.Prelude.{ℕ, zero, suc, ◌-◌, ◌/◌, ◌==◌, ◌++◌, List, [], length, count_by, codes, decimal, Option, None, Some, Result, Ok, Err, if◌then◌else◌}
 use Rattle.hex.specs.Hex.{encode_lower}
 use Rattle.wire.specs.Pieces.{piece, number_at}
+use Rattle.wire.specs.declared.limits.TheConstants.{MOST_ENTRIES}
 use Rattle.blocks.specs.Headers.{Header, header_id}
-use Rattle.blocks.specs.Committees.{has_weights, n_of, weight_at, key_id_at}
+use Rattle.blocks.specs.Committees.{has_many_keys, has_weights, n_of, weight_at, keys_of, key_id_at}
 use Rattle.blocks.specs.Genesis.{chain_id_of}
 use Rattle.blocks.specs.Weights.{total_of, quorum_of}
 use Rattle.blocks.specs.declared.committee.CommitteeRefusal.{CommitteeRefusal}
-use Rattle.verdict_format.specs.Verdicts.{VotedHeaders, chain_in, earlier_in, headers_in, verdict_kind_in, later_in, replica_in}
+use Rattle.verdict_format.specs.Verdicts.{VotedHeaders, chain_in, earlier_in, earlier_key_in, headers_in, verdict_kind_in, later_in, later_key_in, replica_in}
 use Rattle.printed_lines.specs.Printed.{printed, refusal_text}
 use Rattle.log_format.specs.Readings.{status_name}
 use Rattle.log_format.specs.declared.status.Status.{Status}
+use Rattle.key_index_store.specs.Indices.{limit_of}
+use Rattle.key_index_store.specs.declared.store.TheConstants.{MOST_KEYS}
 use Rattle.show_command.specs.Marks.{is_good, mark_text}
 use Rattle.show_command.specs.declared.mark.Mark.{Mark}
 
@@ -63,11 +66,28 @@ unfoldable pub weighted_replica_line : ℕ → ℕ → List ℕ → List ℕ
 weighted_replica_line r weight id =
     codes "replica " ++ decimal r ++ codes " weight " ++ decimal weight ++ codes " key " ++ encode_lower id ++ codes "\n"
 
+-- "replica R weight S keys K"
+unfoldable pub multikey_replica_front : ℕ → ℕ → ℕ → List ℕ
+multikey_replica_front r weight keys =
+    codes "replica " ++ decimal r ++ codes " weight " ++ decimal weight ++ codes " keys " ++ decimal keys
+
+-- " ID" of each of the first keys of replica r, so many
+abbrev pub key_ids : List ℕ → ℕ → ℕ → List ℕ
+key_ids committee r zero = []
+key_ids committee r (suc k) = key_ids committee r k ++ codes " " ++ encode_lower (key_id_at committee r k)
+
+-- "replica R weight S keys K ID ID.."
+abbrev pub multikey_replica_line : List ℕ → ℕ → List ℕ
+multikey_replica_line committee r =
+    multikey_replica_front r (weight_at committee r) (keys_of committee r) ++ key_ids committee r (keys_of committee r) ++ codes "\n"
+
 abbrev pub member_line : List ℕ → ℕ → List ℕ
 member_line committee r =
-    if has_weights committee
-    then weighted_replica_line r (weight_at committee r) (key_id_at committee r)
-    else replica_line r (key_id_at committee r)
+    if has_many_keys committee
+    then multikey_replica_line committee r
+    else (if has_weights committee
+    then weighted_replica_line r (weight_at committee r) (key_id_at committee r 0)
+    else replica_line r (key_id_at committee r 0))
 
 -- of the first replicas, so many
 abbrev pub replica_lines : List ℕ → ℕ → List ℕ
@@ -103,11 +123,15 @@ good_count_line (Some committee) marks = signatures_line (length marks) (count_b
 unfoldable pub rule_line : ℕ → ℕ → List ℕ
 rule_line rule replica = codes "verdict rule " ++ decimal rule ++ codes " replica " ++ decimal replica ++ codes "\n"
 
--- "vote PLACE view V id ID index I", and whether it is good
-unfoldable pub vote_line : List ℕ → ℕ → List ℕ → ℕ → Mark → List ℕ
-vote_line place view id index mark =
+-- " key K index I": the number of the key that a vote names, and the index of its one-time key
+unfoldable pub key_part : ℕ → ℕ → List ℕ
+key_part key index = codes " key " ++ decimal key ++ codes " index " ++ decimal index
+
+-- "vote PLACE view V id ID key K index I", and whether it is good
+unfoldable pub vote_line : List ℕ → ℕ → List ℕ → ℕ → ℕ → Mark → List ℕ
+vote_line place view id key index mark =
     codes "vote " ++ place ++ codes " view " ++ decimal view ++ codes " id " ++ encode_lower id
-    ++ codes " index " ++ decimal index ++ mark_text mark ++ codes "\n"
+    ++ key_part key index ++ mark_text mark ++ codes "\n"
 
 -- "header PLACE view V id ID parent V ID"
 unfoldable pub header_line : List ℕ → Header → List ℕ
@@ -121,12 +145,12 @@ headers_lines rule None = if rule == 2 then codes "headers unreadable\n" else []
 headers_lines rule (Some h) =
     header_line (codes "first") h.earlier ++ header_line (codes "parent") h.parent ++ header_line (codes "second") h.later
 
--- the signatures of the votes begin with their indices, at 79 and at 1571
+-- the signatures of the votes begin with their indices, at 80 and at 1573
 abbrev pub verdict_lines : List ℕ → Mark → Mark → List ℕ
 verdict_lines bytes first second =
     rule_line (verdict_kind_in bytes) (replica_in bytes) ++ chain_line (chain_in bytes)
-    ++ vote_line (codes "first") (earlier_in bytes).view (earlier_in bytes).id (number_at 4 bytes 79) first
-    ++ vote_line (codes "second") (later_in bytes).view (later_in bytes).id (number_at 4 bytes 1571) second
+    ++ vote_line (codes "first") (earlier_in bytes).view (earlier_in bytes).id (earlier_key_in bytes) (number_at 4 bytes 80) first
+    ++ vote_line (codes "second") (later_in bytes).view (later_in bytes).id (later_key_in bytes) (number_at 4 bytes 1573) second
     ++ headers_lines (verdict_kind_in bytes) (headers_in bytes)
 
 -- ---- a log
@@ -135,13 +159,23 @@ verdict_lines bytes first second =
 unfoldable pub export_line : Status → ℕ → List ℕ
 export_line status count = codes "export " ++ status_name status ++ codes " frames " ++ decimal count ++ codes "\n"
 
--- "journal Closed entries N"
+-- "journal Closed entries N left M": for so many there is room
 unfoldable pub journal_line : ℕ → List ℕ
-journal_line count = codes "journal Closed entries " ++ decimal count ++ codes "\n"
+journal_line count = codes "journal Closed entries " ++ decimal count ++ codes " left " ++ decimal (MOST_ENTRIES - count) ++ codes "\n"
 
--- "indices taken N"
+-- of the indices of so many keys those that are left, where all below the boundary are taken
+abbrev pub left_with : ℕ → ℕ → ℕ
+left_with keys boundary = limit_of keys - boundary
+
+-- " A B ..": how many are left with one key, with two, and up to so many
+abbrev pub left_text : ℕ → ℕ → List ℕ
+left_text boundary zero = []
+left_text boundary (suc k) = left_text boundary k ++ codes " " ++ decimal (left_with (suc k) boundary)
+
+-- "indices taken N left A B C D"
 unfoldable pub indices_line : ℕ → List ℕ
-indices_line boundary = codes "indices taken " ++ decimal boundary ++ codes "\n"
+indices_line boundary =
+    codes "indices taken " ++ decimal boundary ++ codes " left" ++ left_text boundary MOST_KEYS ++ codes "\n"
 
 -- "entry K refused N NAME"
 unfoldable pub refused_entry_line : ℕ → ℕ → List ℕ → List ℕ
@@ -162,7 +196,3 @@ parent_part block =
 -- " R", and whether it is good
 unfoldable pub voter_part : ℕ → Mark → List ℕ
 voter_part replica mark = codes " " ++ decimal replica ++ mark_text mark
-
--- " index I"
-unfoldable pub index_part : ℕ → List ℕ
-index_part index = codes " index " ++ decimal index

@@ -2,8 +2,8 @@
 
 ghost use Rattle.std.specs.Prelude.{◌≡◌, ◌<◌, ◌++◌, OnOk, decimal, length};
 ghost use Rattle.hex.specs.Hex.{encode_lower};
-ghost use Rattle.blocks.specs.Committees.{n_of};
-ghost use Rattle.show_command.specs.Lines.{chain_line, committee_lines, first_line, member_line, shown_key_line, refused_committee_line, replica_line, replica_lines, seed_line, size_line, weighted_replica_line, weighted_size_line};
+ghost use Rattle.blocks.specs.Committees.{has_many_keys, keys_of, n_of};
+ghost use Rattle.show_command.specs.Lines.{chain_line, committee_lines, first_line, key_ids, member_line, multikey_replica_front, multikey_replica_line, shown_key_line, refused_committee_line, replica_line, replica_lines, seed_line, size_line, weighted_replica_line, weighted_size_line};
 
 use crate::digits::{put_id, put_key_id, put_number};
 use blocks::{CommitteeView, Id};
@@ -104,11 +104,59 @@ fn put_weighted_replica(
     append(text, b"\n")
 }
 
+// Whether the format has room for several keys.
+fn has_many_keys(committee: &CommitteeView) -> bool
+    ensures { result ≡ has_many_keys committee.now }
+{
+    committee.bytes().starts_with(b"HSC3")
+}
+
+#[tactic(auto, unfolding(crate::specs::Lines::multikey_replica_front))]
+fn put_multikey_front(text: &mut Vec<u8>, r: u16, weight: u32, keys: u8) -> Result<(), AllocError>
+    ensures { OnOk result (text.new.items ≡ text.old.items ++ multikey_replica_front r weight keys) }
+{
+    append(text, b"replica ")?;
+    put_number(text, r)?;
+    append(text, b" weight ")?;
+    put_number(text, weight)?;
+    append(text, b" keys ")?;
+    put_number(text, keys)
+}
+
+// Adds the ids of the keys of a replica.
+fn put_key_ids(text: &mut Vec<u8>, committee: &CommitteeView, r: u16) -> Result<(), AllocError>
+    requires { r < n_of committee.now }
+    ensures { OnOk result (text.new.items ≡ text.old.items ++ key_ids committee.now r (keys_of committee.now r)) }
+{
+    for k in 0..committee.keys(r) {
+        append(text, b" ")?;
+        put_key_id(text, &committee.key(r, k).key_id)?;
+    }
+    Ok(())
+}
+
+fn put_multikey_replica(
+    text: &mut Vec<u8>,
+    committee: &CommitteeView,
+    r: u16,
+) -> Result<(), AllocError>
+    requires { r < n_of committee.now }
+    ensures { OnOk result (text.new.items ≡ text.old.items ++ multikey_replica_line committee.now r) }
+{
+    put_multikey_front(text, r, committee.weight(r), committee.keys(r))?;
+    put_key_ids(text, committee, r)?;
+    append(text, b"\n")
+}
+
+#[tactic(auto, unfolding(blocks::specs::Committees::keys_of))]
 fn put_member(text: &mut Vec<u8>, committee: &CommitteeView, r: u16) -> Result<(), AllocError>
     requires { r < n_of committee.now }
     ensures { OnOk result (text.new.items ≡ text.old.items ++ member_line committee.now r) }
 {
-    let key = committee.key(r);
+    if has_many_keys(committee) {
+        return put_multikey_replica(text, committee, r);
+    }
+    let key = committee.key(r, 0);
     if committee.has_weights() {
         put_weighted_replica(text, r, committee.weight(r), &key.key_id)
     } else {

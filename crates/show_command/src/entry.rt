@@ -4,18 +4,18 @@ ghost use Rattle.std.specs.Prelude.{◌≡◌, ◌≢◌, ◌↔◌, ◌++◌, �
 ghost use Rattle.hex.specs.Hex.{encode_lower};
 ghost use Rattle.blocks.specs.Headers.{Header as HeaderValue, header_id};
 ghost use Rattle.log_format.specs.EntryReading.{entry_refusal_number};
-ghost use Rattle.show_command.specs.Entries.{AreVoterParts, IsEntryLine, IsOwnPart, IsOwnVoteBy, IsPayloadShown, IsSigner, IsVotePart, act_name, signer_mark, signer_text};
-ghost use Rattle.show_command.specs.Lines.{entry_front, index_part, parent_part, refused_entry_line, voter_part};
+ghost use Rattle.log_format.specs.EntryText.{own_of};
+ghost use Rattle.show_command.specs.Entries.{AreVoterParts, IsEntryLine, IsOwnPart, IsOwnVoteBy, IsPayloadShown, IsSigner, IsVotePart, act_name, own_key_part, signer_mark, signer_text};
+ghost use Rattle.show_command.specs.Lines.{entry_front, parent_part, refused_entry_line, voter_part};
 ghost use Rattle.show_command.specs.Marks.{IsMark, mark_text};
 ghost use Rattle.show_command.specs.Names.{entry_refusal_name};
 ghost use Rattle.show_command.specs.Series.{AddsText};
 
 use crate::digits::{put_id, put_number};
-use crate::mark::{Mark, mark_of};
+use crate::mark::{Mark, mark_of, put_key_part};
 use crate::names::entry_refusal_name;
 use blocks::Header;
 use certificates::{Certificate, CommitteeView, SignedVote, check_vote};
-use lms_tree::Signature;
 use log_format::{Entry, EntryRefusal};
 use std::alloc::{AllocError, Global};
 use wire::{append, u32_at};
@@ -71,27 +71,20 @@ fn put_entry(
 ) -> Result<(), AllocError>
     ensures { OnOk result (AddsText text.old.items text.new.items marks.old.items marks.new.items (IsEntryLine committee.now k entry.now)) }
 {
-    let signature = signature_of(entry);
-    put_front(text, k, act_name(&signature), entry.block())?;
-    put_own(text, marks, committee, entry, &signature)?;
+    // The number of the replica is not in the entry, so any number does.
+    let own = entry.vote(0);
+    put_front(text, k, act_name(&own), entry.block())?;
+    put_own(text, marks, committee, entry, &own)?;
     put_parent(text, entry.block())?;
     put_voters(text, marks, committee, entry.certificate())?;
     append(text, b"\n")
 }
 
-// The signature of the own vote, if there is one.
-fn signature_of(entry: &Entry) -> Option<Signature>
-    ensures { result ≡ entry.now.signature }
-{
-    // The number of the replica is not in the entry, so any number does.
-    Some(entry.vote(0)?.signature)
-}
-
 // Whether the replica voted, in a word.
-fn act_name(signature: &Option<Signature>) -> &'static str
-    ensures { result.now ≡ act_name signature.now }
+fn act_name(own: &Option<SignedVote>) -> &'static str
+    ensures { result.now ≡ act_name (own_of own.now) }
 {
-    match signature {
+    match own {
         Some(_) => "vote",
         None => "lock",
     }
@@ -144,32 +137,30 @@ fn signer_of(committee: &CommitteeView, entry: &Entry) -> Option<u16>
     None
 }
 
-// AddsText what is shown of the own vote, if there is one: the index of its one-time key, and with a committee its signer.
+// Adds what is shown of the own vote, if there is one: its key and index, and with a committee its signer.
 fn put_own(
     text: &mut Vec<u8>,
     marks: &mut Vec<Mark>,
     committee: &Option<CommitteeView>,
     entry: &Entry,
-    signature: &Option<Signature>,
+    own: &Option<SignedVote>,
 ) -> Result<(), AllocError>
-    ensures { OnOk result (AddsText text.old.items text.new.items marks.old.items marks.new.items (IsOwnPart committee.now entry.now signature.now)) }
+    ensures { OnOk result (AddsText text.old.items text.new.items marks.old.items marks.new.items (IsOwnPart committee.now entry.now (own_of own.now))) }
 {
-    match (signature, committee) {
+    match (own, committee) {
         (None, _) => Ok(()),
-        (Some(signature), None) => put_index(text, u32_at(signature, 0)),
-        (Some(signature), Some(committee)) => {
-            put_index(text, u32_at(signature, 0))?;
+        (Some(own), None) => put_own_key(text, own),
+        (Some(own), Some(committee)) => {
+            put_own_key(text, own)?;
             put_signer(text, marks, signer_of(committee, entry))
         }
     }
 }
 
-#[tactic(auto, unfolding(crate::specs::Lines::index_part))]
-fn put_index(text: &mut Vec<u8>, index: u32) -> Result<(), AllocError>
-    ensures { OnOk result (text.new.items ≡ text.old.items ++ index_part index) }
+fn put_own_key(text: &mut Vec<u8>, own: &SignedVote) -> Result<(), AllocError>
+    ensures { OnOk result (text.new.items ≡ text.old.items ++ own_key_part (record { key = own.now.key; signature = own.now.signature })) }
 {
-    append(text, b" index ")?;
-    put_number(text, index)
+    put_key_part(text, own.key, u32_at(&own.signature, 0))
 }
 
 fn put_signer(
@@ -200,7 +191,7 @@ fn put_mark(marks: &mut Vec<Mark>, mark: Mark) -> Result<(), AllocError>
     Ok(())
 }
 
-// AddsText the voters of a certificate.
+// Adds the voters of a certificate.
 fn put_voters(
     text: &mut Vec<u8>,
     marks: &mut Vec<Mark>,
@@ -215,7 +206,7 @@ fn put_voters(
     Ok(())
 }
 
-// AddsText the number of another replica that voted, and the mark of its vote.
+// Adds the number of another replica that voted, and the mark of its vote.
 fn put_voter(
     text: &mut Vec<u8>,
     marks: &mut Vec<Mark>,
@@ -224,7 +215,13 @@ fn put_voter(
 ) -> Result<(), AllocError>
     ensures { OnOk result (AddsText text.old.items text.new.items marks.old.items marks.new.items (IsVotePart committee.now vote.now)) }
 {
-    let mark = mark_of(committee, vote.replica, &vote.ballot(), &vote.signature);
+    let mark = mark_of(
+        committee,
+        vote.replica,
+        vote.key,
+        &vote.ballot(),
+        &vote.signature,
+    );
     put_number_of_voter(text, vote.replica, mark)?;
     put_mark(marks, mark)
 }

@@ -13,9 +13,9 @@ const SEED_LEN: usize = 48;
 pub(crate) enum Kind {
     /// 48 bytes, whatever they are: nothing else of the bytes is looked at.
     Seed,
-    /// They begin with `HSC1` or `HSC2`.
+    /// They begin with `HSC1`, `HSC2` or `HSC3`.
     Committee,
-    /// They begin with `HSX1`.
+    /// They begin with `HSX2`.
     Verdict,
     /// They begin with `HSL1`.
     Export,
@@ -40,9 +40,12 @@ pub(crate) fn kind_of(bytes: &[u8]) -> Kind
 {
     if bytes.len() == SEED_LEN {
         Kind::Seed
-    } else if bytes.starts_with(b"HSC1") || bytes.starts_with(b"HSC2") {
+    } else if bytes.starts_with(b"HSC1")
+        || bytes.starts_with(b"HSC2")
+        || bytes.starts_with(b"HSC3")
+    {
         Kind::Committee
-    } else if bytes.starts_with(b"HSX1") {
+    } else if bytes.starts_with(b"HSX2") {
         Kind::Verdict
     } else if bytes.starts_with(b"HSL1") {
         Kind::Export

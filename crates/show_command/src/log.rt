@@ -1,11 +1,13 @@
 //! Exports and journals as lines.
 
-ghost use Rattle.std.specs.Prelude.{◌≡◌, ◌<◌, ◌++◌, Some, IfOk, OnOk, decimal, false, length, slice_get, true};
+ghost use Rattle.std.specs.Prelude.{◌≡◌, ◌<◌, ◌≤◌, ◌++◌, Some, IfOk, OnOk, decimal, false, length, slice_get, true};
+ghost use Rattle.key_index_store.specs.declared.store.TheConstants.{MOST_KEYS};
 ghost use Rattle.log_format.specs.Readings.{status_name};
 ghost use Rattle.show_command.specs.Entries.{ArePayloadsShown};
 ghost use Rattle.show_command.specs.Files.{IsWholeOrElse, IsExportText, IsIndicesText, IsJournalText, IsLogText, IsNoIndicesText, IsNoJournalText};
-ghost use Rattle.show_command.specs.Lines.{export_line, indices_line, journal_line, shown_refusal_line};
+ghost use Rattle.show_command.specs.Lines.{export_line, indices_line, journal_line, left_text, left_with, shown_refusal_line};
 ghost use Rattle.show_command.specs.Series.{AddsText};
+ghost use Rattle.wire.specs.declared.limits.TheConstants.{MOST_ENTRIES};
 
 use crate::digits::put_number;
 use crate::entry::put_payload;
@@ -13,11 +15,14 @@ use crate::mark::{Mark, put_count};
 use crate::names::put_refused;
 use crate::page::Page;
 use certificates::CommitteeView;
-use key_index_store::{INDICES, IndexError, IndexStore};
+use key_index_store::{INDICES, IndexError, IndexStore, MOST_KEYS};
 use log_format::{Frames, Status};
 use stable_log::{Journal, JournalError, MemoryDisk};
 use std::alloc::{AllocError, Global};
-use wire::append;
+use wire::{MOST_ENTRIES, append};
+
+/// How many indices a replica with the most keys has.
+const MOST_INDICES: u32 = INDICES * MOST_KEYS as u32;
 
 /// What is shown of a file that begins as an export: how it ends, and its frames.
 pub(crate) fn export_page(
@@ -106,10 +111,13 @@ fn entries_page(
 
 #[tactic(auto, unfolding(crate::specs::Lines::journal_line))]
 fn put_journal(text: &mut Vec<u8>, count: usize) -> Result<(), AllocError>
+    requires { count ≤ MOST_ENTRIES }
     ensures { OnOk result (text.new.items ≡ text.old.items ++ journal_line count) }
 {
     append(text, b"journal Closed entries ")?;
     put_number(text, count)?;
+    append(text, b" left ")?;
+    put_number(text, MOST_ENTRIES - count)?;
     append(text, b"\n")
 }
 
@@ -145,12 +153,13 @@ fn refused_page(alloc: Global, kind: &[u8], number: u8, name: &[u8]) -> Result<P
     })
 }
 
-/// What is shown of a journal that begins with an index: the number below which all indices are taken.
+/// What is shown of a journal that begins with an index: the number below which all indices are taken, and how many are
+/// left. It is read as one of the most keys, since it does not say how many there are.
 pub(crate) fn indices_page(alloc: Global, bytes: Vec<u8>) -> Result<Page, AllocError>
     ensures { IfOk result (λ p. IsWholeOrElse (IsIndicesText bytes.items p.text.items) (IsNoIndicesText bytes.items p.text.items) p.is_whole) }
 {
-    match IndexStore::recover(alloc, MemoryDisk::new(alloc, bytes)?) {
-        Ok(store) => taken_page(alloc, INDICES - store.left()),
+    match IndexStore::recover(alloc, MemoryDisk::new(alloc, bytes)?, MOST_KEYS) {
+        Ok(store) => taken_page(alloc, MOST_INDICES - store.left()),
         Err((IndexError::BadEntry, _)) => refused_page(alloc, b"indices", 5, b"BadEntry"),
         Err(_) => Err(AllocError),
     }
@@ -164,9 +173,29 @@ fn taken_page(alloc: Global, boundary: u32) -> Result<Page, AllocError>
     let mut text = Vec::new(alloc);
     append(&mut text, b"indices taken ")?;
     put_number(&mut text, boundary)?;
+    append(&mut text, b" left")?;
+    put_left(&mut text, boundary)?;
     append(&mut text, b"\n")?;
     Ok(Page {
         text,
         is_whole: true,
     })
+}
+
+// Adds how many indices are left with one key, with two, and up to the most.
+fn put_left(text: &mut Vec<u8>, boundary: u32) -> Result<(), AllocError>
+    ensures { OnOk result (text.new.items ≡ text.old.items ++ left_text boundary MOST_KEYS) }
+{
+    for k in 0..MOST_KEYS {
+        append(text, b" ")?;
+        put_number(text, left_with(k + 1, boundary))?;
+    }
+    Ok(())
+}
+
+// Of the indices of so many keys those that are left, where all below the boundary are taken.
+fn left_with(keys: u8, boundary: u32) -> u32
+    ensures { result ≡ left_with keys boundary }
+{
+    (INDICES * u32::from(keys)).saturating_sub(boundary)
 }

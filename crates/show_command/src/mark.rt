@@ -1,7 +1,7 @@
-//! Whether signatures are good.
+//! What is shown of signatures: by which key they are, and whether they are good.
 
 ghost use Rattle.std.specs.Prelude.{◌≡◌, ◌++◌, OnOk, count_by, decimal, length};
-ghost use Rattle.show_command.specs.Lines.{good_count_line, signatures_line};
+ghost use Rattle.show_command.specs.Lines.{good_count_line, key_part, signatures_line};
 ghost use Rattle.show_command.specs.Marks.{IsMark, is_good, mark_text};
 
 use crate::digits::put_number;
@@ -17,7 +17,7 @@ pub(crate) enum Mark {
     Unasked,
     /// It is good.
     Good,
-    /// It is not, or the committee has no such replica.
+    /// It is not, or the committee has no such replica, or the replica no such key.
     Bad,
 }
 
@@ -44,26 +44,38 @@ impl Mark {
     }
 }
 
-/// The mark of a replica's vote on a block.
+/// The mark of a replica's vote on a block, signed with its key of this number.
 pub(crate) fn mark_of(
     committee: &Option<CommitteeView>,
     replica: u16,
+    key: u8,
     on: &Ballot,
     signature: &[u8],
 ) -> Mark
-    ensures { IsMark committee.now (record { replica = replica; view = on.now.view; id = on.now.id; signature = signature.now }) result }
+    ensures { IsMark committee.now (record { replica = replica; view = on.now.view; id = on.now.id; key = key; signature = signature.now }) result }
 {
     let Some(committee) = committee else {
         return Mark::Unasked;
     };
-    if replica >= committee.n() {
+    if replica >= committee.n() || key >= committee.keys(replica) {
         return Mark::Bad;
     }
-    if is_signed_by(&LmsVerifier, committee, replica, on, signature) {
+    if is_signed_by(&LmsVerifier, committee, replica, key, on, signature) {
         Mark::Good
     } else {
         Mark::Bad
     }
+}
+
+/// Adds the number of the key that a vote names, and the index of its one-time key.
+#[tactic(auto, unfolding(crate::specs::Lines::key_part))]
+pub(crate) fn put_key_part(text: &mut Vec<u8>, key: u8, index: u32) -> Result<(), AllocError>
+    ensures { OnOk result (text.new.items ≡ text.old.items ++ key_part key index) }
+{
+    append(text, b" key ")?;
+    put_number(text, key)?;
+    append(text, b" index ")?;
+    put_number(text, index)
 }
 
 /// Adds the line that counts the signatures and those of them that are good, where a committee was given.

@@ -11,7 +11,7 @@ ghost use Rattle.show_command.specs.Marks.{IsMark, mark_text};
 
 use crate::committee::put_chain;
 use crate::digits::{put_id, put_number};
-use crate::mark::{Mark, mark_of, put_count};
+use crate::mark::{Mark, mark_of, put_count, put_key_part};
 use crate::names::{put_refused, verdict_refusal_name};
 use crate::page::Page;
 use blocks::Header;
@@ -53,9 +53,15 @@ pub(crate) fn verdict_page(
 
 // The mark of a vote of the accused replica.
 fn mark_in(committee: &Option<CommitteeView>, verdict: &VerdictView, vote: &VoteView) -> Mark
-    ensures { IsMark committee.now (record { replica = replica_in verdict.now; view = vote.now.view; id = vote.now.id; signature = vote.now.signature.now }) result }
+    ensures { IsMark committee.now (record { replica = replica_in verdict.now; view = vote.now.view; id = vote.now.id; key = vote.now.key; signature = vote.now.signature.now }) result }
 {
-    mark_of(committee, verdict.replica(), &vote.ballot(), vote.signature)
+    mark_of(
+        committee,
+        verdict.replica(),
+        vote.key,
+        &vote.ballot(),
+        vote.signature,
+    )
 }
 
 // Adds the lines of a verdict whose votes have these marks.
@@ -67,17 +73,17 @@ fn put_verdict(
     second: Mark,
 ) -> Result<(), AllocError>
     requires same { verdict.now ≡ bytes.now }
-    requires long { 3023 ≤ length bytes.now }
+    requires long { 3025 ≤ length bytes.now }
     ensures { OnOk result (text.new.items ≡ text.old.items ++ verdict_lines bytes.now first second) }
 {
     put_rule(text, verdict.rule().number(), verdict.replica())?;
     put_chain(text, &verdict.chain())?;
-    put_vote(text, b"first", &verdict.earlier(), u32_at(bytes, 79), first)?;
+    put_vote(text, b"first", &verdict.earlier(), u32_at(bytes, 80), first)?;
     put_vote(
         text,
         b"second",
         &verdict.later(),
-        u32_at(bytes, 1571),
+        u32_at(bytes, 1573),
         second,
     )?;
     put_headers(text, verdict.rule(), &verdict.headers())
@@ -102,7 +108,7 @@ fn put_vote(
     index: u32,
     mark: Mark,
 ) -> Result<(), AllocError>
-    ensures { OnOk result (text.new.items ≡ text.old.items ++ vote_line place.now vote.now.view vote.now.id index mark) }
+    ensures { OnOk result (text.new.items ≡ text.old.items ++ vote_line place.now vote.now.view vote.now.id vote.now.key index mark) }
 {
     append(text, b"vote ")?;
     append(text, place)?;
@@ -110,8 +116,7 @@ fn put_vote(
     put_number(text, vote.view)?;
     append(text, b" id ")?;
     put_id(text, &vote.id)?;
-    append(text, b" index ")?;
-    put_number(text, index)?;
+    put_key_part(text, vote.key, index)?;
     append(text, mark.word().as_bytes())?;
     append(text, b"\n")
 }

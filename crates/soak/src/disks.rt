@@ -72,7 +72,7 @@ impl Store for IndexStore<MemoryDisk> {
         _committee: &CommitteeView,
         disk: MemoryDisk,
     ) -> Result<IndexStore<MemoryDisk>, (Unread, MemoryDisk)> {
-        match IndexStore::recover(alloc, disk) {
+        match IndexStore::recover(alloc, disk, 1) {
             Ok(store) => Ok(store),
             Err((IndexError::Device, disk)) => Err((Unread::Device, disk)),
             Err((_, disk)) => Err((Unread::Damaged, disk)),
@@ -165,7 +165,7 @@ fn fuses(random: &mut Random) -> Fuses {
 pub(crate) fn recovered(
     alloc: Global,
     committee: &CommitteeView,
-    tree: SigningTree,
+    trees: Vec<SigningTree>,
     disks: Disks,
     round: &mut Round,
     run: &mut Run,
@@ -185,7 +185,7 @@ pub(crate) fn recovered(
     }
     judge(alloc, round, &log, &index)?;
     round.desk.fuse(fuses);
-    Ok(Parts { tree, index, log })
+    Ok(Parts { trees, index, log })
 }
 
 // What was found is what the model has.
@@ -215,35 +215,35 @@ fn choice(random: &mut Random) -> Choice {
     }
 }
 
-/// The key, and what a crash or a restart leaves of the disks.
+/// The keys, and what a crash or a restart leaves of the disks.
 pub(crate) fn left(
     parts: Parts<MemoryDisk>,
     run: &mut Run,
-) -> Result<(SigningTree, Disks), AllocError> {
-    let Parts { tree, index, log } = parts;
+) -> Result<(Vec<SigningTree>, Disks), AllocError> {
+    let Parts { trees, index, log } = parts;
     let index = index.into_disk();
     let log = log.into_disk();
     if run.random.percent(40) {
         one_more(&mut run.counts.restarts);
-        return Ok((tree, Disks { index, log }));
+        return Ok((trees, Disks { index, log }));
     }
     one_more(&mut run.counts.crashes);
     let index = index.crash(choice(&mut run.random))?;
     let log = log.crash(choice(&mut run.random))?;
-    Ok((tree, Disks { index, log }))
+    Ok((trees, Disks { index, log }))
 }
 
 // The index disk of a key of whose indices so many reservations were given or skipped.
 fn taken_index(alloc: Global, reservations: u32) -> Result<MemoryDisk, Failure> {
     let disk = MemoryDisk::new(alloc, Vec::new(alloc))?;
-    let Ok(mut store) = IndexStore::create(alloc, disk) else {
+    let Ok(mut store) = IndexStore::create(alloc, disk, 1) else {
         return Err(Failure::Refused("an index store is made"));
     };
     for _ in 0..reservations {
         if store.next().is_err() {
             return Err(Failure::Refused("an index is given"));
         }
-        store = match IndexStore::recover(alloc, store.into_disk()) {
+        store = match IndexStore::recover(alloc, store.into_disk(), 1) {
             Ok(store) => store,
             Err(_) => return Err(Failure::Refused("an index store is found again")),
         };

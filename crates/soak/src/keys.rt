@@ -79,6 +79,7 @@ impl Signers {
         let statement = Statement { chain, view, id }.to_bytes();
         for (replica, tree) in (1..=3u16).zip(&self.trees) {
             text.extend_from_slice(&replica.to_be_bytes())?;
+            text.push(0)?;
             text.extend_from_slice(&tree.sign_at(0, &statement))?;
         }
         Ok(text)

@@ -24,8 +24,9 @@ fn finish_round<R: Threads + Wait + Sync>(
     signers: &Signers,
     run: &mut Run,
 ) -> Result<(), Failure> {
-    let mut tree = own_key(rt, alloc, run.counts.rounds)?;
+    let tree = own_key(rt, alloc, run.counts.rounds)?;
     let bytes = signers.committee(alloc, &tree)?;
+    let mut trees = vec![in alloc; tree]?;
     let Ok(committee) = CommitteeView::parse(&bytes) else {
         return Err(Failure::Refused("a committee is read"));
     };
@@ -34,13 +35,13 @@ fn finish_round<R: Threads + Wait + Sync>(
     let taken = reservations.saturating_mul(INDICES_PER_RESERVATION);
     let mut round = Round::new(alloc, &committee, taken)?;
     for _ in 0..u64::MAX {
-        let parts = recovered(alloc, &committee, tree, disks, &mut round, run)?;
+        let parts = recovered(alloc, &committee, trees, disks, &mut round, run)?;
         if round.is_over(run) {
             let mut log = parts.log;
             return check(alloc, &committee, &mut log, &round, run);
         }
         let parts = stay(rt, alloc, &committee, signers, parts, &mut round, run)?;
-        (tree, disks) = left(parts, run)?;
+        (trees, disks) = left(parts, run)?;
     }
     Ok(())
 }

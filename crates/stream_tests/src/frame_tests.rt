@@ -5,8 +5,8 @@ use fixtures::exports::nine_entries;
 use log_format::{Frames, Request, Status};
 use std::alloc::{AllocError, Global};
 
-// The stored export has nine frames, each of a length of 4 bytes and a payload of 1,703.
-const FRAME: usize = 1707;
+// The stored export has nine frames, each of a length of 4 bytes and a payload of 1,704.
+const FRAME: usize = 1708;
 
 // Whether a stream has as many frames, and ends so.
 fn has(alloc: Global, text: &[u8], count: usize, status: Status) -> bool {
@@ -59,7 +59,7 @@ fn frames_are_parts_of_the_text(rt: HostRuntime) {
     let mut at: usize = 8;
     for payload in frames.frames() {
         assert!(rt;
-            export.get(at..at.saturating_add(1703)) == Some(*payload),
+            export.get(at..at.saturating_add(1704)) == Some(*payload),
             "at {at}"
         );
         at = at.saturating_add(FRAME);

@@ -1,4 +1,4 @@
-//! `hs_tool committee F OUT KEY..` and `hs_tool weighted OUT WEIGHT=PATH..`: a committee's file from its replicas' key
+//! `hs_tool committee F OUT KEY..` and `hs_tool weighted OUT WEIGHT=PATH,PATH..`: a committee's file from its replicas' key
 //! files.
 
 ghost use Rattle.std.specs.Prelude.{◌≢◌, IfErr};
@@ -6,13 +6,16 @@ ghost use Rattle.tool_commands.specs.Writes.{CountsWrites};
 
 use crate::fault::{Fault, Place};
 use crate::new_file::replace_file;
-use blocks::{CommitteeView, Member, write_committee, write_weighted_committee};
+use blocks::{
+    CommitteeView, MOST_KEYS, Member, write_committee, write_multikey_committee,
+    write_weighted_committee,
+};
 use file_input::read_file;
 use lms_tree::PUBLIC_KEY_LEN;
 use std::alloc::Global;
 use std::fs::{File, Files};
 use streams::{Sink, write_all};
-use tool_words::WeightedKey;
+use tool_words::WeightedReplica;
 use wire::array_at;
 
 /// Reads the key files, 56 bytes each, the key of replica 0 first. Where they make a committee of f
@@ -43,37 +46,58 @@ pub fn committee<'a, F: Files<File = File>, W: Sink>(
     publish(rt, alloc, path, &write_committee(alloc, f, &texts)?, out)
 }
 
-/// The same of replicas that have weights: each key file with its weight, that of replica 0 first.
+/// The same of replicas that have weights: each with its weight and its key files, replica 0 first. Where each has one key,
+/// the format without room for more is written.
 pub fn weighted<'a, F: Files<File = File>, W: Sink>(
     rt: &F,
     alloc: Global,
     path: &'a str,
-    keys: &[WeightedKey<'a>],
+    replicas: &[WeightedReplica<'a>],
     out: &mut W,
 ) -> Result<(), Fault<'a>>
     ensures { CountsWrites result (W.failed out.old) (W.failed out.new) }
 {
-    if keys.iter().any(|key| key.path == path) {
+    if replicas.iter().any(|replica| replica.paths.contains(&path)) {
         return Err(Fault::File(Place::Path(path)));
     }
     let mut members = Vec::new(alloc);
-    for key in keys {
-        members.push(Member {
-            weight: key.weight,
-            key: read_key(rt, alloc, key.path)?,
-        })?;
+    for replica in replicas {
+        members.push(read_member(rt, alloc, replica)?)?;
     }
-    // There are 4 to 31 of them; the writer asks for that bound.
-    if members.len() > 65_535 {
+    publish(rt, alloc, path, &text_of(alloc, &members)?, out)
+}
+
+// A replica with the keys in its files, one or more.
+fn read_member<'a, F: Files<File = File>>(
+    rt: &F,
+    alloc: Global,
+    replica: &WeightedReplica<'a>,
+) -> Result<Member, Fault<'a>>
+    ensures { IfErr result (λ fault. fault ≢ Fault.Output) }
+{
+    let mut keys = Vec::new(alloc);
+    for path in &replica.paths {
+        keys.push(read_key(rt, alloc, path)?)?;
+    }
+    Ok(Member {
+        weight: replica.weight,
+        keys,
+    })
+}
+
+// The bytes of the committee of these replicas, in the format with room for several keys where one has several.
+fn text_of<'a>(alloc: Global, members: &[Member]) -> Result<Vec<u8>, Fault<'a>>
+    ensures { IfErr result (λ fault. fault ≢ Fault.Output) }
+{
+    // There are 4 to 31 of them, each with one to four keys; the writers ask for these bounds.
+    if members.len() > 65_535 || members.iter().any(|m| m.keys.len() > MOST_KEYS) {
         return Err(Fault::Usage);
     }
-    publish(
-        rt,
-        alloc,
-        path,
-        &write_weighted_committee(alloc, &members)?,
-        out,
-    )
+    if members.iter().all(|m| m.keys.len() == 1) {
+        Ok(write_weighted_committee(alloc, members)?)
+    } else {
+        Ok(write_multikey_committee(alloc, members)?)
+    }
 }
 
 // Writes the bytes where they are a committee, and prints its chain id.

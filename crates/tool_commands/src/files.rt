@@ -7,7 +7,7 @@ use file_input::read_file;
 use std::alloc::Global;
 use std::fs::{File, Files};
 
-/// How much of a committee's file is read, in bytes. The greatest committee has 1,744.
+/// How much of a committee's file is read, in bytes. The greatest committee has 7,200.
 const MOST_OF_A_COMMITTEE: u64 = 16_384;
 
 /// The first bytes of a file.

@@ -8,6 +8,7 @@ mod fault;
 mod files;
 mod host;
 mod keygen;
+mod migrate;
 mod new_file;
 mod progress;
 mod replica;

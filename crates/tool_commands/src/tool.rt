@@ -10,6 +10,7 @@ use crate::committee::{committee, weighted};
 use crate::fault::Fault;
 use crate::host::Host;
 use crate::keygen::keygen;
+use crate::migrate::migrate_log;
 use crate::replica::replica;
 use replica_command::Ending;
 use std::fs::{File, Files};
@@ -35,6 +36,7 @@ hs_tool committee F OUT KEY..
 hs_tool replica COMMITTEE R DIR
 hs_tool audit COMMITTEE OUTDIR SOURCE..
 hs_tool weighted OUT WEIGHT=PATH..
+hs_tool migrate OLD NEW COMMITTEE
 ";
 
 /// Does what the words ask for, and answers the exit status: `DONE`, `CULPRITS` or `FAULT`. Facts go to `out`, and with
@@ -144,9 +146,16 @@ where
     let (files, alloc) = (host.files, host.alloc);
     match command {
         Command::Usage => write_all(out, USAGE).map_err(|_| Fault::Output)?,
-        Command::Keygen { seed, folder } => keygen(host, seed, folder, out)?,
+        Command::Keygen {
+            seed,
+            folder,
+            further,
+        } => keygen(host, seed, folder, *further, out)?,
         Command::Committee { f, out: path, keys } => committee(files, alloc, *f, path, keys, out)?,
-        Command::Weighted { out: path, keys } => weighted(files, alloc, path, keys, out)?,
+        Command::Weighted {
+            out: path,
+            replicas,
+        } => weighted(files, alloc, path, replicas, out)?,
         Command::Replica {
             committee,
             replica: number,
@@ -169,6 +178,11 @@ where
                 return Ok(Ended::Culprits);
             }
         }
+        Command::Migrate {
+            old,
+            new,
+            committee,
+        } => migrate_log(files, alloc, old, new, committee, out)?,
     }
     Ok(Ended::Done)
 }

@@ -7,10 +7,11 @@ ghost use Rattle.std.specs.Prelude.{◌≡◌, ◌≤◌};
 pub enum Command<'a> {
     /// No words: print how the tool is called.
     Usage,
-    /// `keygen SEED DIR`
+    /// `keygen SEED DIR [--key K]`
     Keygen {
         seed: &'a str,
         folder: &'a str,
+        further: Option<FurtherKey>,
     },
     /// `committee F OUT KEY..`
     Committee {
@@ -18,10 +19,10 @@ pub enum Command<'a> {
         out: &'a str,
         keys: Vec<&'a str>,
     },
-    /// `weighted OUT WEIGHT=PATH..`
+    /// `weighted OUT WEIGHT=PATH,PATH.. ..`
     Weighted {
         out: &'a str,
-        keys: Vec<WeightedKey<'a>>,
+        replicas: Vec<WeightedReplica<'a>>,
     },
     /// `replica COMMITTEE R DIR [--workers W] [--serve ADDRESS] [--requests N]`
     Replica {
@@ -38,14 +39,41 @@ pub enum Command<'a> {
         sources: Vec<&'a str>,
         tries: Tries,
     },
+    /// `migrate OLD NEW COMMITTEE`
+    Migrate {
+        old: &'a str,
+        new: &'a str,
+        committee: &'a str,
+    },
 }
 
-/// The key file of a replica that has a weight.
+/// A key of a replica beside its first one.
 #[derive(Clone, Copy, Debug)]
-pub struct WeightedKey<'a> {
+pub enum FurtherKey {
+    One,
+    Two,
+    Three,
+}
+
+impl FurtherKey {
+    /// The key of this number, where it is 1 to 3.
+    pub fn of(number: u16) -> Option<FurtherKey> {
+        match number {
+            1 => Some(FurtherKey::One),
+            2 => Some(FurtherKey::Two),
+            3 => Some(FurtherKey::Three),
+            _ => None,
+        }
+    }
+}
+
+/// A replica that has a weight, by the files of its keys.
+#[derive(Debug, Drop)]
+pub struct WeightedReplica<'a> {
     /// At least 1.
     pub weight: u32,
-    pub path: &'a str,
+    /// One to four paths.
+    pub paths: Vec<&'a str>,
 }
 
 /// Where a replica hands out its log when its work is done, and how often.

@@ -10,6 +10,7 @@ pub(crate) fn parsed<'a>(alloc: Global, words: &'a [String]) -> Result<ArgMatche
     let grammar = with_weighted(alloc, grammar)?;
     let grammar = with_replica(alloc, grammar)?;
     let grammar = with_audit(alloc, grammar)?;
+    let grammar = with_migrate(alloc, grammar)?;
     grammar.try_get_matches_from(words)
 }
 
@@ -23,7 +24,8 @@ fn grammar<'a>(alloc: Global) -> Grammar<'a> {
 fn with_keygen<'a>(alloc: Global, grammar: Grammar<'a>) -> Result<Grammar<'a>, AllocError> {
     let keygen = Grammar::new(alloc, "keygen")
         .arg(Arg::new(alloc, "SEED").required(true))?
-        .arg(Arg::new(alloc, "DIR").required(true))?;
+        .arg(Arg::new(alloc, "DIR").required(true))?
+        .arg(Arg::new(alloc, "K").long("key"))?;
     grammar.subcommand(keygen)
 }
 
@@ -71,4 +73,12 @@ fn with_audit<'a>(alloc: Global, grammar: Grammar<'a>) -> Result<Grammar<'a>, Al
         .arg(sources)?
         .arg(Arg::new(alloc, "T").long("tries"))?;
     grammar.subcommand(audit)
+}
+
+fn with_migrate<'a>(alloc: Global, grammar: Grammar<'a>) -> Result<Grammar<'a>, AllocError> {
+    let migrate = Grammar::new(alloc, "migrate")
+        .arg(Arg::new(alloc, "OLD").required(true))?
+        .arg(Arg::new(alloc, "NEW").required(true))?
+        .arg(Arg::new(alloc, "COMMITTEE").required(true))?;
+    grammar.subcommand(migrate)
 }

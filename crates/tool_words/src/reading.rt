@@ -1,10 +1,13 @@
 //! From words to what they ask for.
 
-use crate::command::{Command, Service, Tries, WeightedKey, Workers};
+use crate::command::{Command, FurtherKey, Service, Tries, WeightedReplica, Workers};
 use crate::grammar::parsed;
 use clap::ArgMatches;
 use clap::error::ErrorKind;
 use std::alloc::{AllocError, AllocFailed, Global};
+
+/// How many keys a replica has at most.
+const MOST_KEYS: usize = 4;
 
 /// Why words ask for nothing.
 #[derive(Clone, Copy, Debug)]
@@ -51,14 +54,33 @@ fn command<'a>(alloc: Global, matches: &ArgMatches<'a>) -> Result<Command<'a>, W
         Some(("weighted", given)) => weighted(alloc, given),
         Some(("replica", given)) => replica(given),
         Some(("audit", given)) => audit(alloc, given),
+        Some(("migrate", given)) => migrate(given),
         _ => Err(WordsFault::Usage),
     }
 }
 
 fn keygen<'a>(given: &ArgMatches<'a>) -> Result<Command<'a>, WordsFault> {
-    match (given.get_str("SEED"), given.get_str("DIR")) {
-        (Some(seed), Some(folder)) if !folder.is_empty() => Ok(Command::Keygen { seed, folder }),
-        _ => Err(WordsFault::Usage),
+    let (Some(seed), Some(folder)) = (given.get_str("SEED"), given.get_str("DIR")) else {
+        return Err(WordsFault::Usage);
+    };
+    if folder.is_empty() {
+        return Err(WordsFault::Usage);
+    }
+    Ok(Command::Keygen {
+        seed,
+        folder,
+        further: further_key(given.get_str("K"))?,
+    })
+}
+
+// Where no number is said, the key is the first one.
+fn further_key(word: Option<&str>) -> Result<Option<FurtherKey>, WordsFault> {
+    let Some(word) = word else {
+        return Ok(None);
+    };
+    match number(word).and_then(FurtherKey::of) {
+        Some(key) => Ok(Some(key)),
+        None => Err(WordsFault::Usage),
     }
 }
 
@@ -84,7 +106,7 @@ fn committee<'a>(alloc: Global, given: &ArgMatches<'a>) -> Result<Command<'a>, W
     })
 }
 
-// 4 to 31 key files, each with its weight.
+// 4 to 31 replicas, each with its weight and its key files.
 fn weighted<'a>(alloc: Global, given: &ArgMatches<'a>) -> Result<Command<'a>, WordsFault> {
     let (Some(out), Some(words)) = (given.get_str("OUT"), given.get_strs("KEY")) else {
         return Err(WordsFault::Usage);
@@ -92,26 +114,29 @@ fn weighted<'a>(alloc: Global, given: &ArgMatches<'a>) -> Result<Command<'a>, Wo
     if out.is_empty() || !(4..=31).contains(&words.len()) {
         return Err(WordsFault::Usage);
     }
-    let mut keys = Vec::new(alloc);
+    let mut replicas = Vec::new(alloc);
     for word in words {
-        let Some(key) = weighted_key(word) else {
-            return Err(WordsFault::Usage);
-        };
-        keys.push(key)?;
+        replicas.push(weighted_replica(alloc, word)?)?;
     }
-    Ok(Command::Weighted { out, keys })
+    Ok(Command::Weighted { out, replicas })
 }
 
-// What `WEIGHT=PATH` says. The first `=` ends the weight, so a path may have one.
-fn weighted_key<'a>(word: &'a str) -> Option<WeightedKey<'a>> {
-    let (digits, path) = word.split_once('=')?;
-    if path.is_empty() {
-        return None;
+// What `WEIGHT=PATH,PATH..` says. The first `=` ends the weight, so a path may have one, but it can have no comma.
+fn weighted_replica<'a>(alloc: Global, word: &'a str) -> Result<WeightedReplica<'a>, WordsFault> {
+    let Some((digits, list)) = word.split_once('=') else {
+        return Err(WordsFault::Usage);
+    };
+    let Some(weight) = weight(digits) else {
+        return Err(WordsFault::Usage);
+    };
+    let mut paths = Vec::new(alloc);
+    for path in list.split(',') {
+        if path.is_empty() || paths.len() == MOST_KEYS {
+            return Err(WordsFault::Usage);
+        }
+        paths.push(path)?;
     }
-    Some(WeightedKey {
-        weight: weight(digits)?,
-        path,
-    })
+    Ok(WeightedReplica { weight, paths })
 }
 
 // R below 65,536; one worker, and one request, where no number is said.
@@ -172,6 +197,24 @@ fn audit<'a>(alloc: Global, given: &ArgMatches<'a>) -> Result<Command<'a>, Words
         folder,
         sources,
         tries,
+    })
+}
+
+fn migrate<'a>(given: &ArgMatches<'a>) -> Result<Command<'a>, WordsFault> {
+    let (Some(old), Some(new), Some(committee)) = (
+        given.get_str("OLD"),
+        given.get_str("NEW"),
+        given.get_str("COMMITTEE"),
+    ) else {
+        return Err(WordsFault::Usage);
+    };
+    if old.is_empty() || new.is_empty() || committee.is_empty() {
+        return Err(WordsFault::Usage);
+    }
+    Ok(Command::Migrate {
+        old,
+        new,
+        committee,
     })
 }
 

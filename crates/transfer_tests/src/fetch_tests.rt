@@ -21,7 +21,7 @@ fn transfer_resumes(rt: HostRuntime) {
 fn later_connections_fail(rt: HostRuntime) {
     let cut = nine_entries()
         .get(..IN_THE_FIFTH)
-        .expect(&rt, "7,536 bytes");
+        .expect(&rt, "7,540 bytes");
     // the third connect fails, as there is no third stream
     let mut source = source_of(&rt, &[(cut_in_the_fifth(), false), (b"HSL1\0\0", true)]);
     assert!(rt; gives(rt.alloc(), &mut source, 3, 4, Status::Failed));
@@ -35,7 +35,7 @@ const TRIES: [(u8, Status); 3] = [(1, Status::Cut), (2, Status::Cut), (3, Status
 fn no_more_connections_than_tries(rt: HostRuntime) {
     let cut = nine_entries()
         .get(..IN_THE_FIFTH)
-        .expect(&rt, "7,536 bytes");
+        .expect(&rt, "7,540 bytes");
     let rest = rest_from(rt.alloc(), 4).expect(&rt, "memory");
     for (tries, status) in TRIES {
         let mut source = source_of(
@@ -76,7 +76,7 @@ fn failed_at_every_byte(rt: HostRuntime) {
 
 #[test]
 fn all_frames_are_held_and_the_end_is_not(rt: HostRuntime) {
-    let mut source = cut_source(&rt, 15_374, true);
+    let mut source = cut_source(&rt, 15_383, true);
     assert!(rt; gives(rt.alloc(), &mut source, 2, 9, Status::Whole));
     assert!(rt; source.requests() == [*ALL, *b"HSL1\0\0\0\x09\0\0\x0f\xf8"].as_slice());
 }

@@ -26,7 +26,7 @@ fn pulls(
 
 #[test]
 fn pieces_of_any_size(rt: HostRuntime) {
-    for size in [1, 2, 3, 5, 1707, 1708, 15_374, 15_375] {
+    for size in [1, 2, 3, 5, 1708, 1709, 15_383, 15_384] {
         assert!(rt;
             pulls(rt.alloc(), 0, nine_entries(), size, 9, Status::Whole),
             "{size}"

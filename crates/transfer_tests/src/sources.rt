@@ -9,11 +9,11 @@ use log_transfer::{Connector, MemoryConnector, Payload, fetch};
 use std::alloc::{AllocError, Global};
 use std::process::Abort;
 
-// The bytes of each frame of the stored export: a length of 4 bytes and a payload of 1,703.
-const FRAME: usize = 1707;
+// The bytes of each frame of the stored export: a length of 4 bytes and a payload of 1,704.
+const FRAME: usize = 1708;
 
 /// Where the fifth frame of the stored export is cut.
-pub(crate) const IN_THE_FIFTH: usize = 7536;
+pub(crate) const IN_THE_FIFTH: usize = 7540;
 
 /// The stored export, cut there.
 pub(crate) fn cut_in_the_fifth() -> &'static [u8] {

@@ -43,7 +43,7 @@ impl Watch for Steps {
 // Nine frames come, over a connection that is cut and one that goes on, and the watch is told of each.
 #[test]
 fn a_watch_is_told_of_each_frame(rt: HostRuntime) {
-    for cut in [0, 1711, IN_THE_FIFTH, 15_374] {
+    for cut in [0, 1712, IN_THE_FIFTH, 15_383] {
         let steps = Steps::new();
         let mut source = Watched::new(cut_source(&rt, cut, false), &steps, SOURCE);
         assert!(rt;

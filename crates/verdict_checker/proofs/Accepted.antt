@@ -11,7 +11,7 @@ use Rattle.blocks.specs.Replica.{Event, ballot_on, IsRun, votes_of, headers_of}
 use Rattle.blocks.specs.Rules.{NoRunHasADoubleVote, NoRunHasALockViolation}
 use Rattle.verdict_format.specs.Verdicts.{VotedHeaders, IsKind, verdict_kind_in, earlier_in, later_in, headers_in, verdict_length}
 use Rattle.verdict_format.specs.Proofs.{IsProof, BreaksRule, IsLockViolationBy, NoRunHasBothVotes, NoRunApartHasBothVotes, shown_by}
-use Rattle.verdict_checker.specs.Checks.{HeadersMatch, AreOfVotes, PassesAll}
+use Rattle.verdict_checker.specs.Checks.{HasKeys, HeadersMatch, AreOfVotes, PassesAll}
 
 -- ---- what each kind asks for
 
@@ -50,13 +50,14 @@ pub proof_from : (committee bytes : List ℕ) → PassesAll committee bytes → 
 proof_from committee bytes all =
     let form = all.1 in
     let claim = form.1.1.1 in
-    let signed = claim.1.1.1.1 in
+    let keys = claim.1.1.0 in
+    let signed = claim.1.1.1.1.1 in
     record {
       verdict = record { magic = form.0; kind = form.1.0; long = form.1.1.0 };
       chain = claim.0;
-      broken = claim.1.1.1.0;
-      earlier = record { known = claim.1.0; signed = signed.0 };
-      later = record { known = claim.1.0; signed = signed.1.0 };
+      broken = claim.1.1.1.1.0;
+      earlier = record { known = claim.1.0; key = keys.earlier; signed = signed.0 };
+      later = record { known = claim.1.0; key = keys.later; signed = signed.1.0 };
     }
 
 pub passes_from : (committee bytes : List ℕ) → IsProof committee bytes → PassesAll committee bytes
@@ -64,7 +65,8 @@ passes_from committee bytes p =
     let v = p.verdict in
     let long = v.long in
     let enough : 39 ≤ verdict_length (verdict_kind_in bytes) = omega arith in
-    (omega (arith, long, enough), (v.magic, (v.kind, (long, (p.chain, (p.earlier.known, (headers_of_proof bytes v.kind p.broken, (p.broken, (p.earlier.signed, (p.later.signed, tt))))))))))
+    let keys : HasKeys committee bytes = record { earlier = p.earlier.key; later = p.later.key } in
+    (omega (arith, long, enough), (v.magic, (v.kind, (long, (p.chain, (p.earlier.known, (keys, (headers_of_proof bytes v.kind p.broken, (p.broken, (p.earlier.signed, (p.later.signed, tt)))))))))))
 
 -- ---- no run has both votes
 

@@ -1,7 +1,7 @@
 //! The checker.
 
 ghost use Rattle.std.specs.Prelude.{◌≡◌, ◌<◌, ◌↔◌, IsOk, IsTrue, OnOk, IfOk, IfErr};
-ghost use Rattle.blocks.specs.Committees.{n_of};
+ghost use Rattle.blocks.specs.Committees.{n_of, keys_of};
 ghost use Rattle.blocks.specs.Replica.{ballot_on};
 ghost use Rattle.blocks.specs.Rules.{IsDoubleVote};
 ghost use Rattle.certificates.specs.Votes.{IsSignedBy};
@@ -82,15 +82,17 @@ fn breaks_rule(verdict: &VerdictView) -> bool
     }
 }
 
-// Whether the accused replica signed a vote.
+// Whether the accused replica signed a vote with the key that the vote names.
 fn is_signed(committee: &CommitteeView, replica: u16, vote: &VoteView) -> bool
-    requires { replica < n_of committee.now }
-    ensures { IsTrue result ↔ IsSignedBy committee.now replica vote.now.view vote.now.id vote.now.signature.now }
+    requires known { replica < n_of committee.now }
+    requires key { vote.now.key < keys_of committee.now replica }
+    ensures { IsTrue result ↔ IsSignedBy committee.now replica vote.now.key vote.now.view vote.now.id vote.now.signature.now }
 {
     is_signed_by(
         &LmsVerifier,
         committee,
         replica,
+        vote.key,
         &vote.ballot(),
         vote.signature,
     )
@@ -109,16 +111,21 @@ fn judge(committee: &CommitteeView, verdict: &VerdictView) -> Result<(), Refusal
     if replica >= committee.n() {
         return Err(Refusal::Replica);
     }
+    let (e, w) = (verdict.earlier(), verdict.later());
+    let keys = committee.keys(replica);
+    if e.key >= keys || w.key >= keys {
+        return Err(Refusal::KeyNumber);
+    }
     if !headers_match(verdict) {
         return Err(Refusal::HeaderMismatch);
     }
     if !breaks_rule(verdict) {
         return Err(Refusal::NoRuleBroken);
     }
-    if !is_signed(committee, replica, &verdict.earlier()) {
+    if !is_signed(committee, replica, &e) {
         return Err(Refusal::SignatureE);
     }
-    if !is_signed(committee, replica, &verdict.later()) {
+    if !is_signed(committee, replica, &w) {
         return Err(Refusal::SignatureW);
     }
     Ok(())

@@ -10,7 +10,7 @@ use verdict_format::VerdictRefusal;
 pub enum Refusal {
     /// There are fewer than 39 bytes.
     Short = 1,
-    /// They do not begin with `HSX1`.
+    /// They do not begin with `HSX2`.
     Magic = 2,
     /// The kind is neither 1 nor 2.
     Kind = 3,
@@ -20,14 +20,16 @@ pub enum Refusal {
     Chain = 5,
     /// The committee has no such replica.
     Replica = 6,
+    /// A vote names a key that the replica has not.
+    KeyNumber = 11,
     /// Of kind 2: a header is unreadable, or is not that of its vote's block, or not the parent that the
     /// earlier vote's block names, by id and view.
     HeaderMismatch = 7,
     /// The votes do not break the rule of the kind.
     NoRuleBroken = 8,
-    /// The first vote's signature does not verify.
+    /// The first vote's signature does not verify under the key that the vote names.
     SignatureE = 9,
-    /// The second vote's signature does not verify.
+    /// The second vote's signature does not verify under the key that the vote names.
     SignatureW = 10,
 }
 
@@ -50,6 +52,7 @@ impl Refusal {
             Refusal::Length => "Length",
             Refusal::Chain => "Chain",
             Refusal::Replica => "Replica",
+            Refusal::KeyNumber => "KeyNumber",
             Refusal::HeaderMismatch => "HeaderMismatch",
             Refusal::NoRuleBroken => "NoRuleBroken",
             Refusal::SignatureE => "SignatureE",

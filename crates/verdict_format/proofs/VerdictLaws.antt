@@ -1,7 +1,7 @@
 -- What is read is spelled so, and what is spelled so is read.
 use Rattle.std.proofs.Common.{◌≡◌, ℕ, ◌+◌, ◌^◌, ◌<◌, ◌≤◌, List, [], ◌∷◌, ◌++◌, length, take, drop, Option, Some, None, Result, Ok, Err, ◌⊎◌, inl, inr, refl, sym, ap, subst, ◌∙◌, append_assoc, arith}
 use Rattle.std.specs.Prelude.{codes, slice_index, IfSome, IsSome}
-use Rattle.std.proofs.lemmas.List.{drop_all, drop_more, length-append, get_or-drop, take_all}
+use Rattle.std.proofs.lemmas.List.{drop_all, length-append, take_all}
 use Rattle.byteorder.specs.Endian.{big_bytes}
 use Rattle.wire.specs.Pieces.{piece, number_at, AreBytes}
 use Rattle.wire.proofs.Numbers.{front, behind, taken, cut_last, AreBytes-piece, length-piece, piece-number_at, number_again, number_below}
@@ -9,7 +9,7 @@ use Rattle.blocks.specs.Headers.{Header, header_text}
 use Rattle.blocks.specs.HeaderReading.{header_in}
 use Rattle.blocks.specs.declared.header.HeaderRefusal.{HeaderRefusal}
 use Rattle.blocks.proofs.HeaderLaws.{header_found, header_again, length-header_text}
-use Rattle.certificates.proofs.Pieces.{two_pieces}
+use Rattle.certificates.proofs.Pieces.{two_pieces, one_byte, byte_and_piece, byte_again}
 use Rattle.verdict_format.specs.declared.parts.BoundVote.{BoundVote}
 use Rattle.verdict_format.specs.declared.parts.VerdictParts.{VerdictParts}
 use Rattle.verdict_format.specs.Verdicts.{VotedHeaders, all_read, verdict_length, verdict_kind_in, earlier_signature_in, later_signature_in, headers_in}
@@ -26,9 +26,9 @@ unfolding header_in
 no_header e p w is = rw is refl
 
 -- there are none in a text that ends before them
-pub no_headers : (bytes : List ℕ) → length bytes ≡ 3023 → headers_in bytes ≡ None
+pub no_headers : (bytes : List ℕ) → length bytes ≡ 3025 → headers_in bytes ≡ None
 unfolding headers_in
-no_headers bytes long = no_header _ _ _ (nothing_there bytes 3023 (omega arith))
+no_headers bytes long = no_header _ _ _ (nothing_there bytes 3025 (omega arith))
 
 -- the pieces of a verdict, written one after the other
 pub written : (v : VerdictParts) (a b c d e : List ℕ) → a ≡ [] → b ≡ a ++ head_text v → c ≡ b ++ bound_text v.earlier
@@ -60,23 +60,23 @@ were_read (Err r) b c h is = absurd cc
 record Shows (bytes : List ℕ) (o : Option VotedHeaders) : Type 0 where
   headers : IfSome o AreHeaders
   kind : verdict_kind_in bytes ≡ verdict_kind o
-  text : drop 3023 bytes ≡ headers_text o
+  text : drop 3025 bytes ≡ headers_text o
 
-three_shown : (bytes : List ℕ) (h : VotedHeaders) → AreBytes bytes → verdict_kind_in bytes ≡ 2 → length bytes ≡ 3275 → headers_in bytes ≡ Some h → Shows bytes (Some h)
+three_shown : (bytes : List ℕ) (h : VotedHeaders) → AreBytes bytes → verdict_kind_in bytes ≡ 2 → length bytes ≡ 3277 → headers_in bytes ≡ Some h → Shows bytes (Some h)
 unfolding headers_in
 three_shown bytes h fit two long is =
     let read = were_read _ _ _ h is in
-    let e = header_found (piece 84 bytes 3023) h.earlier (AreBytes-piece 84 bytes 3023 fit) read.earlier in
-    let p = header_found (piece 84 bytes 3107) h.parent (AreBytes-piece 84 bytes 3107 fit) read.parent in
-    let w = header_found (piece 84 bytes 3191) h.later (AreBytes-piece 84 bytes 3191 fit) read.later in
+    let e = header_found (piece 84 bytes 3025) h.earlier (AreBytes-piece 84 bytes 3025 fit) read.earlier in
+    let p = header_found (piece 84 bytes 3109) h.parent (AreBytes-piece 84 bytes 3109 fit) read.parent in
+    let w = header_found (piece 84 bytes 3193) h.later (AreBytes-piece 84 bytes 3193 fit) read.later in
     record {
       headers = record { earlier = e.0; parent = p.0; later = w.0 };
       kind = two;
-      text = taken bytes 3023 84 _ _ e.1 (taken bytes 3107 84 _ _ p.1 (cut_last bytes 3191 84 (omega arith) ∙ w.1));
+      text = taken bytes 3025 84 _ _ e.1 (taken bytes 3109 84 _ _ p.1 (cut_last bytes 3193 84 (omega arith) ∙ w.1));
     }
 
-none_shown : (bytes : List ℕ) → verdict_kind_in bytes ≡ 1 → length bytes ≡ 3023 → Shows bytes None
-none_shown bytes one long = record { headers = tt; kind = one; text = drop_all 3023 bytes (omega arith) }
+none_shown : (bytes : List ℕ) → verdict_kind_in bytes ≡ 1 → length bytes ≡ 3025 → Shows bytes None
+none_shown bytes one long = record { headers = tt; kind = one; text = drop_all 3025 bytes (omega arith) }
 
 some_of : (o : Option VotedHeaders) → IsSome o → (h : VotedHeaders) × (o ≡ Some h)
 some_of (Some h) is = (h, refl)
@@ -88,7 +88,7 @@ long_as bytes kind is long = subst (λ (k : ℕ). length bytes ≡ verdict_lengt
 shown : (bytes : List ℕ) → AreBytes bytes → ((verdict_kind_in bytes ≡ 1) ⊎ (verdict_kind_in bytes ≡ 2)) → length bytes ≡ verdict_length (verdict_kind_in bytes)
     → HeadersAreReadable bytes → Shows bytes (headers_in bytes)
 shown bytes fit (inl one) long readable =
-    let exact : length bytes ≡ 3023 = long_as bytes 1 one long in
+    let exact : length bytes ≡ 3025 = long_as bytes 1 one long in
     subst (λ (o : Option VotedHeaders). Shows bytes o) (sym (no_headers bytes exact)) (none_shown bytes one exact)
 shown bytes fit (inr two) long readable =
     let some = some_of (headers_in bytes) (readable two) in
@@ -96,19 +96,20 @@ shown bytes fit (inr two) long readable =
 
 -- ---- what is read is spelled so
 
-bound_there : (bytes : List ℕ) (at : ℕ) → AreBytes bytes → at + 1492 ≤ length bytes
-    → piece 1492 bytes at ≡ big_bytes 8 (number_at 8 bytes at) ++ (piece 32 bytes (at + 8) ++ piece 1452 bytes (at + 40))
+bound_there : (bytes : List ℕ) (at : ℕ) → AreBytes bytes → at + 1493 ≤ length bytes
+    → piece 1493 bytes at ≡ slice_index bytes at ∷ (big_bytes 8 (number_at 8 bytes (at + 1)) ++ (piece 32 bytes (at + 9) ++ piece 1452 bytes (at + 41)))
 bound_there bytes at fit long =
-    let place : at + 8 + 32 ≡ at + 40 = omega arith in
-    sym (two_pieces bytes at 8 1484)
-    ∙ ap (λ (t : List ℕ). piece 8 bytes at ++ t) (sym (two_pieces bytes (at + 8) 32 1452) ∙ ap (λ (k : ℕ). piece 32 bytes (at + 8) ++ piece 1452 bytes k) place)
-    ∙ ap (λ (t : List ℕ). t ++ (piece 32 bytes (at + 8) ++ piece 1452 bytes (at + 40))) (piece-number_at 8 bytes at fit (omega arith))
+    let id_place : at + 1 + 8 ≡ at + 9 = omega arith in
+    let place : at + 9 + 32 ≡ at + 41 = omega arith in
+    sym (byte_and_piece bytes at 1492 (omega arith))
+    ∙ ap (λ (t : List ℕ). slice_index bytes at ∷ t) (
+    sym (two_pieces bytes (at + 1) 8 1484)
+    ∙ ap (λ (k : ℕ). piece 8 bytes (at + 1) ++ piece 1484 bytes k) id_place
+    ∙ ap (λ (t : List ℕ). piece 8 bytes (at + 1) ++ t) (sym (two_pieces bytes (at + 9) 32 1452) ∙ ap (λ (k : ℕ). piece 32 bytes (at + 9) ++ piece 1452 bytes k) place)
+    ∙ ap (λ (t : List ℕ). t ++ (piece 32 bytes (at + 9) ++ piece 1452 bytes (at + 41))) (piece-number_at 8 bytes (at + 1) fit (omega arith)))
 
-one_byte : (bytes : List ℕ) (at : ℕ) → at < length bytes → piece 1 bytes at ≡ slice_index bytes at ∷ []
-one_byte bytes at below = ap (take 1) (drop_more bytes at 0 below)
-
-head_there : (bytes : List ℕ) (kind : ℕ) → AreBytes bytes → 39 ≤ length bytes → piece 4 bytes 0 ≡ codes "HSX1" → verdict_kind_in bytes ≡ kind
-    → piece 39 bytes 0 ≡ codes "HSX1" ++ (piece 32 bytes 4 ++ (big_bytes 2 (number_at 2 bytes 36) ++ kind ∷ []))
+head_there : (bytes : List ℕ) (kind : ℕ) → AreBytes bytes → 39 ≤ length bytes → piece 4 bytes 0 ≡ codes "HSX2" → verdict_kind_in bytes ≡ kind
+    → piece 39 bytes 0 ≡ codes "HSX2" ++ (piece 32 bytes 4 ++ (big_bytes 2 (number_at 2 bytes 36) ++ kind ∷ []))
 head_there bytes kind_is fit long magic kind =
     let last : piece 1 bytes 38 ≡ kind_is ∷ [] = one_byte bytes 38 (omega arith) ∙ ap (λ (k : ℕ). k ∷ []) kind in
     let replica : piece 2 bytes 36 ≡ big_bytes 2 (number_at 2 bytes 36) = piece-number_at 2 bytes 36 fit (omega arith) in
@@ -120,28 +121,28 @@ head_there bytes kind_is fit long magic kind =
 pub verdict_found : (bytes : List ℕ) → AreBytes bytes → IsReadableVerdict bytes → HeadersAreReadable bytes → IsVerdictOf bytes (parts_in bytes)
 unfolding verdict_text head_text earlier_signature_in later_signature_in
 verdict_found bytes fit readable headers =
-    let magic : piece 4 bytes 0 ≡ codes "HSX1" = readable.1.0 in
+    let magic : piece 4 bytes 0 ≡ codes "HSX2" = readable.1.0 in
     let long : length bytes ≡ verdict_length (verdict_kind_in bytes) = readable.1.1.1.0 in
-    let enough : 3023 ≤ verdict_length (verdict_kind_in bytes) = omega arith in
-    let votes : 3023 ≤ length bytes = omega (arith, long, enough) in
+    let enough : 3025 ≤ verdict_length (verdict_kind_in bytes) = omega arith in
+    let votes : 3025 ≤ length bytes = omega (arith, long, enough) in
     let behind_votes = shown bytes fit readable.1.1.0 long headers in
     record {
       parts = record {
         chain = length-piece 32 bytes 4 (omega arith);
         replica = number_below 2 bytes 36 fit;
-        earlier = record { view = number_below 8 bytes 39 fit; id = length-piece 32 bytes 47 (omega arith); signature = length-piece 1452 bytes 79 (omega arith) };
-        later = record { view = number_below 8 bytes 1531 fit; id = length-piece 32 bytes 1539 (omega arith); signature = length-piece 1452 bytes 1571 (omega arith) };
+        earlier = record { key = fit 39; view = number_below 8 bytes 40 fit; id = length-piece 32 bytes 48 (omega arith); signature = length-piece 1452 bytes 80 (omega arith) };
+        later = record { key = fit 1532; view = number_below 8 bytes 1533 fit; id = length-piece 32 bytes 1541 (omega arith); signature = length-piece 1452 bytes 1573 (omega arith) };
         headers = behind_votes.headers;
       };
       text =
           taken bytes 0 39 _ _ (head_there bytes (verdict_kind (headers_in bytes)) fit (omega arith) magic behind_votes.kind) (
-          taken bytes 39 1492 _ _ (bound_there bytes 39 fit (omega arith)) (
-          taken bytes 1531 1492 _ _ (bound_there bytes 1531 fit (omega arith)) behind_votes.text));
+          taken bytes 39 1493 _ _ (bound_there bytes 39 fit (omega arith)) (
+          taken bytes 1532 1493 _ _ (bound_there bytes 1532 fit (omega arith)) behind_votes.text));
     }
 
 -- ---- what is spelled so is read
 
-length-bound_text : (v : BoundVote) → IsBoundVote v → length (bound_text v) ≡ 1492
+length-bound_text : (v : BoundVote) → IsBoundVote v → length (bound_text v) ≡ 1493
 length-bound_text v is =
     let id = is.id in
     let signature = is.signature in
@@ -150,21 +151,25 @@ length-bound_text v is =
 
 -- where a vote stands, its fields are read, and the rest stands behind it
 record ReadsVote (text : List ℕ) (at : ℕ) (v : BoundVote) (rest : List ℕ) : Type 0 where
-  view : number_at 8 text at ≡ v.view
-  id : piece 32 text (at + 8) ≡ v.id
-  signature : piece 1452 text (at + 8 + 32) ≡ v.signature
-  rest_is : drop (at + 8 + 32 + 1452) text ≡ rest
+  key : slice_index text at ≡ v.key
+  view : number_at 8 text (at + 1) ≡ v.view
+  id : piece 32 text (at + 1 + 8) ≡ v.id
+  signature : piece 1452 text (at + 1 + 8 + 32) ≡ v.signature
+  rest_is : drop (at + 1 + 8 + 32 + 1452) text ≡ rest
 
 reads_vote : (text : List ℕ) (at : ℕ) (v : BoundVote) (rest : List ℕ) → IsBoundVote v → drop at text ≡ bound_text v ++ rest → ReadsVote text at v rest
 reads_vote text at v rest is here =
-    let grouped : drop at text ≡ big_bytes 8 v.view ++ (v.id ++ (v.signature ++ rest)) = here ∙ ap (λ (t : List ℕ). big_bytes 8 v.view ++ t) (append_assoc v.id v.signature rest) in
-    let second = behind text at 8 (big_bytes 8 v.view) (v.id ++ (v.signature ++ rest)) grouped refl in
-    let third = behind text (at + 8) 32 v.id (v.signature ++ rest) second is.id in
+    let after : List ℕ = v.id ++ (v.signature ++ rest) in
+    let grouped : drop at text ≡ v.key ∷ (big_bytes 8 v.view ++ after) = here ∙ ap (λ (t : List ℕ). v.key ∷ (big_bytes 8 v.view ++ t)) (append_assoc v.id v.signature rest) in
+    let first = behind text at 1 (v.key ∷ []) (big_bytes 8 v.view ++ after) grouped refl in
+    let second = behind text (at + 1) 8 (big_bytes 8 v.view) after first refl in
+    let third = behind text (at + 1 + 8) 32 v.id (v.signature ++ rest) second is.id in
     record {
-      view = number_again 8 text at v.view is.view (front text at 8 (big_bytes 8 v.view) (v.id ++ (v.signature ++ rest)) grouped refl);
-      id = front text (at + 8) 32 v.id (v.signature ++ rest) second is.id;
-      signature = front text (at + 8 + 32) 1452 v.signature rest third is.signature;
-      rest_is = behind text (at + 8 + 32) 1452 v.signature rest third is.signature;
+      key = byte_again text at v.key (big_bytes 8 v.view ++ after) grouped;
+      view = number_again 8 text (at + 1) v.view is.view (front text (at + 1) 8 (big_bytes 8 v.view) after first refl);
+      id = front text (at + 1 + 8) 32 v.id (v.signature ++ rest) second is.id;
+      signature = front text (at + 1 + 8 + 32) 1452 v.signature rest third is.signature;
+      rest_is = behind text (at + 1 + 8 + 32) 1452 v.signature rest third is.signature;
     }
 
 length-head_text : (v : VerdictParts) → length v.chain ≡ 32 → length (head_text v) ≡ 39
@@ -173,7 +178,7 @@ length-head_text v chain = let both = length-append v.chain (big_bytes 2 v.repli
 
 -- the fields of the head
 record ReadsHead (text : List ℕ) (v : VerdictParts) (rest : List ℕ) : Type 0 where
-  magic : piece 4 text 0 ≡ codes "HSX1"
+  magic : piece 4 text 0 ≡ codes "HSX2"
   chain : piece 32 text 4 ≡ v.chain
   replica : number_at 2 text 36 ≡ v.replica
   kind : verdict_kind_in text ≡ verdict_kind v.headers
@@ -184,23 +189,25 @@ unfolding head_text
 reads_head text v rest chain replica here =
     let k : ℕ = verdict_kind v.headers in
     let after : List ℕ = big_bytes 2 v.replica ++ (k ∷ rest) in
-    let grouped : drop 0 text ≡ codes "HSX1" ++ (v.chain ++ after) = here ∙ ap (λ (t : List ℕ). codes "HSX1" ++ t) (append_assoc v.chain (big_bytes 2 v.replica ++ k ∷ []) rest) in
-    let second = behind text 0 4 (codes "HSX1") (v.chain ++ after) grouped refl in
+    let grouped : drop 0 text ≡ codes "HSX2" ++ (v.chain ++ after) = here ∙ ap (λ (t : List ℕ). codes "HSX2" ++ t) (append_assoc v.chain (big_bytes 2 v.replica ++ k ∷ []) rest) in
+    let second = behind text 0 4 (codes "HSX2") (v.chain ++ after) grouped refl in
     let third = behind text 4 32 v.chain after second chain in
     let fourth = behind text 36 2 (big_bytes 2 v.replica) (k ∷ rest) third refl in
     record {
-      magic = front text 0 4 (codes "HSX1") (v.chain ++ after) grouped refl;
+      magic = front text 0 4 (codes "HSX2") (v.chain ++ after) grouped refl;
       chain = front text 4 32 v.chain after second chain;
       replica = number_again 2 text 36 v.replica replica (front text 36 2 (big_bytes 2 v.replica) (k ∷ rest) third refl);
-      kind = sym (get_or-drop 38 text 0 0) ∙ ap (λ (t : List ℕ). slice_index t 0) fourth;
+      kind = byte_again text 38 k rest fourth;
       rest_is = behind text 38 1 (k ∷ []) rest fourth refl;
     }
 
-abbrev vote_from : ℕ → List ℕ → List ℕ → BoundVote
-vote_from view id signature = record { view = view; id = id; signature = signature }
+abbrev vote_from : ℕ → ℕ → List ℕ → List ℕ → BoundVote
+vote_from key view id signature = record { key = key; view = view; id = id; signature = signature }
 
-same_vote : (v : BoundVote) (n : ℕ) (i s : List ℕ) → n ≡ v.view → i ≡ v.id → s ≡ v.signature → vote_from n i s ≡ v
-same_vote v n i s p q r = ap (λ (x : ℕ). vote_from x i s) p ∙ ap (λ (x : List ℕ). vote_from v.view x s) q ∙ ap (vote_from v.view v.id) r
+same_vote : (v : BoundVote) (k n : ℕ) (i s : List ℕ) → k ≡ v.key → n ≡ v.view → i ≡ v.id → s ≡ v.signature → vote_from k n i s ≡ v
+same_vote v k n i s o p q r =
+    ap (λ (x : ℕ). vote_from x n i s) o ∙ ap (λ (x : ℕ). vote_from v.key x i s) p ∙ ap (λ (x : List ℕ). vote_from v.key v.view x s) q
+    ∙ ap (vote_from v.key v.view v.id) r
 
 abbrev parts_from : List ℕ → ℕ → BoundVote → BoundVote → Option VotedHeaders → VerdictParts
 parts_from chain replica e w headers = record { chain = chain; replica = replica; earlier = e; later = w; headers = headers }
@@ -212,18 +219,18 @@ same_of v c r e w h p q s t u =
     ∙ ap (parts_from v.chain v.replica v.earlier v.later) u
 
 -- where three headers stand last they are read
-reads_headers : (text : List ℕ) (h : VotedHeaders) → AreHeaders h → drop 3023 text ≡ headers_text (Some h) → headers_in text ≡ Some h
+reads_headers : (text : List ℕ) (h : VotedHeaders) → AreHeaders h → drop 3025 text ≡ headers_text (Some h) → headers_in text ≡ Some h
 unfolding headers_in
 reads_headers text h is here =
     let e = header_text h.earlier in
     let p = header_text h.parent in
     let w = header_text h.later in
     let long = length-header_text h.earlier is.earlier in
-    let second = behind text 3023 84 e (p ++ w) here long in
-    let third = behind text 3107 84 p w second (length-header_text h.parent is.parent) in
-    let last : piece 84 text 3191 ≡ w = ap (take 84) third ∙ take_all 84 w (omega (arith, length-header_text h.later is.later)) in
-    let earlier = ap header_in (front text 3023 84 e (p ++ w) here long) ∙ header_again h.earlier is.earlier in
-    let parent = ap header_in (front text 3107 84 p w second (length-header_text h.parent is.parent)) ∙ header_again h.parent is.parent in
+    let second = behind text 3025 84 e (p ++ w) here long in
+    let third = behind text 3109 84 p w second (length-header_text h.parent is.parent) in
+    let last : piece 84 text 3193 ≡ w = ap (take 84) third ∙ take_all 84 w (omega (arith, length-header_text h.later is.later)) in
+    let earlier = ap header_in (front text 3025 84 e (p ++ w) here long) ∙ header_again h.earlier is.earlier in
+    let parent = ap header_in (front text 3109 84 p w second (length-header_text h.parent is.parent)) ∙ header_again h.parent is.parent in
     let later = ap header_in last ∙ header_again h.later is.later in
     rw (earlier, parent, later) refl
 
@@ -233,7 +240,7 @@ record EndsWith (text : List ℕ) (o : Option VotedHeaders) : Type 0 where
   long : length text ≡ verdict_length (verdict_kind o)
   headers : headers_in text ≡ o
 
-ends_with : (text : List ℕ) (o : Option VotedHeaders) → IfSome o AreHeaders → length text ≡ 3023 + length (headers_text o) → drop 3023 text ≡ headers_text o → EndsWith text o
+ends_with : (text : List ℕ) (o : Option VotedHeaders) → IfSome o AreHeaders → length text ≡ 3025 + length (headers_text o) → drop 3025 text ≡ headers_text o → EndsWith text o
 ends_with text None are long here = record { kind = inl refl; long = long; headers = no_headers text long }
 ends_with text (Some h) are long here =
     let e = header_text h.earlier in
@@ -252,19 +259,19 @@ verdict_again text v is =
     let last = headers_text v.headers in
     let head = reads_head text v (bound_text v.earlier ++ (bound_text v.later ++ last)) parts.chain parts.replica is.text in
     let first = reads_vote text 39 v.earlier (bound_text v.later ++ last) parts.earlier head.rest_is in
-    let second = reads_vote text 1531 v.later last parts.later first.rest_is in
+    let second = reads_vote text 1532 v.later last parts.later first.rest_is in
     let a = length-head_text v parts.chain in
     let b = length-bound_text v.earlier parts.earlier in
     let c = length-bound_text v.later parts.later in
     let whole : length text ≡ length (head_text v ++ (bound_text v.earlier ++ (bound_text v.later ++ last))) = ap length is.text in
-    let long : length text ≡ 3023 + length last =
+    let long : length text ≡ 3025 + length last =
     omega (arith, length-append (head_text v) (bound_text v.earlier ++ (bound_text v.later ++ last)), length-append (bound_text v.earlier) (bound_text v.later ++ last), length-append (bound_text v.later) last)
     in
     let end = ends_with text v.headers parts.headers long second.rest_is in
     let kind = subst (λ (k : ℕ). (k ≡ 1) ⊎ (k ≡ 2)) (sym head.kind) end.kind in
     let right : length text ≡ verdict_length (verdict_kind_in text) = end.long ∙ sym (ap verdict_length head.kind) in (
       (omega arith, (head.magic, (kind, (right, tt)))),
-      same_of v _ _ _ _ _ head.chain head.replica (same_vote v.earlier _ _ _ first.view first.id first.signature) (same_vote v.later _ _ _ second.view second.id second.signature) end.headers,
+      same_of v _ _ _ _ _ head.chain head.replica (same_vote v.earlier _ _ _ _ first.key first.view first.id first.signature) (same_vote v.later _ _ _ _ second.key second.view second.id second.signature) end.headers,
     )
 
 -- the rule that a written verdict names

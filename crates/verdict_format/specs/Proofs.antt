@@ -25,7 +25,8 @@ BreaksRule bytes =
     (IsDoubleVote (earlier_in bytes) (later_in bytes))
     (IsSomeAnd (headers_in bytes) (IsLockViolationBy (earlier_in bytes) (later_in bytes)))
 
--- a verdict on the committee's chain, with two good votes of one replica that break the rule it names
+-- a verdict on the committee's chain, with two good votes of one replica that break the rule it names: each is signed with
+-- the key of the replica that the vote names
 pub record IsProof (committee bytes : List ℕ) : Type 0 where
   pub verdict : IsVerdict bytes
   pub chain : chain_in bytes ≡ chain_id_of committee

@@ -10,7 +10,7 @@ use Rattle.verdict_format.specs.Verdicts.{verdict_kind_in, IsKind, verdict_lengt
 -- what each refusal tests
 abbrev pub HasForm : List ℕ → VerdictRefusal → Type 0
 HasForm bytes Short = EARLIER_AT ≤ length bytes
-HasForm bytes Magic = piece 4 bytes 0 ≡ codes "HSX1"
+HasForm bytes Magic = piece 4 bytes 0 ≡ codes "HSX2"
 HasForm bytes Kind = IsKind (verdict_kind_in bytes)
 HasForm bytes Length = length bytes ≡ verdict_length (verdict_kind_in bytes)
 

@@ -5,12 +5,13 @@ use Rattle.byteorder.specs.Endian.{big_bytes}
 use Rattle.blocks.specs.Headers.{IsHeader, header_text}
 use Rattle.verdict_format.specs.declared.parts.BoundVote.{BoundVote}
 use Rattle.verdict_format.specs.declared.parts.VerdictParts.{VerdictParts}
-use Rattle.verdict_format.specs.Verdicts.{VotedHeaders, verdict_kind_in, chain_in, replica_in, earlier_in, later_in, earlier_signature_in, later_signature_in, headers_in}
+use Rattle.verdict_format.specs.Verdicts.{VotedHeaders, verdict_kind_in, chain_in, replica_in, earlier_in, later_in, earlier_key_in, later_key_in, earlier_signature_in, later_signature_in, headers_in}
 
 -- ---- which verdicts there are
 
 -- a vote that has bytes
 pub record IsBoundVote (v : BoundVote) : Type 0 where
+  pub key : v.key < 2 ^ 8
   pub view : v.view < 2 ^ 64
   pub id : length v.id ≡ 32
   pub signature : length v.signature ≡ SIGNATURE_LEN
@@ -31,9 +32,9 @@ pub record AreParts (v : VerdictParts) : Type 0 where
 
 -- ---- the bytes of a verdict
 
--- a vote's view, id and signature
+-- a vote's key, view, id and signature
 abbrev pub bound_text : BoundVote → List ℕ
-bound_text v = big_bytes 8 v.view ++ (v.id ++ v.signature)
+bound_text v = v.key ∷ (big_bytes 8 v.view ++ (v.id ++ v.signature))
 
 -- the headers one after the other, if there are any
 abbrev pub headers_text : Option VotedHeaders → List ℕ
@@ -45,9 +46,9 @@ abbrev pub verdict_kind : Option VotedHeaders → ℕ
 verdict_kind None = 1
 verdict_kind (Some h) = 2
 
--- "HSX1", the chain, the replica, and the rule that it broke
+-- "HSX2", the chain, the replica, and the rule that it broke
 unfoldable pub head_text : VerdictParts → List ℕ
-head_text v = codes "HSX1" ++ (v.chain ++ (big_bytes 2 v.replica ++ verdict_kind v.headers ∷ []))
+head_text v = codes "HSX2" ++ (v.chain ++ (big_bytes 2 v.replica ++ verdict_kind v.headers ∷ []))
 
 -- the head, the two votes, and the headers
 unfoldable pub verdict_text : VerdictParts → List ℕ
@@ -68,7 +69,7 @@ abbrev pub parts_in : List ℕ → VerdictParts
 parts_in bytes = record {
   chain = chain_in bytes;
   replica = replica_in bytes;
-  earlier = record { view = (earlier_in bytes).view; id = (earlier_in bytes).id; signature = earlier_signature_in bytes };
-  later = record { view = (later_in bytes).view; id = (later_in bytes).id; signature = later_signature_in bytes };
+  earlier = record { key = earlier_key_in bytes; view = (earlier_in bytes).view; id = (earlier_in bytes).id; signature = earlier_signature_in bytes };
+  later = record { key = later_key_in bytes; view = (later_in bytes).view; id = (later_in bytes).id; signature = later_signature_in bytes };
   headers = headers_in bytes;
 }

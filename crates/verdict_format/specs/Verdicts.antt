@@ -6,7 +6,7 @@ use Rattle.blocks.specs.Headers.{Header}
 use Rattle.blocks.specs.HeaderReading.{header_in}
 use Rattle.lms_tree.specs.declared.TheConstants.{SIGNATURE_LEN}
 use Rattle.blocks.specs.declared.ballot.Ballot.{Ballot}
-use Rattle.verdict_format.specs.declared.verdict.TheConstants.{CHAIN_AT, EARLIER_AT, HEADERS_AT, ID_IN_VOTE, KIND_AT, LATER_AT, REPLICA_AT, SIGNATURE_IN_VOTE}
+use Rattle.verdict_format.specs.declared.verdict.TheConstants.{CHAIN_AT, EARLIER_AT, HEADERS_AT, ID_IN_VOTE, KIND_AT, LATER_AT, REPLICA_AT, SIGNATURE_IN_VOTE, VIEW_IN_VOTE}
 
 -- ---- what each verdict says
 
@@ -24,7 +24,7 @@ verdict_kind_in bytes = slice_index bytes KIND_AT
 
 -- the view and the id of the vote that stands here
 abbrev pub ballot_at : List ℕ → ℕ → Ballot
-ballot_at bytes at = record { view = number_at 8 bytes at; id = piece 32 bytes (at + ID_IN_VOTE) }
+ballot_at bytes at = record { view = number_at 8 bytes (at + VIEW_IN_VOTE); id = piece 32 bytes (at + ID_IN_VOTE) }
 
 -- its two votes; of a lock violation the first is the earlier, of a double vote either is
 abbrev pub earlier_in : List ℕ → Ballot
@@ -33,6 +33,13 @@ earlier_in bytes = ballot_at bytes EARLIER_AT
 abbrev pub later_in : List ℕ → Ballot
 later_in bytes = ballot_at bytes LATER_AT
 
+-- the numbers of the replica's keys that signed them
+abbrev pub earlier_key_in : List ℕ → ℕ
+earlier_key_in bytes = slice_index bytes EARLIER_AT
+
+abbrev pub later_key_in : List ℕ → ℕ
+later_key_in bytes = slice_index bytes LATER_AT
+
 -- and their signatures
 unfoldable pub earlier_signature_in : List ℕ → List ℕ
 earlier_signature_in bytes = piece SIGNATURE_LEN bytes (EARLIER_AT + SIGNATURE_IN_VOTE)
@@ -40,15 +47,15 @@ earlier_signature_in bytes = piece SIGNATURE_LEN bytes (EARLIER_AT + SIGNATURE_I
 unfoldable pub later_signature_in : List ℕ → List ℕ
 later_signature_in bytes = piece SIGNATURE_LEN bytes (LATER_AT + SIGNATURE_IN_VOTE)
 
--- a vote with the number of its replica and its signature
-abbrev pub signed_by : ℕ → Ballot → List ℕ → SignedVote
-signed_by replica vote signature = record { replica = replica; view = vote.view; id = vote.id; signature = signature }
+-- a vote with the numbers of its replica and its key, and its signature
+abbrev pub signed_by : ℕ → ℕ → Ballot → List ℕ → SignedVote
+signed_by replica key vote signature = record { replica = replica; view = vote.view; id = vote.id; key = key; signature = signature }
 
 abbrev pub earlier_vote_in : List ℕ → SignedVote
-earlier_vote_in bytes = signed_by (replica_in bytes) (earlier_in bytes) (earlier_signature_in bytes)
+earlier_vote_in bytes = signed_by (replica_in bytes) (earlier_key_in bytes) (earlier_in bytes) (earlier_signature_in bytes)
 
 abbrev pub later_vote_in : List ℕ → SignedVote
-later_vote_in bytes = signed_by (replica_in bytes) (later_in bytes) (later_signature_in bytes)
+later_vote_in bytes = signed_by (replica_in bytes) (later_key_in bytes) (later_in bytes) (later_signature_in bytes)
 
 -- ---- what a verdict of a lock violation says besides
 
@@ -81,6 +88,6 @@ verdict_length kind = HEADERS_AT + (if kind == 2 then 252 else 0)
 
 -- these bytes have the form of a verdict
 pub record IsVerdict (bytes : List ℕ) : Type 0 where
-  pub magic : piece 4 bytes 0 ≡ codes "HSX1"
+  pub magic : piece 4 bytes 0 ≡ codes "HSX2"
   pub kind : IsKind (verdict_kind_in bytes)
   pub long : length bytes ≡ verdict_length (verdict_kind_in bytes)

@@ -14,11 +14,13 @@ use wire::append;
 /// A vote of the accused replica.
 #[derive(Clone, Copy, Debug)]
 pub struct BoundVote {
+    /// The number of the replica's key that signed, from 0.
+    pub key: u8,
     /// The block's view.
     pub view: u64,
     /// The block's id.
     pub id: Id,
-    /// The LMS signature of the statement, 1,452 bytes (RFC 8554, section 5.4).
+    /// The LMS signature of the statement under that key, 1,452 bytes (RFC 8554, section 5.4).
     pub signature: Signature,
 }
 
@@ -77,7 +79,7 @@ fn put_head(text: &mut Vec<u8>, parts: &VerdictParts) -> Result<(), AllocError>
     ensures chain { length parts.now.chain ≡ 32 }
     ensures replica { OnOk result (parts.now.replica < 2 ^ 16) }
 {
-    append(text, b"HSX1")?;
+    append(text, b"HSX2")?;
     append(text, &parts.chain)?;
     append(text, &parts.replica.to_be_bytes())?;
     append(text, &[parts.rule().number()])?;
@@ -89,7 +91,9 @@ fn put_vote(text: &mut Vec<u8>, vote: &BoundVote) -> Result<(), AllocError>
     ensures text { OnOk result (text.new.items ≡ text.old.items ++ bound_text vote.now) }
     ensures is_vote { IsBoundVote vote.now }
 {
-    append(text, &vote.view.to_be_bytes())?;
+    let view = vote.view.to_be_bytes();
+    append(text, &vote.key.to_be_bytes())?;
+    append(text, &view)?;
     append(text, &vote.id)?;
     append(text, &vote.signature)?;
     Ok(())
@@ -109,7 +113,7 @@ fn put_headers(text: &mut Vec<u8>, headers: &Option<VotedHeaders>) -> Result<(),
     Ok(())
 }
 
-/// The bytes of a verdict, 3,023 of a double vote and 3,275 of a lock violation, laid out as
+/// The bytes of a verdict, 3,025 of a double vote and 3,277 of a lock violation, laid out as
 /// `VerdictView::parse` reads them. Answers an error where memory for them is refused.
 #[tactic(auto, unfolding(crate::specs::VerdictText::verdict_text))]
 pub fn write_verdict(alloc: Global, parts: &VerdictParts) -> Result<Vec<u8>, AllocError>

@@ -1,7 +1,7 @@
 //! Verdicts, read in place.
 
 ghost use Rattle.std.specs.Prelude.{◌≡◌, ◌+◌, ◌≤◌, Ok, IfOk, IfErr, OnOk, MatchOption, length};
-ghost use Rattle.verdict_format.specs.Verdicts.{chain_in, replica_in, verdict_kind_in, earlier_in, later_in, earlier_signature_in, later_signature_in, all_read, headers_in, verdict_length, IsKind};
+ghost use Rattle.verdict_format.specs.Verdicts.{chain_in, replica_in, verdict_kind_in, earlier_in, later_in, earlier_key_in, later_key_in, earlier_signature_in, later_signature_in, all_read, headers_in, verdict_length, IsKind};
 ghost use Rattle.verdict_format.specs.RuleNumbers.{rule_number};
 ghost use Rattle.blocks.specs.HeaderReading.{header_in};
 ghost use Rattle.wire.specs.Pieces.{piece};
@@ -27,13 +27,15 @@ pub(crate) const LATER_AT: usize = EARLIER_AT + BOUND_VOTE_LEN;
 
 pub(crate) const HEADERS_AT: usize = LATER_AT + BOUND_VOTE_LEN;
 
-// The length in bytes of a vote that leaves its replica to the head: view, id and signature.
-pub(crate) const BOUND_VOTE_LEN: usize = 1492;
+// The length in bytes of a vote that leaves its replica to the head: key, view, id and signature.
+pub(crate) const BOUND_VOTE_LEN: usize = 1493;
 
-// Where its id and its signature stand in it.
-pub(crate) const ID_IN_VOTE: usize = 8;
+// Where its view, its id and its signature stand in it, behind its key.
+pub(crate) const VIEW_IN_VOTE: usize = 1;
 
-pub(crate) const SIGNATURE_IN_VOTE: usize = 40;
+pub(crate) const ID_IN_VOTE: usize = 9;
+
+pub(crate) const SIGNATURE_IN_VOTE: usize = 41;
 
 /// The length in bytes of a verdict of kind 1: the head and two votes.
 const DOUBLE_VOTE_LEN: usize = HEADERS_AT;
@@ -46,11 +48,11 @@ const LOCK_VIOLATION_LEN: usize = DOUBLE_VOTE_LEN + 3 * HEADER_LEN;
 pub enum VerdictRefusal {
     /// There are fewer than 39 bytes.
     Short = 1,
-    /// They do not begin with `HSX1`.
+    /// They do not begin with `HSX2`.
     Magic = 2,
     /// The byte at 38 is neither 1 nor 2.
     Kind = 3,
-    /// They are not 3,023 of kind 1, or 3,275 of kind 2.
+    /// They are not 3,025 of kind 1, or 3,277 of kind 2.
     Length = 4,
 }
 
@@ -105,6 +107,8 @@ impl Rule {
 /// A vote in a verdict. The signature is lent by the verdict's bytes.
 #[derive(Clone, Copy)]
 pub struct VoteView<'a> {
+    /// The number of the replica's key that signed, from 0. Any number is read.
+    pub key: u8,
     pub view: u64,
     pub id: Id,
     pub signature: &'a [u8],
@@ -141,11 +145,11 @@ impl<'a> Model for VerdictView<'a> {
 }
 
 impl<'a> VerdictView<'a> {
-    /// The verdict that the bytes spell: `HSX1`, the chain id (32 bytes at 4), the accused replica (2 at
-    /// 36), the kind (1 at 38), two votes (at 39 and 1,531), each a view (8), an id (32) and a signature
-    /// (1,452), and of kind 2 three headers (84 each at 3,023), numbers with the highest byte first.
-    /// Nothing is copied, no signature is checked, and the headers may be unreadable. Refused in this
-    /// order: Short, Magic, Kind, Length.
+    /// The verdict that the bytes spell: `HSX2`, the chain id (32 bytes at 4), the accused replica (2 at
+    /// 36), the kind (1 at 38), two votes (at 39 and 1,532), each the number of a key (1), a view (8), an id
+    /// (32) and a signature (1,452), and of kind 2 three headers (84 each from 3,025), numbers with the
+    /// highest byte first. Nothing is copied, any number of a key is read, no signature is checked, and the
+    /// headers may be unreadable. Refused in this order: Short, Magic, Kind, Length.
     pub fn parse(bytes: &'a [u8]) -> Result<VerdictView<'a>, VerdictRefusal>
         ensures ok { IfOk result (λ v. (v ≡ bytes.now) × IsReadableVerdict bytes.now) }
 
@@ -161,7 +165,7 @@ impl<'a> VerdictView<'a> {
         if bytes.len() < EARLIER_AT {
             return Err(VerdictRefusal::Short);
         }
-        if !bytes.starts_with(b"HSX1") {
+        if !bytes.starts_with(b"HSX2") {
             return Err(VerdictRefusal::Magic);
         }
         let Some(rule) = Rule::of_kind(bytes[KIND_AT]) else {
@@ -199,12 +203,14 @@ impl<'a> VerdictView<'a> {
 
     /// The first of the two votes.
     pub fn earlier(&self) -> VoteView<'a>
+        ensures key { result.key ≡ earlier_key_in self.now }
         ensures view { result.view ≡ (earlier_in self.now).view }
         ensures id { result.id ≡ (earlier_in self.now).id }
         ensures signature { result.signature.now ≡ earlier_signature_in self.now }
     {
         VoteView {
-            view: u64_at(self.bytes, EARLIER_AT),
+            key: self.bytes[EARLIER_AT],
+            view: u64_at(self.bytes, EARLIER_AT + VIEW_IN_VOTE),
             id: array_at(self.bytes, EARLIER_AT + ID_IN_VOTE),
             signature: &self.bytes[EARLIER_AT + SIGNATURE_IN_VOTE..LATER_AT],
         }
@@ -212,19 +218,21 @@ impl<'a> VerdictView<'a> {
 
     /// The second of the two votes.
     pub fn later(&self) -> VoteView<'a>
+        ensures key { result.key ≡ later_key_in self.now }
         ensures view { result.view ≡ (later_in self.now).view }
         ensures id { result.id ≡ (later_in self.now).id }
         ensures signature { result.signature.now ≡ later_signature_in self.now }
     {
         VoteView {
-            view: u64_at(self.bytes, LATER_AT),
+            key: self.bytes[LATER_AT],
+            view: u64_at(self.bytes, LATER_AT + VIEW_IN_VOTE),
             id: array_at(self.bytes, LATER_AT + ID_IN_VOTE),
             signature: &self.bytes[LATER_AT + SIGNATURE_IN_VOTE..HEADERS_AT],
         }
     }
 
     /// The headers behind the votes of a lock violation, 84 bytes each: that of the earlier vote's block
-    /// (at 3,023), of the parent that it names (at 3,107), and of the later vote's block (at 3,191). None
+    /// (at 3,025), of the parent that it names (at 3,109), and of the later vote's block (at 3,193). None
     /// of a double vote, and where one of them is unreadable.
     #[tactic(auto, unfolding(crate::specs::Verdicts::headers_in))]
     pub fn headers(&self) -> Option<VotedHeaders>

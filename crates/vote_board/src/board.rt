@@ -11,15 +11,17 @@ use shared_values::Shared;
 use std::alloc::{AllocError, Global};
 use std::sync::{Mutex, Wait};
 
-// Whether the vote is good: its replica is one of the committee, and signed it.
+// Whether the vote is good: its replica is one of the committee, and signed it with the key that it names.
 fn is_good<V: Verifier>(verifier: &V, committee: &CommitteeView, vote: &SignedVote) -> bool
     ensures { IsTrue result ↔ IsGoodVote committee.now vote.now }
 {
     vote.replica < committee.n()
+        && vote.key < committee.keys(vote.replica)
         && is_signed_by(
             verifier,
             committee,
             vote.replica,
+            vote.key,
             &vote.ballot(),
             &vote.signature,
         )

@@ -18,12 +18,13 @@ use Rattle.replica_core.specs.Plans.{HoldsAlso, IsActOn, IsPlan, TakesEvent, com
 use Rattle.key_index_store.specs.State.{IndexState}
 use Rattle.stable_log.proofs.Told.{some_if, if_some}
 use Rattle.log_format.specs.EntryText.{Entry, IsEntry}
+use Rattle.log_format.specs.declared.entry.KeyedSignature.{KeyedSignature}
 use Rattle.vote_log.specs.Logs.{IsLogBeforeOrAfter, LeavesEntries, LogState}
 use Rattle.vote_desk.specs.declared.desk_error.DeskError.{DeskError}
 use Rattle.vote_desk.specs.declared.desk_error.DeskError.TheVariants as error
 use Rattle.vote_desk.specs.declared.reply.Answer.{Answer}
 use Rattle.vote_desk.specs.declared.reply.Receipt.{Receipt}
-use Rattle.vote_desk.specs.Deliveries.{AddsEntry, CommitsIn, HasEffect, IsDelivered, IsLeftBy, IsLeftWith, IsLegalPlan, IsStored, Votes, act_of, entry_for, planned_entry, released_by, vote_under}
+use Rattle.vote_desk.specs.Deliveries.{AddsEntry, CommitsIn, HasEffect, IsDelivered, IsLeftBy, IsLeftWith, IsLegalPlan, IsStored, Votes, act_of, entry_for, planned_entry, released_by, signed_in, vote_under}
 use Rattle.vote_desk.specs.DeskRefusals.{Asks, IsDeskRefusal, IsPlanRefusal, IsRoomRefusal, IsRunning, IsStorageRefusal, Stores}
 use Rattle.vote_desk.specs.Desks.{DeskView, KeepsDesk, index_of}
 use Rattle.vote_desk.proofs.Keeping.{legal_next}
@@ -45,10 +46,10 @@ allowed_of genesis s b ps act.Pass chain on = chain
 
 pub delivered : {D : Type 0} (bytes : D → Option (List ℕ)) (committee : List ℕ) (replica : ℕ) (old mid new : DeskView D) (b : CheckedBlock) (plan : Plan) (answer : Answer)
     → IsSameCore old.core mid.core → IsPlan mid.core plan → plan.block ≡ b.header → plan.act ≡ act_of answer
-    → HoldsAlso mid.core.headers new.core.headers plan.block → new.core.genesis ≡ mid.core.genesis → TakesEvent mid.core plan new.core.state → new.seed ≡ old.seed
+    → HoldsAlso mid.core.headers new.core.headers plan.block → new.core.genesis ≡ mid.core.genesis → TakesEvent mid.core plan new.core.state → new.seeds ≡ old.seeds
     → HasEffect bytes committee replica old new b plan.parent answer → new.released ≡ old.released + released_by answer
     → IsDelivered bytes committee replica old new b (record { act = answer; committed = plan.committed })
-delivered bytes committee replica old mid new b plan answer same k is acts holds genesis takes seed effect released =
+delivered bytes committee replica old mid new b plan answer same k is acts holds genesis takes seeds effect released =
     let ps = plan.parent ∷ k.below in
     let planned = planned_back old.core mid.core plan b.header same k is in
     let on = subst (λ (a : Act). IsActOn old.core.genesis old.core.state b.header ps a) acts planned.act in
@@ -63,7 +64,7 @@ delivered bytes committee replica old mid new b plan answer same k is acts holds
       };
       holds = subst (λ (h : Header). HoldsAlso old.core.headers new.core.headers h) is (subst (λ (hs : List Header). HoldsAlso hs new.core.headers plan.block) same.headers holds);
       genesis = genesis ∙ same.genesis;
-      seed = seed;
+      seeds = seeds;
       effect = effect;
       released = released;
     }
@@ -127,21 +128,21 @@ room_refused d mid plan b error.ReceiptMismatch running passes same k is r = abs
 
 -- ---- crashes
 
-pub voted_image : {D : Type 0} (committee : List ℕ) (replica : ℕ) (old : DeskView D) (mid : Core) (b : CheckedBlock) (plan : Plan) (signature : List ℕ) → IsSameCore old.core mid → IsPlan mid plan → plan.block ≡ b.header → plan.act ≡ act.Vote → IsLegalPlan old.core.genesis old.log.steps plan
-    → signature ≡ (vote_under (chain_id_of committee) replica old.seed old.indices.mark b.header).signature
-    → (image : List ℕ) → IsLeftWith old.log.entries (entry_for b plan.parent (Some signature)) image → IsLeftBy committee replica old b image
-voted_image committee replica old mid b plan signature same k is acts legal signed image (inl s) = inl s
-voted_image committee replica old mid b plan signature same k is acts legal signed image (inr s) =
+pub voted_image : {D : Type 0} (committee : List ℕ) (replica : ℕ) (old : DeskView D) (mid : Core) (b : CheckedBlock) (plan : Plan) (signed : KeyedSignature) → IsSameCore old.core mid → IsPlan mid plan → plan.block ≡ b.header → plan.act ≡ act.Vote → IsLegalPlan old.core.genesis old.log.steps plan
+    → signed ≡ signed_in (vote_under (chain_id_of committee) replica old.seeds old.indices.mark b.header)
+    → (image : List ℕ) → IsLeftWith old.log.entries (entry_for b plan.parent (Some signed)) image → IsLeftBy committee replica old b image
+voted_image committee replica old mid b plan signed same k is acts legal as_planned image (inl s) = inl s
+voted_image committee replica old mid b plan signed same k is acts legal as_planned image (inr s) =
     let planned = planned_back old.core mid plan b.header same k is in
     inr (
-      entry_for b plan.parent (Some signature),
+      entry_for b plan.parent (Some signed),
       record {
         answer = act.Vote;
         below = k.below;
         chain = planned.chain;
         planned = subst (λ (a : Act). IsActOn old.core.genesis old.core.state b.header (plan.parent ∷ k.below) a) acts planned.act;
         some = λ e. cc;
-        entry = ap (λ (x : List ℕ). entry_for b plan.parent (Some x)) signed;
+        entry = ap (λ (x : KeyedSignature). entry_for b plan.parent (Some x)) as_planned;
         is_entry = s.0;
         legal = subst (λ (h : Header). IsLegal old.core.genesis (old.log.steps ++ (let x : Stored = record { voted = true; block = h; parent = plan.parent } in x) ∷ [])) is (legal true acts);
       },
@@ -169,12 +170,12 @@ raised_image committee replica old mid b plan same k is acts legal entry image (
     )
 
 -- the vote that is asked for of the desk as it was planned is that of the desk before
-pub same_signature : {D : Type 0} (committee : List ℕ) (replica : ℕ) (old mid : DeskView D) (h b : Header) → mid.seed ≡ old.seed → mid.indices ≡ old.indices → h ≡ b
-    → (vote_under (chain_id_of committee) replica mid.seed mid.indices.mark h).signature ≡ (vote_under (chain_id_of committee) replica old.seed old.indices.mark b).signature
-same_signature {D} committee replica old mid h b seed indices is =
-    ap (λ (s : PrivateSeed). (vote_under (chain_id_of committee) replica s mid.indices.mark h).signature) seed
-    ∙ ap (λ (i : IndexState D). (vote_under (chain_id_of committee) replica old.seed i.mark h).signature) indices
-    ∙ ap (λ (x : Header). (vote_under (chain_id_of committee) replica old.seed old.indices.mark x).signature) is
+pub same_signature : {D : Type 0} (committee : List ℕ) (replica : ℕ) (old mid : DeskView D) (h b : Header) → mid.seeds ≡ old.seeds → mid.indices ≡ old.indices → h ≡ b
+    → signed_in (vote_under (chain_id_of committee) replica mid.seeds mid.indices.mark h) ≡ signed_in (vote_under (chain_id_of committee) replica old.seeds old.indices.mark b)
+same_signature {D} committee replica old mid h b seeds indices is =
+    ap (λ (s : List PrivateSeed). signed_in (vote_under (chain_id_of committee) replica s mid.indices.mark h)) seeds
+    ∙ ap (λ (i : IndexState D). signed_in (vote_under (chain_id_of committee) replica old.seeds i.mark h)) indices
+    ∙ ap (λ (x : Header). signed_in (vote_under (chain_id_of committee) replica old.seeds old.indices.mark x)) is
 
 -- ---- what every later crash leaves
 
@@ -189,17 +190,17 @@ durable_now {D} bytes images old mid new plan e same stored =
 -- ---- the effect of a vote
 
 pub votes : {D : Type 0} (bytes : D → Option (List ℕ)) (committee : List ℕ) (replica : ℕ) (old mid new : DeskView D) (b : CheckedBlock) (plan : Plan) (r : Receipt)
-    → mid.seed ≡ old.seed → mid.indices ≡ old.indices → mid.log ≡ old.log → plan.block ≡ b.header
-    → r.number ≡ length mid.log.steps → r.vote ≡ vote_under (chain_id_of committee) replica mid.seed mid.indices.mark plan.block → index_of r.vote.signature ≡ mid.indices.mark
-    → IsGoodVote committee r.vote → AddsEntry bytes mid.log new.log (entry_for b plan.parent (Some r.vote.signature)) → new.indices.mark ≡ mid.indices.mark + 1
+    → mid.seeds ≡ old.seeds → mid.indices ≡ old.indices → mid.log ≡ old.log → plan.block ≡ b.header
+    → r.number ≡ length mid.log.steps → r.vote ≡ vote_under (chain_id_of committee) replica mid.seeds mid.indices.mark plan.block → index_of (signed_in r.vote) ≡ mid.indices.mark
+    → IsGoodVote committee r.vote → AddsEntry bytes mid.log new.log (entry_for b plan.parent (Some (signed_in r.vote))) → new.indices.mark ≡ mid.indices.mark + 1
     → Votes bytes committee replica old new b plan.parent r
-votes {D} bytes committee replica old mid new b plan r seed indices log is number vote index good adds drawn = record {
+votes {D} bytes committee replica old mid new b plan r seeds indices log is number vote index good adds drawn = record {
   number = number ∙ ap (λ (l : LogState D). length l.steps) log;
-  vote = vote ∙ ap (λ (s : PrivateSeed). vote_under (chain_id_of committee) replica s mid.indices.mark plan.block) seed
-      ∙ ap (λ (i : IndexState D). vote_under (chain_id_of committee) replica old.seed i.mark plan.block) indices
-      ∙ ap (λ (h : Header). vote_under (chain_id_of committee) replica old.seed old.indices.mark h) is;
+  vote = vote ∙ ap (λ (s : List PrivateSeed). vote_under (chain_id_of committee) replica s mid.indices.mark plan.block) seeds
+      ∙ ap (λ (i : IndexState D). vote_under (chain_id_of committee) replica old.seeds i.mark plan.block) indices
+      ∙ ap (λ (h : Header). vote_under (chain_id_of committee) replica old.seeds old.indices.mark h) is;
   index = index ∙ ap (λ (i : IndexState D). i.mark) indices;
   good = good;
-  adds = subst (λ (l : LogState D). AddsEntry bytes l new.log (entry_for b plan.parent (Some r.vote.signature))) log adds;
+  adds = subst (λ (l : LogState D). AddsEntry bytes l new.log (entry_for b plan.parent (Some (signed_in r.vote)))) log adds;
   drawn = drawn ∙ ap (λ (i : IndexState D). i.mark + 1) indices;
 }

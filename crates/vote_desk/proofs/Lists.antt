@@ -12,6 +12,7 @@ use Rattle.blocks.specs.Replica.{Stored, ReplicaState, IsAllowed, after}
 use Rattle.blocks.specs.Replay.{FitsOpening, IsAttached, IsLegal, IsLegalEntry, durable_of, event_on, replay_entry}
 use Rattle.blocks.proofs.Restarts.{agrees}
 use Rattle.log_format.specs.EntryText.{Entry, stored_in}
+use Rattle.log_format.specs.declared.entry.KeyedSignature.{KeyedSignature}
 use Rattle.vote_log.specs.Logs.{steps_of}
 use Rattle.vote_desk.specs.Desks.{AreRising, index_of, indices_in, vote_count, with_index}
 
@@ -102,11 +103,11 @@ vote_same n steps x long voted =
 
 -- ---- indices
 
-indices-push : (es : List Entry) (e : Entry) → indices_in (es ++ e ∷ []) ≡ indices_in es ++ with_index e.signature []
+indices-push : (es : List Entry) (e : Entry) → indices_in (es ++ e ∷ []) ≡ indices_in es ++ with_index e.own []
 indices-push [] e = refl
-indices-push (d ∷ es) e = ap (with_index d.signature) (indices-push es e) ∙ with_append d.signature (indices_in es) (with_index e.signature [])
+indices-push (d ∷ es) e = ap (with_index d.own) (indices-push es e) ∙ with_append d.own (indices_in es) (with_index e.own [])
   where
-    with_append : (o : Option (List ℕ)) (xs ys : List ℕ) → with_index o (xs ++ ys) ≡ with_index o xs ++ ys
+    with_append : (o : Option KeyedSignature) (xs ys : List ℕ) → with_index o (xs ++ ys) ≡ with_index o xs ++ ys
     with_append (Some s) xs ys = refl
     with_append None xs ys = refl
 
@@ -124,11 +125,11 @@ rising_push mark xs r = record {
 }
 
 -- one entry more, with the vote under the mark
-pub rising_vote : (n mark : ℕ) (es : List Entry) (e : Entry) (s : List ℕ) → n ≤ length es → e.signature ≡ Some s → index_of s ≡ mark → AreRising mark (indices_in (drop n es)) → AreRising (mark + 1) (indices_in (drop n (es ++ e ∷ [])))
+pub rising_vote : (n mark : ℕ) (es : List Entry) (e : Entry) (s : KeyedSignature) → n ≤ length es → e.own ≡ Some s → index_of s ≡ mark → AreRising mark (indices_in (drop n es)) → AreRising (mark + 1) (indices_in (drop n (es ++ e ∷ [])))
 rising_vote n mark es e s long signed index r =
     let same : indices_in (drop n (es ++ e ∷ [])) ≡ indices_in (drop n es) ++ mark ∷ [] =
     ap indices_in (drop-append-le n es (e ∷ []) long) ∙ indices-push (drop n es) e
-    ∙ ap (λ (o : Option (List ℕ)). indices_in (drop n es) ++ with_index o []) signed ∙ ap (λ (i : ℕ). indices_in (drop n es) ++ i ∷ []) index in
+    ∙ ap (λ (o : Option KeyedSignature). indices_in (drop n es) ++ with_index o []) signed ∙ ap (λ (i : ℕ). indices_in (drop n es) ++ i ∷ []) index in
     subst (λ (l : List ℕ). AreRising (mark + 1) l) (sym same) (rising_push mark (indices_in (drop n es)) r)
 
 append-nothing : (xs : List ℕ) → xs ++ [] ≡ xs
@@ -136,11 +137,11 @@ append-nothing [] = refl
 append-nothing (x ∷ xs) = ap (λ (l : List ℕ). x ∷ l) (append-nothing xs)
 
 -- .. without a vote
-pub rising_raise : (n mark : ℕ) (es : List Entry) (e : Entry) → n ≤ length es → e.signature ≡ None → AreRising mark (indices_in (drop n es)) → AreRising mark (indices_in (drop n (es ++ e ∷ [])))
+pub rising_raise : (n mark : ℕ) (es : List Entry) (e : Entry) → n ≤ length es → e.own ≡ None → AreRising mark (indices_in (drop n es)) → AreRising mark (indices_in (drop n (es ++ e ∷ [])))
 rising_raise n mark es e long unsigned r =
     let same : indices_in (drop n (es ++ e ∷ [])) ≡ indices_in (drop n es) =
     ap indices_in (drop-append-le n es (e ∷ []) long) ∙ indices-push (drop n es) e
-    ∙ ap (λ (o : Option (List ℕ)). indices_in (drop n es) ++ with_index o []) unsigned ∙ append-nothing (indices_in (drop n es)) in
+    ∙ ap (λ (o : Option KeyedSignature). indices_in (drop n es) ++ with_index o []) unsigned ∙ append-nothing (indices_in (drop n es)) in
     subst (λ (l : List ℕ). AreRising mark l) (sym same) r
 
 -- ---- entries and steps

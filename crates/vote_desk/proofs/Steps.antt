@@ -25,7 +25,7 @@ use Rattle.vote_log.proofs.LogLaws.{steps_push}
 use Rattle.vote_desk.specs.declared.desk_error.DeskError.{DeskError}
 use Rattle.vote_desk.specs.declared.desk_error.DeskError.TheVariants as error
 use Rattle.vote_desk.specs.Deliveries.{AddsEntry, IsLeftWith, act_on, planned_entry}
-use Rattle.vote_desk.specs.Desks.{AreRising, DeskView, IsFittingImage, IsKeyOf, KeepsDesk, KeepsEntries, KeepsList, indices_in, vote_count}
+use Rattle.vote_desk.specs.Desks.{AreRising, DeskView, IsFittingImage, AreKeysOf, KeepsDesk, KeepsEntries, KeepsList, indices_in, vote_count}
 use Rattle.vote_desk.proofs.Lists.{attached, fits_none, fits_push, length_listed, long_enough, rising_above}
 use Rattle.vote_desk.proofs.Keeping.{all_kept, entries_same, kept_held, kept_stored, legal_next, told_before}
 
@@ -67,22 +67,26 @@ module _ {D : Type 0} (bytes : D → Option (List ℕ)) (images : D → List ℕ
 
   -- the block of a plan to do nothing is held
   pub keeps_passed : (new : Core) (plan : Plan) → IsPlan old.core plan → plan.act ≡ act.Pass → HoldsAlso old.core.headers new.headers plan.block → new.genesis ≡ old.core.genesis → TakesEvent old.core plan new.state
-      → KeepsDesk bytes images committee replica opening (record { core = new; seed = old.seed; indices = old.indices; log = old.log; released = old.released })
+      → KeepsDesk bytes images committee replica opening (record { core = new; seeds = old.seeds; indices = old.indices; log = old.log; released = old.released })
   keeps_passed new plan k is holds same takes =
       let into : AllIn new.headers old.core.headers = all_kept old.core.headers new.headers old.core plan.block holds k.place refl in
       let state : new.state ≡ old.core.state = takes k.below k.chain.is_chain ∙ ap (λ (a : Act). after old.core.state (event_of a plan.block (plan.parent ∷ k.below))) is in
       record {
-        key = keeps.key;
+        keys = keeps.keys;
         genesis = same ∙ keeps.genesis;
         list = kept_held opening old.core new old.log.genesis old.log.steps old.released keeps.list same into (ap durable_of state) (subst (λ (s : ReplicaState). s.stored_vote_view ≤ s.vote_view) (sym state) keeps.list.covers);
         entries = entries_same (bytes old.log.disk) (images old.log.disk) opening old.core.headers new.headers old.indices.mark old.indices.mark old.log keeps.entries into (omega arith);
       }
 
+  -- indices of as many keys
+  still_keys : (indices : IndexState D) → indices.keys ≡ old.indices.keys → AreKeysOf committee replica old.seeds indices.keys
+  still_keys indices same = subst (λ (n : ℕ). AreKeysOf committee replica old.seeds n) (sym same) keeps.keys
+
   -- more indices are given
-  pub keeps_drawn : (indices : IndexState D) → old.indices.mark ≤ indices.mark
-      → KeepsDesk bytes images committee replica opening (record { core = old.core; seed = old.seed; indices = indices; log = old.log; released = old.released })
-  keeps_drawn indices up = record {
-    key = keeps.key;
+  pub keeps_drawn : (indices : IndexState D) → old.indices.mark ≤ indices.mark → indices.keys ≡ old.indices.keys
+      → KeepsDesk bytes images committee replica opening (record { core = old.core; seeds = old.seeds; indices = indices; log = old.log; released = old.released })
+  keeps_drawn indices up same = record {
+    keys = still_keys indices same;
     genesis = keeps.genesis;
     list = keeps.list;
     entries = entries_same (bytes old.log.disk) (images old.log.disk) opening old.core.headers old.core.headers old.indices.mark indices.mark old.log keeps.entries (λ h m. m) up;
@@ -95,8 +99,9 @@ module _ {D : Type 0} (bytes : D → Option (List ℕ)) (images : D → List ℕ
       → HoldsAlso old.core.headers new.headers plan.block → new.genesis ≡ old.core.genesis → TakesEvent old.core plan new.state
       → ((n : ℕ) → n ≤ length old.log.entries → AreRising old.indices.mark (indices_in (drop n old.log.entries)) → AreRising indices.mark (indices_in (drop n (old.log.entries ++ e ∷ []))))
       → (length opening ≤ length old.log.steps → vote_count (drop (length opening) (old.log.steps ++ planned_entry plan voted ∷ [])) ≡ released)
-      → KeepsDesk bytes images committee replica opening (record { core = new; seed = old.seed; indices = indices; log = log; released = released })
-  keeps_stored new log indices released plan voted e k is stored entry adds one durable tells holds same takes rising count =
+      → indices.keys ≡ old.indices.keys
+      → KeepsDesk bytes images committee replica opening (record { core = new; seeds = old.seeds; indices = indices; log = log; released = released })
+  keeps_stored new log indices released plan voted e k is stored entry adds one durable tells holds same takes rising count as_many =
       let x : Stored = planned_entry plan voted in
       let into : AllIn new.headers old.core.headers = all_kept old.core.headers new.headers old.core plan.block holds k.place refl in
       let on = allowed_on old.core.genesis old.core.state plan.block (plan.parent ∷ k.below) voted (subst (λ (a : Act). IsActOn old.core.genesis old.core.state plan.block (plan.parent ∷ k.below) a) is k.act) in
@@ -107,7 +112,7 @@ module _ {D : Type 0} (bytes : D → Option (List ℕ)) (images : D → List ℕ
       kept_stored opening old.core new old.log.genesis old.log.steps old.released released x k.below root keeps.list on k.chain same into state (count long) in
       let steps : log.steps ≡ old.log.steps ++ x ∷ [] = adds.steps ∙ ap (λ (y : Stored). old.log.steps ++ y ∷ []) stored in
       record {
-        key = keeps.key;
+        keys = still_keys indices as_many;
         genesis = same ∙ keeps.genesis;
         list = subst (λ (g : Header). KeepsList opening new g log.steps released) (sym one) (subst (λ (l : List Stored). KeepsList opening new old.log.genesis l released) (sym steps) list);
         entries = some_if (bytes log.disk) (λ _. KeepsEntries (images log.disk) opening new.headers indices.mark log) (λ bs told.
@@ -134,9 +139,9 @@ module _ {D : Type 0} (bytes : D → Option (List ℕ)) (images : D → List ℕ
       → ((d : D) (t : ℕ) (image : List ℕ) → t ≤ moment d → images d image → images_since d t image)
       → log.entries ≡ old.log.entries → log.steps ≡ old.log.steps → log.genesis ≡ old.log.genesis → log.stopped ≡ true → IsSome (bytes log.disk) ↔ IsSome (bytes old.log.disk)
       → IfSome (bytes old.log.disk) (λ _. LeavesOnly moment images_since old.log.disk log.disk (IsLogBeforeOrAfter old.log.entries e))
-      → old.indices.mark ≤ indices.mark
-      → KeepsDesk bytes images committee replica opening (record { core = old.core; seed = old.seed; indices = indices; log = log; released = old.released })
-  keeps_failed log indices plan voted e moment images_since k is stored entry counts entries steps one stopped tells run up =
+      → old.indices.mark ≤ indices.mark → indices.keys ≡ old.indices.keys
+      → KeepsDesk bytes images committee replica opening (record { core = old.core; seeds = old.seeds; indices = indices; log = log; released = old.released })
+  keeps_failed log indices plan voted e moment images_since k is stored entry counts entries steps one stopped tells run up as_many =
       let x : Stored = planned_entry plan voted in
       let core = old.core in
       let on = allowed_on core.genesis core.state plan.block (plan.parent ∷ k.below) voted (subst (λ (a : Act). IsActOn core.genesis core.state plan.block (plan.parent ∷ k.below) a) is k.act) in
@@ -148,7 +153,7 @@ module _ {D : Type 0} (bytes : D → Option (List ℕ)) (images : D → List ℕ
       (subst (λ (l : List Stored). FitsOpening core.headers core.genesis opening (l ++ stored_in e ∷ [])) (sym steps)
       (subst (λ (y : Stored). FitsOpening core.headers core.genesis opening (old.log.steps ++ y ∷ [])) (sym stored) fits)) in
       record {
-        key = keeps.key;
+        keys = still_keys indices as_many;
         genesis = keeps.genesis;
         list = subst (λ (g : Header). KeepsList opening core g log.steps old.released) (sym one) (subst (λ (l : List Stored). KeepsList opening core old.log.genesis l old.released) (sym steps) keeps.list);
         entries = some_if (bytes log.disk) (λ _. KeepsEntries (images log.disk) opening core.headers indices.mark log) (λ bs told.
@@ -178,22 +183,22 @@ module _ {D : Type 0} (bytes : D → Option (List ℕ)) (images : D → List ℕ
       → (refusal ≡ error.Device → (log.entries ≡ old.log.entries) × (log.steps ≡ old.log.steps) × (log.stopped ≡ true))
       → (refusal ≢ error.Device → log ≡ old.log)
       → IfSome (bytes old.log.disk) (λ _. LeavesOnly moment images_since old.log.disk log.disk (IsLogBeforeOrAfter old.log.entries e))
-      → KeepsDesk bytes images committee replica opening (record { core = new; seed = old.seed; indices = old.indices; log = log; released = old.released })
+      → KeepsDesk bytes images committee replica opening (record { core = new; seeds = old.seeds; indices = old.indices; log = log; released = old.released })
   keeps_refused new log plan voted e refusal moment images_since k is stored entry counts core one tells device other run =
-      let Now : Core → LogState D → Type 0 = λ c l. KeepsDesk bytes images committee replica opening (record { core = c; seed = old.seed; indices = old.indices; log = l; released = old.released }) in
+      let Now : Core → LogState D → Type 0 = λ c l. KeepsDesk bytes images committee replica opening (record { core = c; seeds = old.seeds; indices = old.indices; log = l; released = old.released }) in
       subst (λ (c : Core). Now c log) (sym core)
       (by_device refusal (Now old.core log)
-      (λ d. let after = device d in keeps_failed log old.indices plan voted e moment images_since k is stored entry counts after.0 after.1 one after.2 tells run (omega arith))
+      (λ d. let after = device d in keeps_failed log old.indices plan voted e moment images_since k is stored entry counts after.0 after.1 one after.2 tells run (omega arith) refl)
       (λ n. subst (λ (l : LogState D). Now old.core l) (sym (other n)) keeps))
 
   -- the vote view rises
   pub keeps_timed_out : (new : Core) (view : ℕ) → new ≡ (record { genesis = old.core.genesis; state = timed_out old.core.state view; headers = old.core.headers; room = old.core.room })
-      → KeepsDesk bytes images committee replica opening (record { core = new; seed = old.seed; indices = old.indices; log = old.log; released = old.released })
+      → KeepsDesk bytes images committee replica opening (record { core = new; seeds = old.seeds; indices = old.indices; log = old.log; released = old.released })
   keeps_timed_out new view is =
       let later : Core = record { genesis = old.core.genesis; state = timed_out old.core.state view; headers = old.core.headers; room = old.core.room } in
-      subst (λ (c : Core). KeepsDesk bytes images committee replica opening (record { core = c; seed = old.seed; indices = old.indices; log = old.log; released = old.released })) (sym is)
+      subst (λ (c : Core). KeepsDesk bytes images committee replica opening (record { core = c; seeds = old.seeds; indices = old.indices; log = old.log; released = old.released })) (sym is)
       (record {
-        key = keeps.key;
+        keys = keeps.keys;
         genesis = keeps.genesis;
         list = kept_held opening old.core later old.log.genesis old.log.steps old.released keeps.list refl (λ h m. m) refl (onward old.core.genesis old.core.state (Timeout view) keeps.list.covers tt).order;
         entries = keeps.entries;
@@ -240,16 +245,16 @@ left_with entries e entry image (inr s) = inr (entry, s)
 none_rising : (mark : ℕ) → AreRising mark []
 none_rising mark = record { rise = λ j k d l m. absurd (omega arith); below = λ k d l. absurd (omega arith) }
 
-pub keeps_opened : {D : Type 0} (bytes : D → Option (List ℕ)) (images : D → List ℕ → Type 0) (committee : List ℕ) (replica : ℕ) (opening : List Stored) (core : Core) (seed : PrivateSeed) (indices : IndexState D) (log : LogState D)
-    → IsKeyOf committee replica seed → log.steps ≡ opening → IfSome (bytes log.disk) (λ _. LeavesEntries (images log.disk) log.entries) → log.genesis ≡ genesis_of committee → IsLegal log.genesis log.steps
+pub keeps_opened : {D : Type 0} (bytes : D → Option (List ℕ)) (images : D → List ℕ → Type 0) (committee : List ℕ) (replica : ℕ) (opening : List Stored) (core : Core) (seeds : List PrivateSeed) (indices : IndexState D) (log : LogState D)
+    → AreKeysOf committee replica seeds indices.keys → log.steps ≡ opening → IfSome (bytes log.disk) (λ _. LeavesEntries (images log.disk) log.entries) → log.genesis ≡ genesis_of committee → IsLegal log.genesis log.steps
     → IfSome (bytes log.disk) (λ _. AreListed log.entries log.steps) → core.genesis ≡ genesis_of committee → core.state ≡ restarted_with (replay (genesis_of committee) log.steps)
-    → KeepsDesk bytes images committee replica opening (record { core = core; seed = seed; indices = indices; log = log; released = 0 })
-keeps_opened bytes images committee replica opening core seed indices log key is durable chain legal listed genesis state =
+    → KeepsDesk bytes images committee replica opening (record { core = core; seeds = seeds; indices = indices; log = log; released = 0 })
+keeps_opened bytes images committee replica opening core seeds indices log keys is durable chain legal listed genesis state =
     let one : log.genesis ≡ core.genesis = chain ∙ sym genesis in
     let legal_here : IsLegal core.genesis log.steps = subst (λ (g : Header). IsLegal g log.steps) one legal in
     let none : drop (length opening) log.steps ≡ [] = ap (λ (l : List Stored). drop (length l) log.steps) (sym is) ∙ drop-length log.steps in
     record {
-      key = key;
+      keys = keys;
       genesis = genesis;
       list = record {
         one_genesis = one;

@@ -2,7 +2,7 @@
 use Rattle.std.specs.Prelude.{◌≡◌, ◌≢◌, ◌<◌, ◌+◌, ◌++◌, ◌⊎◌, ℕ, List, [], ◌∷◌, Option, Some, None, IfSome, Bool, true, false, length}
 use Rattle.faults.specs.Counting.{HasFailed}
 use Rattle.lmots.specs.declared.keys.PrivateSeed.{PrivateSeed}
-use Rattle.lms_tree.specs.Tree.{lms_signature}
+use Rattle.lms_tree.specs.Tree.{lms_signature, tree_root, Verifies}
 use Rattle.blocks.specs.Headers.{Header, header_id}
 use Rattle.blocks.specs.Genesis.{chain_id_of}
 use Rattle.blocks.specs.Chains.{IsChain}
@@ -18,12 +18,14 @@ use Rattle.replica_core.specs.declared.plan.Act.TheVariants as act
 use Rattle.replica_core.specs.Cores.{Core, IsSameCore}
 use Rattle.replica_core.specs.Plans.{IsChainOf, IsActOn, HoldsAlso, committed_of, event_of, TakesEvent}
 use Rattle.log_format.specs.EntryText.{Entry, IsEntry, stored_in}
+use Rattle.log_format.specs.declared.entry.KeyedSignature.{KeyedSignature}
+use Rattle.key_index_store.specs.Indices.{key_of, q_of}
 use Rattle.vote_log.specs.Logs.{LogState, StandsForEntries, LeavesEntries}
 use Rattle.vote_desk.specs.declared.reply.Receipt.{Receipt}
 use Rattle.vote_desk.specs.declared.reply.Answer.{Answer}
 use Rattle.vote_desk.specs.declared.reply.Answer.TheVariants.{Voted, Raised, Held}
 use Rattle.vote_desk.specs.declared.reply.Reply.{Reply}
-use Rattle.vote_desk.specs.Desks.{DeskView, index_of}
+use Rattle.vote_desk.specs.Desks.{DeskView, index_of, seed_of}
 
 -- what the replica does where it answers so
 abbrev pub act_of : Answer → Act
@@ -53,22 +55,35 @@ pub record IsPlanned (c : Core) (b p : Header) (below : List Header) (a : Act) (
 
 -- ---- the entry
 
--- the entry of a block on this parent, with the signature of the own vote, if there is one
-abbrev pub entry_for : CheckedBlock → Header → Option (List ℕ) → Entry
-entry_for b p signature = record { block = b.header; parent = p; signature = signature; certificate = b.certificate }
+-- what an entry keeps of a vote
+abbrev pub signed_in : SignedVote → KeyedSignature
+signed_in vote = record { key = vote.key; signature = vote.signature }
+
+-- the entry of a block on this parent, with what it keeps of the own vote, if there is one
+abbrev pub entry_for : CheckedBlock → Header → Option KeyedSignature → Entry
+entry_for b p own = record { block = b.header; parent = p; own = own; certificate = b.certificate }
 
 -- the log's list is the old one and this entry
 pub record AddsEntry {D : Type 0} (bytes : D → Option (List ℕ)) (old new : LogState D) (e : Entry) : Type 0 where
   pub steps : new.steps ≡ old.steps ++ stored_in e ∷ []
   pub entries : IfSome (bytes old.disk) (λ _. new.entries ≡ old.entries ++ e ∷ [])
 
+-- the signature of these bytes by a key of this seed, at its one-time key q
+abbrev pub signature_at : PrivateSeed → ℕ → List ℕ → List ℕ
+signature_at seed q message = lms_signature seed.key_id seed.seed q message
+
+-- the vote's signature verifies under the key of this seed, on its view and id in this chain
+abbrev pub IsSignedWith : PrivateSeed → List ℕ → SignedVote → Type 0
+IsSignedWith seed chain v = Verifies seed.key_id (tree_root seed.key_id seed.seed) (statement_text chain v.view v.id) v.signature
+
 -- the replica's vote for a block, signed under this index
-abbrev pub vote_under : List ℕ → ℕ → PrivateSeed → ℕ → Header → SignedVote
-vote_under chain replica seed index b = record {
+abbrev pub vote_under : List ℕ → ℕ → List PrivateSeed → ℕ → Header → SignedVote
+vote_under chain replica seeds index b = record {
   replica = replica;
   view = b.view;
   id = header_id b;
-  signature = lms_signature seed.key_id seed.seed index (statement_text chain b.view (header_id b));
+  key = key_of index;
+  signature = signature_at (seed_of seeds (key_of index)) (q_of index) (statement_text chain b.view (header_id b));
 }
 
 -- ---- the effect of an answer on log, indices and the count of released votes
@@ -77,10 +92,10 @@ vote_under chain replica seed index b = record {
 -- was drawn
 pub record Votes {D : Type 0} (bytes : D → Option (List ℕ)) (committee : List ℕ) (replica : ℕ) (old new : DeskView D) (b : CheckedBlock) (p : Header) (receipt : Receipt) : Type 0 where
   pub number : receipt.number ≡ length old.log.steps
-  pub vote : receipt.vote ≡ vote_under (chain_id_of committee) replica old.seed old.indices.mark b.header
-  pub index : index_of receipt.vote.signature ≡ old.indices.mark
+  pub vote : receipt.vote ≡ vote_under (chain_id_of committee) replica old.seeds old.indices.mark b.header
+  pub index : index_of (signed_in receipt.vote) ≡ old.indices.mark
   pub good : IsGoodVote committee receipt.vote
-  pub adds : AddsEntry bytes old.log new.log (entry_for b p (Some receipt.vote.signature))
+  pub adds : AddsEntry bytes old.log new.log (entry_for b p (Some (signed_in receipt.vote)))
   pub drawn : new.indices.mark ≡ old.indices.mark + 1
 
 pub record Raises {D : Type 0} (bytes : D → Option (List ℕ)) (old new : DeskView D) (b : CheckedBlock) (p : Header) : Type 0 where
@@ -104,7 +119,7 @@ pub record IsDelivered {D : Type 0} (bytes : D → Option (List ℕ)) (committee
   pub takes : Takes old.core.genesis old.core.state (event_of (act_of reply.act) b.header (parent ∷ below)) new.core.state
   pub holds : HoldsAlso old.core.headers new.core.headers b.header
   pub genesis : new.core.genesis ≡ old.core.genesis
-  pub seed : new.seed ≡ old.seed
+  pub seeds : new.seeds ≡ old.seeds
   pub effect : HasEffect bytes committee replica old new b parent reply.act
   pub released : new.released ≡ old.released + released_by reply.act
 
@@ -132,7 +147,7 @@ IsGoodAnswer committee replica b Held = Unit {0}
 -- core, list and the count are as before
 pub record IsKept {D : Type 0} (old new : DeskView D) : Type 0 where
   pub core : IsSameCore old.core new.core
-  pub seed : new.seed ≡ old.seed
+  pub seeds : new.seeds ≡ old.seeds
   pub genesis : new.log.genesis ≡ old.log.genesis
   pub entries : new.log.entries ≡ old.log.entries
   pub steps : new.log.steps ≡ old.log.steps
@@ -169,11 +184,11 @@ FailsOne failed old new = FailsLog failed old new ⊎ FailsIndices failed old ne
 
 -- ---- a crash during a delivery
 
--- the signature of the own vote in what this act stores: for a vote the one under the next index, else none
-abbrev pub signature_for : {D : Type 0} → List ℕ → ℕ → DeskView D → Act → Header → Option (List ℕ)
-signature_for committee replica d act.Vote b = Some (vote_under (chain_id_of committee) replica d.seed d.indices.mark b).signature
-signature_for committee replica d act.Raise b = None
-signature_for committee replica d act.Pass b = None
+-- what this act stores of the own vote: for a vote that under the next index, else nothing
+abbrev pub own_for : {D : Type 0} → List ℕ → ℕ → DeskView D → Act → Header → Option KeyedSignature
+own_for committee replica d act.Vote b = Some (signed_in (vote_under (chain_id_of committee) replica d.seeds d.indices.mark b))
+own_for committee replica d act.Raise b = None
+own_for committee replica d act.Pass b = None
 
 -- the entry of the planned event, which is legal after the list
 pub record IsPlannedEntry {D : Type 0} (committee : List ℕ) (replica : ℕ) (old : DeskView D) (b : CheckedBlock) (e : Entry) : Type 0 where
@@ -182,7 +197,7 @@ pub record IsPlannedEntry {D : Type 0} (committee : List ℕ) (replica : ℕ) (o
   pub chain : IsChainOf old.core b.header (e.parent ∷ below)
   pub planned : IsActOn old.core.genesis old.core.state b.header (e.parent ∷ below) answer
   pub some : answer ≢ act.Pass
-  pub entry : e ≡ entry_for b e.parent (signature_for committee replica old answer b.header)
+  pub entry : e ≡ entry_for b e.parent (own_for committee replica old answer b.header)
   pub is_entry : IsEntry e
   pub legal : IsLegal old.core.genesis (old.log.steps ++ stored_in e ∷ [])
 
@@ -203,7 +218,7 @@ pub record IsStored {D : Type 0} (bytes : D → Option (List ℕ)) (images : D �
   pub headers : HoldsAlso old.core.headers new.core.headers plan.block
   pub genesis : new.core.genesis ≡ old.core.genesis
   pub state : TakesEvent old.core plan new.core.state
-  pub seed : new.seed ≡ old.seed
+  pub seeds : new.seeds ≡ old.seeds
 
 -- an image of the list, or of the list with this entry, which is well formed
 abbrev pub IsLeftWith : List Entry → Entry → List ℕ → Type 0

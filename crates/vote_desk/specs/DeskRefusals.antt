@@ -13,6 +13,7 @@ use Rattle.replica_core.specs.Cores.{Core as CoreValue}
 use Rattle.replica_core.specs.Plans.{IsChainOf, IsActOn}
 use Rattle.wire.specs.declared.limits.TheConstants.{MOST_ENTRIES}
 use Rattle.key_index_store.specs.State.{IndexState}
+use Rattle.key_index_store.specs.Indices.{limit_of}
 use Rattle.key_index_store.specs.declared.error.IndexError.{IndexError}
 use Rattle.key_index_store.specs.declared.error.IndexError.TheVariants as indices
 use Rattle.vote_log.specs.Logs.{LogState}
@@ -22,7 +23,7 @@ use Rattle.vote_desk.specs.declared.desk_error.DeskError.{DeskError}
 use Rattle.vote_desk.specs.declared.desk_error.DeskError.TheVariants.{Memory, Core, KeySpent, LogFull, Device, Stopped, ReceiptMismatch}
 use Rattle.vote_desk.specs.declared.start_error.StartError.{StartError}
 use Rattle.vote_desk.specs.declared.start_error.StartError.TheVariants as start
-use Rattle.vote_desk.specs.Desks.{DeskView, IsKeyOf}
+use Rattle.vote_desk.specs.Desks.{DeskView, AreKeysOf}
 
 -- ---- a delivery
 
@@ -61,7 +62,7 @@ HasRoom log = length log.steps < MOST_ENTRIES
 
 -- there is what an act needs: room in the log for what is stored, and an index for a vote
 abbrev pub HasRoomTo : {D : Type 0} → LogState D → IndexState D → Act → Type 0
-HasRoomTo log store act.Vote = HasRoom log × (store.mark < store.limit)
+HasRoomTo log store act.Vote = HasRoom log × (store.mark < limit_of store.keys)
 HasRoomTo log store act.Raise = HasRoom log
 HasRoomTo log store act.Pass = Unit {0}
 
@@ -79,7 +80,7 @@ IsDeskRefusal d b Memory = IsRunning d × IsAdmissible d.core b
 IsDeskRefusal d b Stopped = IsStopped d
 IsDeskRefusal d b (Core refusal) = IsRunning d × (refusal ≢ core.Memory) × IsCoreRefusal refusal d.core b
 IsDeskRefusal d b LogFull = AsksToStore d b × (length d.log.steps ≡ MOST_ENTRIES)
-IsDeskRefusal d b KeySpent = Asks d b act.Vote × HasRoom d.log × (d.indices.limit ≤ d.indices.mark)
+IsDeskRefusal d b KeySpent = Asks d b act.Vote × HasRoom d.log × (limit_of d.indices.keys ≤ d.indices.mark)
 IsDeskRefusal d b Device = Stores d b
 IsDeskRefusal d b ReceiptMismatch = ⊥
 
@@ -107,7 +108,7 @@ IsPlanRefusal d b refusal = IsDeskRefusal d b refusal
 -- an act has no room
 abbrev pub IsRoomRefusal : {D : Type 0} → LogState D → IndexState D → Act → DeskError → Type 0
 IsRoomRefusal log store a LogFull = (a ≢ act.Pass) × (length log.steps ≡ MOST_ENTRIES)
-IsRoomRefusal log store a KeySpent = (a ≡ act.Vote) × HasRoom log × (store.limit ≤ store.mark)
+IsRoomRefusal log store a KeySpent = (a ≡ act.Vote) × HasRoom log × (limit_of store.keys ≤ store.mark)
 IsRoomRefusal log store a _ = ⊥
 
 -- drawing an index or storing an entry fails, where log and store run and have room
@@ -126,19 +127,19 @@ start_error_number start.WrongKey = 3
 start_error_number start.WrongChain = 4
 start_error_number start.Stopped = 5
 
--- what a desk can be opened with: the replica's key, a log of the committee's chain, and neither log nor index store
+-- what a desk can be opened with: the replica's keys and as many keys' indices, a log of the committee's chain, and neither log nor index store
 -- is stopped
-pub record IsStartable {D : Type 0} (committee : List ℕ) (replica : ℕ) (seed : PrivateSeed) (log : LogState D) (store : IndexState D) : Type 0 where
-  pub key : IsKeyOf committee replica seed
+pub record IsStartable {D : Type 0} (committee : List ℕ) (replica : ℕ) (seeds : List PrivateSeed) (log : LogState D) (store : IndexState D) : Type 0 where
+  pub keys : AreKeysOf committee replica seeds store.keys
   pub chain : log.genesis ≡ genesis_of committee
   pub log_runs : log.stopped ≡ false
   pub store_runs : store.stopped ≡ false
 
 -- `start` and `open`: the first test that these fail
-abbrev pub IsStartRefusal : {D : Type 0} → List ℕ → ℕ → PrivateSeed → LogState D → IndexState D → StartError → Type 0
-IsStartRefusal committee replica seed log store start.Memory = IsStartable committee replica seed log store
-IsStartRefusal committee replica seed log store start.UnknownReplica = n_of committee ≤ replica
-IsStartRefusal committee replica seed log store start.WrongKey = (replica < n_of committee) × (IsKeyOf committee replica seed → ⊥)
-IsStartRefusal committee replica seed log store start.WrongChain = IsKeyOf committee replica seed × (log.genesis ≢ genesis_of committee)
-IsStartRefusal committee replica seed log store start.Stopped =
-    IsKeyOf committee replica seed × (log.genesis ≡ genesis_of committee) × ((log.stopped ≡ true) ⊎ (store.stopped ≡ true))
+abbrev pub IsStartRefusal : {D : Type 0} → List ℕ → ℕ → List PrivateSeed → LogState D → IndexState D → StartError → Type 0
+IsStartRefusal committee replica seeds log store start.Memory = IsStartable committee replica seeds log store
+IsStartRefusal committee replica seeds log store start.UnknownReplica = n_of committee ≤ replica
+IsStartRefusal committee replica seeds log store start.WrongKey = (replica < n_of committee) × (AreKeysOf committee replica seeds store.keys → ⊥)
+IsStartRefusal committee replica seeds log store start.WrongChain = AreKeysOf committee replica seeds store.keys × (log.genesis ≢ genesis_of committee)
+IsStartRefusal committee replica seeds log store start.Stopped =
+    AreKeysOf committee replica seeds store.keys × (log.genesis ≡ genesis_of committee) × ((log.stopped ≡ true) ⊎ (store.stopped ≡ true))

@@ -1,31 +1,43 @@
 -- The desk of a replica: what contracts see of it, and what it keeps from one call to the next.
-use Rattle.std.specs.Prelude.{◌≡◌, ◌<◌, ◌≤◌, ◌⊎◌, ◌++◌, ℕ, List, [], ◌∷◌, Option, Some, None, IfSome, false, length, drop}
+use Rattle.std.specs.Prelude.{◌≡◌, ◌<◌, ◌≤◌, ◌⊎◌, ◌+◌, ◌-◌, ◌*◌, ◌++◌, ℕ, List, [], ◌∷◌, Option, Some, None, IfSome, false, length, drop, slice_index_or, if◌then◌else◌}
 use Rattle.std.specs.List.{All, AllPairs, count_by}
 use Rattle.lmots.specs.declared.keys.PrivateSeed.{PrivateSeed}
 use Rattle.lms_tree.specs.Tree.{tree_root}
 use Rattle.wire.specs.Pieces.{number_at}
 use Rattle.blocks.specs.Headers.{Header}
-use Rattle.blocks.specs.Committees.{n_of, key_id_at, root_at}
+use Rattle.blocks.specs.Committees.{n_of, keys_of, key_id_at, root_at}
 use Rattle.blocks.specs.Genesis.{chain_id_of, genesis_of}
 use Rattle.blocks.specs.Replica.{Stored}
 use Rattle.blocks.specs.Replay.{FitsOpening, durable_of, replay}
 use Rattle.replica_core.specs.Cores.{Core, restarted_with}
 use Rattle.replica_core.specs.Restarts.{HoldsLinked}
 use Rattle.key_index_store.specs.State.{IndexState}
+use Rattle.key_index_store.specs.Indices.{limit_of}
+use Rattle.wire.specs.declared.limits.TheConstants.{MOST_ENTRIES}
+use Rattle.vote_desk.specs.declared.parts.Left.{Left}
+use Rattle.key_index_store.specs.declared.store.TheConstants.{INDICES}
 use Rattle.log_format.specs.EntryText.{Entry, IsEntry, stored_in}
+use Rattle.log_format.specs.declared.entry.KeyedSignature.{KeyedSignature}
 use Rattle.vote_log.specs.Logs.{AreListed, LogState, StandsForEntries, LeavesEntries}
 
--- what contracts see of a desk: the replica's core, the seed of its key, its indices, its log, and how many votes
+-- what contracts see of a desk: the replica's core, the seeds of its keys, their indices, its log, and how many votes
 -- were released since it was opened
 pub record DeskView (D : Type 0) : Type 0 where
   pub core : Core
-  pub seed : PrivateSeed
+  pub seeds : List PrivateSeed
   pub indices : IndexState D
   pub log : LogState D
   pub released : ℕ
 
-abbrev pub desk_of : {D : Type 0} → Core → PrivateSeed → IndexState D → LogState D → ℕ → DeskView D
-desk_of core seed indices log released = record { core = core; seed = seed; indices = indices; log = log; released = released }
+abbrev pub desk_of : {D : Type 0} → Core → List PrivateSeed → IndexState D → LogState D → ℕ → DeskView D
+desk_of core seeds indices log released = record { core = core; seeds = seeds; indices = indices; log = log; released = released }
+
+-- what is left of the indices, where the index store runs, and of the log's room
+abbrev pub left_of : {D : Type 0} → DeskView D → Left
+left_of d = record {
+  indices = if d.indices.stopped then 0 else limit_of d.indices.keys - d.indices.mark;
+  entries = MOST_ENTRIES - length d.log.steps;
+}
 
 -- ---- votes and their indices
 
@@ -33,32 +45,43 @@ desk_of core seed indices log released = record { core = core; seed = seed; indi
 abbrev pub vote_count : List Stored → ℕ
 vote_count list = count_by (λ (x : Stored). x.voted) list
 
--- the key index that a signature shows
-abbrev pub index_of : List ℕ → ℕ
-index_of signature = number_at 4 signature 0
+-- the index that a signature under this key shows: each key has 1,024, and the signature begins with its own number
+-- among them
+abbrev pub index_of : KeyedSignature → ℕ
+index_of signed = INDICES * signed.key + number_at 4 signed.signature 0
 
 -- before these the index of a vote, if there is one
-abbrev pub with_index : Option (List ℕ) → List ℕ → List ℕ
-with_index (Some signature) rest = index_of signature ∷ rest
+abbrev pub with_index : Option KeyedSignature → List ℕ → List ℕ
+with_index (Some signed) rest = index_of signed ∷ rest
 with_index None rest = rest
 
 -- the indices of the votes among these entries, in order
 abbrev pub indices_in : List Entry → List ℕ
 indices_in [] = []
-indices_in (e ∷ es) = with_index e.signature (indices_in es)
+indices_in (e ∷ es) = with_index e.own (indices_in es)
 
 -- they rise, and lie below the mark
 pub record AreRising (mark : ℕ) (indices : List ℕ) : Type 0 where
   pub rise : AllPairs (λ i j. i < j) indices
   pub below : All (λ i. i < mark) indices
 
--- ---- the key
+-- ---- the keys
 
--- the seed's key is that of this replica
-pub record IsKeyOf (committee : List ℕ) (replica : ℕ) (seed : PrivateSeed) : Type 0 where
+-- the seed of key k, for k below their number
+abbrev pub seed_of : List PrivateSeed → ℕ → PrivateSeed
+seed_of seeds k = slice_index_or seeds k (record { key_id = []; seed = [] })
+
+-- the seed's key is key k of this replica
+pub record IsKeyOf (committee : List ℕ) (replica k : ℕ) (seed : PrivateSeed) : Type 0 where
+  pub key_id : seed.key_id ≡ key_id_at committee replica k
+  pub root : tree_root seed.key_id seed.seed ≡ root_at committee replica k
+
+-- the seeds are those of this replica's keys, in order, and there are indices of as many keys
+pub record AreKeysOf (committee : List ℕ) (replica : ℕ) (seeds : List PrivateSeed) (keys : ℕ) : Type 0 where
   pub known : replica < n_of committee
-  pub key_id : seed.key_id ≡ key_id_at committee replica
-  pub root : tree_root seed.key_id seed.seed ≡ root_at committee replica
+  pub as_many : length seeds ≡ keys_of committee replica
+  pub indices : keys ≡ keys_of committee replica
+  pub each : (k : ℕ) → k < keys_of committee replica → IsKeyOf committee replica k (seed_of seeds k)
 
 -- ---- what a crash leaves
 
@@ -89,7 +112,7 @@ pub record KeepsEntries {D : Type 0} (images : List ℕ → Type 0) (opening : L
   pub durable : log.stopped ≡ false → LeavesEntries images log.entries
 
 pub record KeepsDesk {D : Type 0} (bytes : D → Option (List ℕ)) (images : D → List ℕ → Type 0) (committee : List ℕ) (replica : ℕ) (opening : List Stored) (d : DeskView D) : Type 0 where
-  pub key : IsKeyOf committee replica d.seed
+  pub keys : AreKeysOf committee replica d.seeds d.indices.keys
   pub genesis : d.core.genesis ≡ genesis_of committee
   pub list : KeepsList opening d.core d.log.genesis d.log.steps d.released
   pub entries : IfSome (bytes d.log.disk) (λ _. KeepsEntries (images d.log.disk) opening d.core.headers d.indices.mark d.log)
@@ -103,12 +126,12 @@ pub record KeepsState {D : Type 0} (bytes : D → Option (List ℕ)) (images : D
 
 -- ---- a desk that was just opened
 
--- the core knows what a restart knows of the log's list; log, indices and key are those that were given
-pub record IsOpened {D : Type 0} (committee : List ℕ) (seed : PrivateSeed) (indices : IndexState D) (log : LogState D) (d : DeskView D) : Type 0 where
+-- the core knows what a restart knows of the log's list; log, indices and keys are those that were given
+pub record IsOpened {D : Type 0} (committee : List ℕ) (seeds : List PrivateSeed) (indices : IndexState D) (log : LogState D) (d : DeskView D) : Type 0 where
   pub genesis : d.core.genesis ≡ genesis_of committee
   pub state : d.core.state ≡ restarted_with (replay (genesis_of committee) log.steps)
   pub headers : HoldsLinked (genesis_of committee) log.steps d.core.headers
-  pub seed_is : d.seed ≡ seed
+  pub seeds_are : d.seeds ≡ seeds
   pub indices_are : d.indices ≡ indices
   pub log_is : d.log ≡ log
   pub none : d.released ≡ 0

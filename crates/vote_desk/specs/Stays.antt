@@ -26,6 +26,6 @@ pub record IsStay {D : Type 0} (bytes : D → Option (List ℕ)) (images : D →
   pub found : IfSome (bytes d.log.disk) (λ _. (image : List ℕ) → images d.log.disk image → IsImageAfter genesis (stay_in opening d) image)
 
 -- a desk with this key, these indices and this log was such a stay
-abbrev pub AreLeftByStay : {D : Type 0} → (D → Option (List ℕ)) → (D → List ℕ → Type 0) → Header → List Stored → PrivateSeed → IndexState D → LogState D → Type 0
+abbrev pub AreLeftByStay : {D : Type 0} → (D → Option (List ℕ)) → (D → List ℕ → Type 0) → Header → List Stored → List PrivateSeed → IndexState D → LogState D → Type 0
 AreLeftByStay bytes images genesis opening seed indices log =
     (core : Core) × (released : ℕ) × IsStay bytes images genesis opening (desk_of core seed indices log released)

@@ -67,10 +67,10 @@ pub fn close_on<N: Naming, D: Disk>(
     ensures order { IfOk result (λ c. AreRisingByNumber c.receipts.items) }
 
     // Core, key, indices and log are the desk's, and what it kept still holds of them.
-    ensures same { IfOk result (λ c. (c.core ≡ state.core) × (c.parts.tree ≡ state.seed)
+    ensures same { IfOk result (λ c. (c.core ≡ state.core) × (c.parts.trees.items ≡ state.seeds)
         × (c.parts.index ≡ state.indices) × (c.parts.log ≡ state.log)) }
     ensures keeps { IfOk result (λ c. KeepsDesk D.bytes D.images N.committee N.replica N.opening
-        (desk_of c.core c.parts.tree c.parts.index c.parts.log (vec_len c.receipts))) }
+        (desk_of c.core c.parts.trees.items c.parts.index c.parts.log (vec_len c.receipts))) }
 
     // Each image of the log has the receipts' entries, and fits the opening list and the core's headers.
     ensures images { IfOk result (λ c. IfSome (D.bytes c.parts.log.disk) (λ _.
@@ -79,7 +79,7 @@ pub fn close_on<N: Naming, D: Disk>(
 
     // The desk was a stay of its replica's life, in whose list each receipt's vote stands.
     ensures stay { IfOk result (λ c. IsStay D.bytes D.images (genesis_of N.committee) N.opening
-        (desk_of c.core c.parts.tree c.parts.index c.parts.log (vec_len c.receipts))) }
+        (desk_of c.core c.parts.trees.items c.parts.index c.parts.log (vec_len c.receipts))) }
     ensures released { IfOk result (λ c.
         All (λ r. Contains (ballots_in c.parts.log.steps) (receipt_ballot r)) c.receipts.items) }
 
@@ -93,10 +93,10 @@ pub fn close_on<N: Naming, D: Disk>(
         length (receipts_of (map (λ s. s.receipts.items) sessions.items)) ≡ vote_count (drop (length N.opening) e.1.log.steps)) }
 
     // A refusal gives the desk's parts back, and they were left by a stay.
-    ensures err { IfErr result (λ e. (e.1.tree ≡ state.seed) × (e.1.index ≡ state.indices)
+    ensures err { IfErr result (λ e. (e.1.trees.items ≡ state.seeds) × (e.1.index ≡ state.indices)
         × (e.1.log ≡ state.log)) }
     ensures left { IfErr result (λ e. AreLeftByStay D.bytes D.images (genesis_of N.committee) N.opening
-        e.1.tree e.1.index e.1.log) }
+        e.1.trees.items e.1.index e.1.log) }
 {
     let (core, parts, mut book, opened) = state.into_parts();
     let Ok((mut share, mut receipts)) = gather(alloc, sessions) else {

@@ -65,8 +65,8 @@ pub fn deliver_on<N: Naming, D: Disk>(
     ensures stopped { IsStopped state.old → state.new.log ≡ state.old.log }
     ensures grows { ListGrows state.old.log.steps state.new.log.steps }
 
-    // The key has as many indices as before, and the disk tells its bytes if it did.
-    ensures limit { state.new.indices.limit ≡ state.old.indices.limit }
+    // There are as many keys as before, and the disk tells its bytes if it did.
+    ensures keys { state.new.indices.keys ≡ state.old.indices.keys }
     ensures tells { IsSome (D.bytes state.new.log.disk) ↔ IsSome (D.bytes state.old.log.disk) }
 
     // After a refusal core, list and session are as before, and at most one index was drawn.

@@ -5,6 +5,9 @@ ghost use Rattle.std.specs.List.{All, Contains};
 ghost use Rattle.std.specs.List.Sorted.{IsPermutation};
 ghost use Rattle.blocks.specs.Genesis.{genesis_of};
 ghost use Rattle.blocks.specs.Replay.{ballots_in};
+ghost use Rattle.wire.specs.declared.limits.TheConstants.{MOST_ENTRIES};
+ghost use Rattle.key_index_store.specs.Indices.{limit_of};
+ghost use Rattle.key_index_store.specs.declared.store.TheConstants.{MOST_KEYS};
 ghost use Rattle.vote_desk.specs.Deliveries.{CommitsIn, IsGoodAnswer, released_by, with_receipt};
 ghost use Rattle.vote_desk.specs.DeskRefusals.{IsStartRefusal, IsStartable};
 ghost use Rattle.vote_desk.specs.Desks.{KeepsDesk, desk_of, vote_count};
@@ -15,7 +18,7 @@ use crate::closing::close_on;
 use crate::delivery::{deliver_on, timeout_on};
 use crate::desk_error::DeskError;
 use crate::naming::Naming;
-use crate::parts::{Closed, Parts};
+use crate::parts::{Closed, Left, Parts};
 use crate::reply::Reply;
 use crate::session::Session;
 use crate::start_error::StartError;
@@ -53,11 +56,11 @@ impl<N: Naming, D: Disk> Desk<N, D> {
         requires replica { replica ≡ N.replica }
         requires opening { parts.log.steps ≡ N.opening }
 
-        ensures exact { OnOk result (IsStartable committee.now replica parts.tree parts.log parts.index) }
+        ensures exact { OnOk result (IsStartable committee.now replica parts.trees.items parts.log parts.index) }
         ensures sessions { IfOk result (λ r. vec_len r.1 ≡ sessions) }
         ensures none_released { IfOk result (λ r. All (λ s. s.receipts.items ≡ []) r.1.items) }
         ensures first_refusal { IfErr result (λ e.
-            IsStartRefusal committee.now replica parts.tree parts.log parts.index e.0) }
+            IsStartRefusal committee.now replica parts.trees.items parts.log parts.index e.0) }
         ensures err { IfErr result (λ e. e.1 ≡ parts) }
     {
         let (state, sessions) = DeskState::<N, D>::open(
@@ -105,6 +108,16 @@ impl<N: Naming, D: Disk> Desk<N, D> {
         timeout_on(&mut *state, view)
     }
 
+    /// Takes the lock, which may wait, and says what is left of the indices and of the log's room: plan a new committee
+    /// before either ends, since the replica then votes no more.
+    pub fn left<R: Wait>(&self, rt: &R) -> Left
+        ensures indices { result.indices ≤ limit_of MOST_KEYS }
+        ensures entries { result.entries ≤ MOST_ENTRIES }
+    {
+        let state = self.state.lock(rt);
+        state.left()
+    }
+
     /// Ends the desk, as `close_on` does. Hand in all sessions that `start` gave. A stopped desk can be closed. A refusal
     /// hands the parts back. In this order: `Memory`, `ReceiptMismatch`.
     pub fn close(
@@ -117,12 +130,12 @@ impl<N: Naming, D: Disk> Desk<N, D> {
         ensures ok { IfOk result (λ c. AreReceipts (length N.opening) c.parts.log.steps c.receipts.items) }
         ensures order { IfOk result (λ c. AreRisingByNumber c.receipts.items) }
         ensures keeps { IfOk result (λ c. KeepsDesk D.bytes D.images N.committee N.replica N.opening
-            (desk_of c.core c.parts.tree c.parts.index c.parts.log (vec_len c.receipts))) }
+            (desk_of c.core c.parts.trees.items c.parts.index c.parts.log (vec_len c.receipts))) }
         ensures images { IfOk result (λ c. IfSome (D.bytes c.parts.log.disk) (λ _.
             (image : List ℕ) → D.images c.parts.log.disk image →
             KeepsReceipts c.core.headers c.parts.log.genesis N.opening c.parts.log.entries c.receipts.items image)) }
         ensures stay { IfOk result (λ c. IsStay D.bytes D.images (genesis_of N.committee) N.opening
-            (desk_of c.core c.parts.tree c.parts.index c.parts.log (vec_len c.receipts))) }
+            (desk_of c.core c.parts.trees.items c.parts.index c.parts.log (vec_len c.receipts))) }
         ensures released { IfOk result (λ c.
             All (λ r. Contains (ballots_in c.parts.log.steps) (receipt_ballot r)) c.receipts.items) }
         ensures refused { IfErr result (λ e. (e.0 ≡ DeskError.Memory) ⊎ (e.0 ≡ DeskError.ReceiptMismatch)) }
@@ -131,7 +144,7 @@ impl<N: Naming, D: Disk> Desk<N, D> {
         ensures counts { IfErr result (λ e. e.0 ≡ DeskError.ReceiptMismatch → vec_len sessions ≡ N.parts → 0 < N.parts →
             length (receipts_of (map (λ s. s.receipts.items) sessions.items)) ≡ vote_count (drop (length N.opening) e.1.log.steps)) }
         ensures left { IfErr result (λ e. AreLeftByStay D.bytes D.images (genesis_of N.committee) N.opening
-            e.1.tree e.1.index e.1.log) }
+            e.1.trees.items e.1.index e.1.log) }
     {
         let Desk { state } = self;
         close_on(alloc, state.into_inner(), sessions)

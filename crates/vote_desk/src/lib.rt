@@ -23,7 +23,7 @@ pub use delivery::{deliver_on, timeout_on};
 pub use desk::Desk;
 pub use desk_error::DeskError;
 pub use naming::Naming;
-pub use parts::{Closed, Parts};
+pub use parts::{Closed, Left, Parts};
 pub use reply::{Answer, Receipt, Reply};
 pub use session::Session;
 pub use start_error::StartError;

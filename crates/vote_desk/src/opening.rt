@@ -1,14 +1,15 @@
 //! Opening a desk on what is stored.
 
-ghost use Rattle.std.specs.Prelude.{◌≡◌, ◌<◌, ◌≤◌, ◌+◌, [], false, length, vec_len, IfErr, IfOk, IfSome, OnOk};
+ghost use Rattle.std.specs.Prelude.{◌≡◌, ◌<◌, ◌≤◌, ◌+◌, [], false, length, vec_len, IfErr, IfOk, IfSome, IsTrue, OnOk, ◌↔◌};
 ghost use Rattle.std.specs.List.{All};
+ghost use Rattle.blocks.specs.Committees.{n_of, keys_of};
 ghost use Rattle.blocks.specs.Genesis.{genesis_of};
 ghost use Rattle.blocks.specs.Replay.{IsLegal, replay};
 ghost use Rattle.replica_core.specs.Cores.{restarted_with};
 ghost use Rattle.replica_core.specs.Restarts.{HoldsLinked};
 ghost use Rattle.vote_log.specs.Logs.{AreListed, LeavesEntries};
 ghost use Rattle.vote_desk.specs.DeskRefusals.{IsStartRefusal, IsStartable};
-ghost use Rattle.vote_desk.specs.Desks.{IsOpened};
+ghost use Rattle.vote_desk.specs.Desks.{AreKeysOf, IsKeyOf, IsOpened};
 ghost use Rattle.vote_desk.specs.Stays.{IsStay};
 
 use crate::naming::Naming;
@@ -25,21 +26,47 @@ use std::alloc::{AllocError, Global};
 use std::sync::ledger::{Blank, Share};
 use vote_log::VoteLog;
 
+// Whether a tree is that of key k of a replica.
+fn is_key(committee: &CommitteeView, replica: u16, k: u8, tree: &SigningTree) -> bool
+    requires known { replica < n_of committee.now }
+    requires has { k < keys_of committee.now replica }
+    ensures { IsTrue result ↔ IsKeyOf committee.now replica k tree.now }
+{
+    tree.public_key() == committee.key(replica, k)
+}
+
+// Whether the trees are those of the replica's keys, in order, and there are indices of as many keys.
+fn are_keys(committee: &CommitteeView, replica: u16, trees: &[SigningTree], keys: u8) -> bool
+    requires { replica < n_of committee.now }
+    ensures { IsTrue result ↔ AreKeysOf committee.now replica trees.now keys }
+{
+    let wanted = committee.keys(replica);
+    if trees.len() != usize::from(wanted) || keys != wanted {
+        return false;
+    }
+    for k in 0..wanted {
+        if !is_key(committee, replica, k, &trees[k as usize]) {
+            return false;
+        }
+    }
+    true
+}
+
 // The tests of what a desk is to be opened with, in their order.
 fn judge<D: Disk>(
     committee: &CommitteeView,
     replica: u16,
-    tree: &SigningTree,
+    trees: &[SigningTree],
     index: &IndexStore<D>,
     log: &VoteLog<D>,
 ) -> Result<(), StartError>
-    ensures exact { OnOk result (IsStartable committee.now replica tree.now log.now index.now) }
-    ensures first_refusal { IfErr result (IsStartRefusal committee.now replica tree.now log.now index.now) }
+    ensures exact { OnOk result (IsStartable committee.now replica trees.now log.now index.now) }
+    ensures first_refusal { IfErr result (IsStartRefusal committee.now replica trees.now log.now index.now) }
 {
     if replica >= committee.n() {
         return Err(StartError::UnknownReplica);
     }
-    if tree.public_key() != committee.key(replica) {
+    if !are_keys(committee, replica, trees, index.keys()) {
         return Err(StartError::WrongKey);
     }
     if *log.genesis() != committee.genesis() {
@@ -114,8 +141,8 @@ impl<N: Naming, D: Disk> DeskState<N, D> {
         requires opening { parts.log.steps ≡ N.opening }
 
         // A restart from the log's list.
-        ensures ok { IfOk result (λ r. IsOpened committee.now parts.tree parts.index parts.log r.0) }
-        ensures exact { OnOk result (IsStartable committee.now replica parts.tree parts.log parts.index) }
+        ensures ok { IfOk result (λ r. IsOpened committee.now parts.trees.items parts.index parts.log r.0) }
+        ensures exact { OnOk result (IsStartable committee.now replica parts.trees.items parts.log parts.index) }
 
         // It begins a stay of the replica's life.
         ensures stay { IfOk result (λ r. IsStay D.bytes D.images (genesis_of N.committee) N.opening r.0) }
@@ -123,10 +150,10 @@ impl<N: Naming, D: Disk> DeskState<N, D> {
         ensures sessions { IfOk result (λ r. vec_len r.1 ≡ sessions) }
         ensures none_released { IfOk result (λ r. All (λ s. s.receipts.items ≡ []) r.1.items) }
         ensures first_refusal { IfErr result (λ e.
-            IsStartRefusal committee.now replica parts.tree parts.log parts.index e.0) }
+            IsStartRefusal committee.now replica parts.trees.items parts.log parts.index e.0) }
         ensures err { IfErr result (λ e. e.1 ≡ parts) }
     {
-        if let Err(refusal) = judge(committee, replica, &parts.tree, &parts.index, &parts.log) {
+        if let Err(refusal) = judge(committee, replica, &parts.trees, &parts.index, &parts.log) {
             return Err((refusal, parts));
         }
         let (book, rest) = blank.open::<N>();

@@ -10,18 +10,27 @@ use vote_log::VoteLog;
 /// What a desk is opened with, and gives back.
 #[derive(Drop)]
 pub struct Parts<D: Disk> {
-    /// The replica's key. It must sign nowhere else.
-    pub tree: SigningTree,
-    /// The indices of the key.
+    /// The replica's keys, in the order of their numbers. They must sign nowhere else.
+    pub trees: Vec<SigningTree>,
+    /// The indices of the keys.
     pub index: IndexStore<D>,
     /// The replica's log.
     pub log: VoteLog<D>,
 }
 
+/// What a desk has left to work with.
+#[derive(Clone, Copy, Debug, PartialEq, Eq)]
+pub struct Left {
+    /// How many votes the replica's keys can still sign, 0 where the index store is stopped. A restart skips some.
+    pub indices: u32,
+    /// How many entries the log has room for, of 4,096.
+    pub entries: usize,
+}
+
 /// What a closed desk leaves.
 #[derive(Drop)]
 pub struct Closed<D: Disk> {
-    /// The key, its indices and the log, as the desk left them.
+    /// The keys, their indices and the log, as the desk left them.
     pub parts: Parts<D>,
     /// The receipts of all sessions, by rising numbers: one for each vote that the desk released.
     pub receipts: Vec<Receipt>,

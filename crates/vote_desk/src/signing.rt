@@ -1,35 +1,35 @@
 //! Drawing an index, and signing under it.
 
-ghost use Rattle.std.specs.Prelude.{◌≡◌, ◌≢◌, ◌+◌, ◌<◌, true, false, IfOk, IfErr, IsErrOf, OnOk};
-ghost use Rattle.lms_tree.specs.Tree.{tree_root, Verifies};
-ghost use Rattle.lms_tree.specs.declared.TheConstants.{LEAVES};
-ghost use Rattle.certificates.specs.Statements.{statement_text};
+ghost use Rattle.std.specs.Prelude.{◌≡◌, ◌≢◌, ◌+◌, ◌<◌, ◌≤◌, length, true, false, IfOk, IfErr, IsErrOf, OnOk};
 ghost use Rattle.faults.specs.Counting.{HasFailed};
-ghost use Rattle.vote_desk.specs.Deliveries.{vote_under};
+ghost use Rattle.key_index_store.specs.declared.store.TheConstants.{MOST_KEYS};
+ghost use Rattle.key_index_store.specs.Indices.{key_of, limit_of};
+ghost use Rattle.vote_desk.specs.Deliveries.{IsSignedWith, signed_in, vote_under};
 ghost use Rattle.vote_desk.specs.DeskRefusals.{IsStorageRefusal};
-ghost use Rattle.vote_desk.specs.Desks.{index_of};
+ghost use Rattle.vote_desk.specs.Desks.{index_of, seed_of};
 
 use crate::desk_error::DeskError;
 use blocks::{Header, Id};
 use certificates::{SignedVote, Statement};
-use key_index_store::IndexStore;
+use key_index_store::{IndexStore, key_of, q_of};
 use lms_tree::SigningTree;
 use stable_log::Disk;
 
 // The replica's vote for a block, signed under this index.
 fn vote_under(
-    tree: &SigningTree,
+    trees: &[SigningTree],
     index: u32,
     replica: u16,
     chain: &Id,
     block: &Header,
 ) -> SignedVote
-    requires { index < LEAVES }
-    ensures value { result ≡ vote_under chain.now replica tree.now index block.now }
-    ensures index { index_of result.signature ≡ index }
-    ensures verifies { Verifies tree.now.key_id (tree_root tree.now.key_id tree.now.seed)
-        (statement_text chain.now result.view result.id) result.signature }
+    requires most { index < limit_of MOST_KEYS }
+    requires has { key_of index < length trees.now }
+    ensures value { result ≡ vote_under chain.now replica trees.now index block.now }
+    ensures index { index_of (signed_in result) ≡ index }
+    ensures verifies { IsSignedWith (seed_of trees.now result.key) chain.now result }
 {
+    let key = key_of(index);
     let id = block.id();
     let statement = Statement {
         chain: *chain,
@@ -40,27 +40,29 @@ fn vote_under(
         replica,
         view: block.view,
         id,
-        signature: tree.sign_at(index, &statement.to_bytes()),
+        key,
+        signature: trees[key as usize].sign_at(q_of(index), &statement.to_bytes()),
     }
 }
 
 /// Draws an index, and signs the replica's vote for a block under it. No other call gives this index again. After `Device`
 /// the store is stopped.
 pub(crate) fn draw<D: Disk>(
-    tree: &SigningTree,
+    trees: &[SigningTree],
     indices: &mut IndexStore<D>,
     replica: u16,
     chain: &Id,
     block: &Header,
 ) -> Result<SignedVote, DeskError>
     requires running { indices.old.stopped ≡ false }
-    requires left { indices.old.mark < indices.old.limit }
-    ensures value { IfOk result (λ v. v ≡ vote_under chain.now replica tree.now indices.old.mark block.now) }
-    ensures index { IfOk result (λ v. index_of v.signature ≡ indices.old.mark) }
-    ensures verifies { IfOk result (λ v. Verifies tree.now.key_id
-        (tree_root tree.now.key_id tree.now.seed) (statement_text chain.now v.view v.id) v.signature) }
+    requires left { indices.old.mark < limit_of indices.old.keys }
+    requires as_many { length trees.now ≡ indices.old.keys }
+    ensures value { IfOk result (λ v. v ≡ vote_under chain.now replica trees.now indices.old.mark block.now) }
+    ensures index { IfOk result (λ v. index_of (signed_in v) ≡ indices.old.mark) }
+    ensures verifies { IfOk result (λ v. IsSignedWith (seed_of trees.now v.key) chain.now v) }
+    ensures key { IfOk result (λ v. v.key < length trees.now) }
     ensures drawn { OnOk result (indices.new.mark ≡ indices.old.mark + 1) }
-    ensures limit { indices.new.limit ≡ indices.old.limit }
+    ensures keys { indices.new.keys ≡ indices.old.keys }
     ensures running { OnOk result (indices.new.stopped ≡ false) }
     ensures first_refusal { IfErr result IsStorageRefusal }
     ensures device { IsErrOf result DeskError.Device →
@@ -70,6 +72,8 @@ pub(crate) fn draw<D: Disk>(
     ensures cause { IsErrOf result DeskError.Device →
         HasFailed (D.failed indices.old.disk) (D.failed indices.new.disk) }
 {
+    // There are no more than the most keys.
+    let _keys = indices.keys();
     let index = indices.next()?;
-    Ok(vote_under(tree, index, replica, chain, block))
+    Ok(vote_under(trees, index, replica, chain, block))
 }

@@ -12,14 +12,17 @@ ghost use Rattle.replica_core.specs.Plans.{HoldsAlso, IsPlan, TakesEvent};
 ghost use Rattle.stable_log.specs.Crash.{LeavesOnly};
 ghost use Rattle.log_format.specs.EntryText.{IsEntry};
 ghost use Rattle.vote_log.specs.Logs.{AreListed, IsLogBeforeOrAfter, LeavesEntries, StandsForEntries};
-ghost use Rattle.vote_desk.specs.Deliveries.{DrawsAtMostOne, FailsLog, FailsNone, FailsOne, IsKept, IsLeftBy, IsLeftWith, IsLegalPlan, IsStored, entry_for, vote_under};
+ghost use Rattle.wire.specs.declared.limits.TheConstants.{MOST_ENTRIES};
+ghost use Rattle.key_index_store.specs.Indices.{limit_of};
+ghost use Rattle.key_index_store.specs.declared.store.TheConstants.{MOST_KEYS};
+ghost use Rattle.vote_desk.specs.Deliveries.{DrawsAtMostOne, FailsLog, FailsNone, FailsOne, IsKept, IsLeftBy, IsLeftWith, IsLegalPlan, IsStored, entry_for, signed_in, vote_under};
 ghost use Rattle.vote_desk.specs.DeskRefusals.{HasRoom, HasRoomTo, IsPlanRefusal, IsRunning, IsStopped, IsStorageRefusal};
-ghost use Rattle.vote_desk.specs.Desks.{IsKeyOf, KeepsDesk, desk_of, index_of};
+ghost use Rattle.vote_desk.specs.Desks.{AreKeysOf, KeepsDesk, desk_of, index_of, left_of};
 ghost use Rattle.vote_desk.specs.Stays.{IsImageAfter, IsStay, stay_in};
 
 use crate::desk_error::DeskError;
 use crate::naming::Naming;
-use crate::parts::Parts;
+use crate::parts::{Left, Parts};
 use crate::reply::Receipt;
 use crate::session::Session;
 use crate::signing::draw;
@@ -32,17 +35,17 @@ use replica_core::{Act, Core, CoreRefusal, Plan};
 use stable_log::Disk;
 use std::marker::Model;
 use std::sync::ledger::Book;
-use vote_log::VoteLog;
+use vote_log::{MOST_ENTRIES, VoteLog};
 
-/// What stands under a desk's lock: the core of a replica, its key, the key's indices, its log, and the book of the votes
+/// What stands under a desk's lock: the core of a replica, its keys, their indices, its log, and the book of the votes
 /// that were released. Vote, raised lock and timeout are each one call on it: `deliver_on` and `timeout_on`.
 ///
-/// Contracts see the core, the seed of the key, the indices, the log, and how many votes were released since it was
+/// Contracts see the core, the seeds of the keys, the indices, the log, and how many votes were released since it was
 /// opened. What is kept between the calls is `KeepsDesk`, which README.md says in words.
 #[derive(Drop)]
 pub struct DeskState<N: Naming, D: Disk> {
     core: Core,
-    tree: SigningTree,
+    trees: Vec<SigningTree>,
     indices: IndexStore<D>,
     log: VoteLog<D>,
     replica: u16,
@@ -59,9 +62,9 @@ impl<N: Naming, D: Disk> Model for DeskState<N, D> {
 
     ghost Value = { DeskView D };
 
-    ghost view = { λ s. desk_of s.core s.tree s.indices s.log s.book.total };
+    ghost view = { λ s. desk_of s.core s.trees.items s.indices s.log s.book.total };
 
-    ghost invariant = { λ s. KeepsState D.bytes D.images N.committee N.replica N.opening (desk_of s.core s.tree s.indices s.log s.book.total) s.replica s.chain s.opened };
+    ghost invariant = { λ s. KeepsState D.bytes D.images N.committee N.replica N.opening (desk_of s.core s.trees.items s.indices s.log s.book.total) s.replica s.chain s.opened };
 }
 
 impl<N: Naming, D: Disk> DeskState<N, D> {
@@ -76,7 +79,7 @@ impl<N: Naming, D: Disk> DeskState<N, D> {
         requires committee { committee.now ≡ N.committee }
         requires replica { replica ≡ N.replica }
         requires opening { parts.log.steps ≡ N.opening }
-        requires key { IsKeyOf committee.now replica parts.tree }
+        requires keys { AreKeysOf committee.now replica parts.trees.items parts.index.keys }
         requires chain { parts.log.genesis ≡ genesis_of committee.now }
         requires legal { IsLegal parts.log.genesis parts.log.steps }
         requires listed { IfSome (D.bytes parts.log.disk) (λ _. AreListed parts.log.entries parts.log.steps) }
@@ -85,14 +88,14 @@ impl<N: Naming, D: Disk> DeskState<N, D> {
         requires genesis { core.genesis ≡ genesis_of committee.now }
         requires state { core.state ≡ restarted_with (replay (genesis_of committee.now) parts.log.steps) }
         requires none { book.total ≡ 0 }
-        ensures value { result ≡ desk_of core parts.tree parts.index parts.log 0 }
+        ensures value { result ≡ desk_of core parts.trees.items parts.index parts.log 0 }
         ensures stay { IsStay D.bytes D.images (genesis_of N.committee) N.opening result }
     {
         let opened = parts.log.count();
-        let Parts { tree, index, log } = parts;
+        let Parts { trees, index, log } = parts;
         DeskState {
             core,
-            tree,
+            trees,
             indices: index,
             log,
             replica,
@@ -111,6 +114,20 @@ impl<N: Naming, D: Disk> DeskState<N, D> {
         ensures stay { IsStay D.bytes D.images (genesis_of N.committee) N.opening self.now }
     {
         &self.core
+    }
+
+    /// What is left of the indices and of the log's room.
+    pub fn left(&self) -> Left
+        ensures value { result ≡ left_of self.now }
+        ensures few { result.indices ≤ limit_of MOST_KEYS }
+        ensures room { result.entries ≤ MOST_ENTRIES }
+    {
+        // There are no more than the most keys.
+        let _keys = self.indices.keys();
+        Left {
+            indices: self.indices.left(),
+            entries: MOST_ENTRIES - self.log.count(),
+        }
     }
 
     /// The replica's log.
@@ -148,7 +165,7 @@ impl<N: Naming, D: Disk> DeskState<N, D> {
         ensures running { OnOk result (IsRunning self.old) }
         ensures room { IfOk result (λ plan. HasRoomTo self.old.log self.old.indices plan.act) }
         ensures core { IsSameCore self.old.core self.new.core }
-        ensures same { (self.new.seed ≡ self.old.seed) × (self.new.indices ≡ self.old.indices)
+        ensures same { (self.new.seeds ≡ self.old.seeds) × (self.new.indices ≡ self.old.indices)
             × (self.new.log ≡ self.old.log) × (self.new.released ≡ self.old.released) }
         ensures first_refusal { IfErr result (IsPlanRefusal self.old block.now.header) }
 
@@ -176,7 +193,7 @@ impl<N: Naming, D: Disk> DeskState<N, D> {
         ensures headers { HoldsAlso self.old.core.headers self.new.core.headers plan.block }
         ensures genesis { self.new.core.genesis ≡ self.old.core.genesis }
         ensures state { TakesEvent self.old.core plan self.new.core.state }
-        ensures same { (self.new.seed ≡ self.old.seed) × (self.new.indices ≡ self.old.indices)
+        ensures same { (self.new.seeds ≡ self.old.seeds) × (self.new.indices ≡ self.old.indices)
             × (self.new.log ≡ self.old.log) × (self.new.released ≡ self.old.released) }
     {
         self.core.apply(plan);
@@ -222,13 +239,13 @@ impl<N: Naming, D: Disk> DeskState<N, D> {
         requires running { IsRunning self.old }
         requires room { HasRoomTo self.old.log self.old.indices Act.Vote }
         ensures number { IfOk result (λ r. r.number ≡ length self.old.log.steps) }
-        ensures vote { IfOk result (λ r. r.vote ≡ vote_under (chain_id_of N.committee) N.replica self.old.seed self.old.indices.mark plan.block) }
-        ensures index { IfOk result (λ r. index_of r.vote.signature ≡ self.old.indices.mark) }
+        ensures vote { IfOk result (λ r. r.vote ≡ vote_under (chain_id_of N.committee) N.replica self.old.seeds self.old.indices.mark plan.block) }
+        ensures index { IfOk result (λ r. index_of (signed_in r.vote) ≡ self.old.indices.mark) }
         ensures good { IfOk result (λ r. IsGoodVote N.committee r.vote) }
         ensures stored { IfOk result (λ r. IsStored D.bytes D.images self.old self.new plan
-            (entry_for block.entry plan.parent (Some r.vote.signature))) }
+            (entry_for block.entry plan.parent (Some (signed_in r.vote)))) }
         ensures drawn { OnOk result (self.new.indices.mark ≡ self.old.indices.mark + 1) }
-        ensures limit { self.new.indices.limit ≡ self.old.indices.limit }
+        ensures keys { self.new.indices.keys ≡ self.old.indices.keys }
         ensures undisturbed { IfErr result (λ e. e ≢ DeskError.Device → self.new.indices.stopped ≡ false) }
         ensures tells { IsSome (D.bytes self.new.log.disk) ↔ IsSome (D.bytes self.old.log.disk) }
         ensures released { OnOk result (self.new.released ≡ self.old.released + 1) }
@@ -248,12 +265,12 @@ impl<N: Naming, D: Disk> DeskState<N, D> {
         ensures any_moment { IfSome (D.bytes self.old.log.disk) (λ _.
             AtAnyMoment D.Disk self.old.log.disk self.new.log.disk
             (IsLeftWith self.old.log.entries (entry_for block.entry plan.parent
-            (Some (vote_under (chain_id_of N.committee) N.replica self.old.seed self.old.indices.mark plan.block).signature)))) }
+            (Some (signed_in (vote_under (chain_id_of N.committee) N.replica self.old.seeds self.old.indices.mark plan.block)))))) }
     {
         let number = self.log.count() as u32;
         session.reserve()?;
         let vote = draw(
-            &self.tree,
+            &self.trees,
             &mut self.indices,
             self.replica,
             &self.chain,
@@ -268,7 +285,7 @@ impl<N: Naming, D: Disk> DeskState<N, D> {
     // Raises the vote view where it is lower.
     pub(crate) fn time_out(&mut self, view: u64)
         ensures core { self.new.core ≡ record self.old.core { state = timed_out self.old.core.state view } }
-        ensures same { (self.new.seed ≡ self.old.seed) × (self.new.indices ≡ self.old.indices)
+        ensures same { (self.new.seeds ≡ self.old.seeds) × (self.new.indices ≡ self.old.indices)
             × (self.new.log ≡ self.old.log) × (self.new.released ≡ self.old.released) }
     {
         self.core.timeout(view);
@@ -276,14 +293,14 @@ impl<N: Naming, D: Disk> DeskState<N, D> {
 
     // The core, the parts, the book, and how many entries the log had when the desk was opened.
     pub(crate) fn into_parts(self) -> (Core, Parts<D>, Book<N>, usize)
-        ensures keeps { KeepsDesk D.bytes D.images N.committee N.replica N.opening (desk_of result.0 result.1.tree result.1.index result.1.log result.2.total) }
+        ensures keeps { KeepsDesk D.bytes D.images N.committee N.replica N.opening (desk_of result.0 result.1.trees.items result.1.index result.1.log result.2.total) }
         ensures opened { result.3 ≡ length N.opening }
-        ensures same { (result.0 ≡ self.core) × (result.1.tree ≡ self.seed) × (result.1.index ≡ self.indices)
+        ensures same { (result.0 ≡ self.core) × (result.1.trees.items ≡ self.seeds) × (result.1.index ≡ self.indices)
             × (result.1.log ≡ self.log) × (result.2.total ≡ self.released) }
     {
         let DeskState {
             core,
-            tree,
+            trees,
             indices: index,
             log,
             replica: _,
@@ -291,6 +308,6 @@ impl<N: Naming, D: Disk> DeskState<N, D> {
             opened,
             book,
         } = self;
-        (core, Parts { tree, index, log }, book, opened)
+        (core, Parts { trees, index, log }, book, opened)
     }
 }

@@ -17,7 +17,7 @@ use Rattle.vote_log.specs.Logs.{AreTexts, IsLogBeforeOrAfter, KeepsLog, LeavesEn
 use Rattle.vote_log.proofs.LogLaws.{entries_push, length-push, texts_and_one, texts_are, texts_push}
 
 -- a disk that tells now told before
-told_before : (now told : Option (List ℕ)) (bs : List ℕ) → IsSome now ↔ IsSome told → now ≡ Some bs → (x : List ℕ) × (told ≡ Some x)
+pub told_before : (now told : Option (List ℕ)) (bs : List ℕ) → IsSome now ↔ IsSome told → now ≡ Some bs → (x : List ℕ) × (told ≡ Some x)
 told_before now (Some x) bs tells is = (x, refl)
 told_before now None bs tells is =
     let some : IsSome now = subst IsSome (sym is) refl in

@@ -40,11 +40,11 @@ replay_more genesis d xs x is =
 
 -- ---- texts of entries
 
-map-push : {X Y : Type 0} (f : X → Y) (xs : List X) (x : X) → map f (xs ++ x ∷ []) ≡ map f xs ++ f x ∷ []
+pub map-push : {X Y : Type 0} (f : X → Y) (xs : List X) (x : X) → map f (xs ++ x ∷ []) ≡ map f xs ++ f x ∷ []
 map-push f [] x = refl
 map-push f (y ∷ ys) x = ap (λ l. f y ∷ l) (map-push f ys x)
 
-take-more : (xs : List (List ℕ)) (x : List ℕ) (k : ℕ) → slice_get xs k ≡ Some x → take (suc k) xs ≡ take k xs ++ x ∷ []
+pub take-more : (xs : List (List ℕ)) (x : List ℕ) (k : ℕ) → slice_get xs k ≡ Some x → take (suc k) xs ≡ take k xs ++ x ∷ []
 take-more [] x k is = absurd (cc is)
 take-more (y ∷ xs) x zero is = let same : y ≡ x = cc is in ap (λ (l : List ℕ). l ∷ []) same
 take-more (y ∷ xs) x (suc k) is = ap (λ (l : List (List ℕ)). y ∷ l) (take-more xs x k is)

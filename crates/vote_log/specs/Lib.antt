@@ -4,3 +4,6 @@ pub use Rattle.log_format.specs.Exports
 pub mod Logs
 pub mod LogRefusals
 pub mod LogExport
+pub mod OldEntries
+pub mod Renewing
+pub mod Migrations

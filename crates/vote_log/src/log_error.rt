@@ -14,7 +14,7 @@ pub enum LogError {
     Memory,
     /// 2: the disk failed in this call.
     Device,
-    /// 3: `create`: the disk is not empty. `recover`: the first 8 bytes are not HSJ1 and four zero bytes.
+    /// 3: `create`, `migrate`: the disk is not empty. `recover`: the first 8 bytes are not HSJ1 and four zero bytes.
     NotAJournal,
     /// 4: an open gate without a whole entry behind it, no gate, or more than 4,096 entries.
     Damaged,
@@ -24,7 +24,8 @@ pub enum LogError {
     Stopped,
     /// 8: there is no entry of this number.
     NoSuchEntry,
-    /// 9: this entry, counted from 0, can not be read, and all before it are readable and legal.
+    /// 9: this entry, counted from 0, can not be read, by `migrate` in the old form, and all before it are readable and
+    /// legal.
     BadEntry(usize),
     /// 10: this entry, counted from 0, is not legal after those before it, which are readable and legal.
     IllegalLog(usize),
@@ -49,7 +50,7 @@ impl LogError {
     }
 }
 
-// An entry has at most 46,777 bytes, so that `TooLong` does not come.
+// An entry has at most 46,809 bytes, so that `TooLong` does not come.
 impl From<JournalError> for LogError {
     ghost from_gives = { λ refusal e. e ≡ log_error refusal };
 

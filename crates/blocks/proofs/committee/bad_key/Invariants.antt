@@ -1,7 +1,7 @@
 use Rattle.std.proofs.Common.{◌≡◌, None}
 use Rattle.wire.specs.Refusals.{first_of}
-use Rattle.blocks.specs.CommitteeReading.{bad_key}
+use Rattle.blocks.specs.CommitteeReading.{bad_key_of}
 use Rattle.blocks.proofs.committee.bad_key.Given as goal
 
-abbrev pub invariant-loop-k : goal.invariant-loop-k
-invariant-loop-k l = first_of (bad_key l.bytes) l.k ≡ None
+abbrev pub invariant-loop-r : goal.invariant-loop-r
+invariant-loop-r l = first_of (bad_key_of l.bytes) l.r ≡ None

@@ -1,7 +1,7 @@
 use Rattle.std.proofs.Common.{◌≡◌, None}
 use Rattle.wire.specs.Refusals.{first_of}
-use Rattle.blocks.specs.CommitteeReading.{same_key}
+use Rattle.blocks.specs.CommitteeReading.{same_key_of}
 use Rattle.blocks.proofs.committee.twin_of.Given as goal
 
-abbrev pub invariant-loop-j : goal.invariant-loop-j
-invariant-loop-j l = first_of (same_key l.bytes l.k) l.j ≡ None
+abbrev pub invariant-loop-r : goal.invariant-loop-r
+invariant-loop-r l = first_of (same_key_of l.bytes l.of.replica l.of.key) l.r ≡ None

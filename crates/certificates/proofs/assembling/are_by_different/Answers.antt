@@ -6,7 +6,7 @@ use Rattle.certificates.proofs.Assembled.{different_push, others_before}
 use Rattle.certificates.proofs.assembling.are_by_different.Goals as goal
 
 abbrev no_vote : SignedVote
-no_vote = record { replica = 0; view = 0; id = []; signature = [] }
+no_vote = record { replica = 0; view = 0; id = []; key = 0; signature = [] }
 
 pub returns-then-not-are_by_others : goal.returns-then-not-are_by_others
 returns-then-not-are_by_others c =

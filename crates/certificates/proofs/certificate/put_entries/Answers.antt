@@ -9,7 +9,7 @@ use Rattle.certificates.proofs.certificate.put_entries.Goals as goal
 pub loop-e-preserved : goal.loop-e-preserved
 loop-e-preserved c =
     put_more c.args.text.now.items c.loop-e.text.items c.put_entry.new.text.items c.args.entries.now c.loop-e.e-index
-    (record { replica = 0; signature = [] }) c.loop-e-test.true c.loop-e.invariant c.in_ok-put_entry.ensures
+    (record { replica = 0; key = 0; signature = [] }) c.loop-e-test.true c.loop-e.invariant c.in_ok-put_entry.ensures
 
 pub returns : goal.returns
 returns c =

@@ -9,7 +9,7 @@ use Rattle.certificates.proofs.checked_block.first_unsigned.Goals as goal
 pub loop-k-preserved : goal.loop-k-preserved
 loop-k-preserved g c =
     let entries = c.entries-entries.result.now in
-    let none : Endorsement = record { replica = 0; signature = [] } in
+    let none : Endorsement = record { replica = 0; key = 0; signature = [] } in
     let signed : IsSignedEntry c.args.committee.now c.args.certificate.now (get_or entries c.loop-k.k none) = search rules in
     All-more (IsSignedEntry c.args.committee.now c.args.certificate.now) entries c.loop-k.k none c.loop-k-test.true c.loop-k.invariant signed
 

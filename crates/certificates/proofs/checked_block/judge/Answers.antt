@@ -1,6 +1,6 @@
 use Rattle.std.proofs.Common.{rules}
 use Rattle.std.specs.List.{All}
-use Rattle.certificates.specs.BlockChecks.{HasCount, AreInCommittee, IsOnParent, IsSignedEntry}
+use Rattle.certificates.specs.BlockChecks.{HasCount, AreInCommittee, HaveKnownKeys, IsOnParent, IsSignedEntry}
 use Rattle.certificates.proofs.GoodBlocks.{good_from, count_from}
 use Rattle.certificates.proofs.checked_block.judge.Goals as goal
 
@@ -18,5 +18,6 @@ returns-clause-exact g c =
     let parent : IsOnParent c.args.header.now certificate = search rules in
     let count : HasCount committee certificate = search rules in
     let known : AreInCommittee committee certificate = search rules in
+    let keys : HaveKnownKeys committee certificate = search rules in
     let signed : All (IsSignedEntry committee certificate) certificate.entries = search rules in
-    (λ _. record { parent = parent; good = good_from committee certificate count known signed c.has_count.ensures.rising }, λ _. search rules)
+    (λ _. record { parent = parent; good = good_from committee certificate count known keys signed c.has_count.ensures.rising }, λ _. search rules)

@@ -2,12 +2,13 @@ use Rattle.std.proofs.Common.{◌≡◌, ◌<◌, ℕ, List, true, Some, length,
 use Rattle.std.specs.Prelude.{slice_get}
 use Rattle.std.proofs.lemmas.Bool.{false≢true}
 use Rattle.key_index_store.specs.Boundary.{reservation}
+use Rattle.key_index_store.specs.Indices.{limit_of}
 use Rattle.key_index_store.proofs.Bounds.{some_if, if_some}
 use Rattle.key_index_store.proofs.Reservations.{too_many, other_entry, take-reservations}
 use Rattle.key_index_store.proofs.store.read_reservations.Goals as goal
 
-pub returns-then-count-limit-clause-first_refusal : goal.returns-then-count-limit-clause-first_refusal
-returns-then-count-limit-clause-first_refusal g c = some_if (g.D.Disk.bytes c.args.journal.now.disk) _ (λ bs is n few. too_many c.args.limit c.args.journal.now.payloads n (omega arith) few)
+pub returns-then-count-indices_of-clause-first_refusal : goal.returns-then-count-indices_of-clause-first_refusal
+returns-then-count-indices_of-clause-first_refusal g c = some_if (g.D.Disk.bytes c.args.journal.now.disk) _ (λ bs is n few. too_many (limit_of c.args.keys) c.args.journal.now.payloads n (omega arith) few)
 
 pub returns-then-not-is_reservation-clause-first_refusal : goal.returns-then-not-is_reservation-clause-first_refusal
 returns-then-not-is_reservation-clause-first_refusal g c = some_if (g.D.Disk.bytes c.args.journal.now.disk) _ (λ bs is n few.

@@ -15,7 +15,7 @@ loop-k-preserved c =
     let inside : c.loop-k.k < length c.args.certificate.now.entries = omega arith in
     let here = subst (λ (v : SignedVote). AddsText c.loop-k.text.items c.put_voter.new.text.items c.loop-k.marks.items c.put_voter.new.marks.items (IsVotePart c.args.committee.now v))
     c.vote.ensures c.in_ok-put_voter.ensures in
-    adds_more (IsVoterPart c.args.committee.now c.args.certificate.now) c.args.certificate.now.entries c.loop-k.k (record { replica = 0; signature = [] })
+    adds_more (IsVoterPart c.args.committee.now c.args.certificate.now) c.args.certificate.now.entries c.loop-k.k (record { replica = 0; key = 0; signature = [] })
     c.args.text.now.items c.loop-k.text.items c.put_voter.new.text.items c.args.marks.now.items c.loop-k.marks.items c.put_voter.new.marks.items
     inside c.loop-k.invariant here
 

@@ -12,7 +12,7 @@ returns-clause-images g c =
     let core = c.into_parts-core.result.0 in
     let parts = c.into_parts-core.result.1 in
     let receipts = c.sort.new.receipts.items in
-    let d : DeskView _ = record { core = core; seed = parts.tree; indices = parts.index; log = parts.log; released = c.into_parts-core.result.2.total } in
+    let d : DeskView _ = record { core = core; seeds = parts.trees.items; indices = parts.index; log = parts.log; released = c.into_parts-core.result.2.total } in
     let are : AreReceipts (length g.N.Naming.opening) parts.log.steps receipts = search rules in
     images_keep g.D.Disk.bytes g.D.Disk.images g.N.Naming.committee g.N.Naming.replica g.N.Naming.opening d receipts c.into_parts-core.ensures.keeps are
 
@@ -22,7 +22,7 @@ returns-clause-stay g c =
     let parts = c.into_parts-core.result.1 in
     let keeps = c.into_parts-core.ensures.keeps in
     let are : AreReceipts (length g.N.Naming.opening) parts.log.steps c.sort.new.receipts.items = search rules in
-    let d : DeskView _ = record { core = core; seed = parts.tree; indices = parts.index; log = parts.log; released = c.into_parts-core.result.2.total } in
+    let d : DeskView _ = record { core = core; seeds = parts.trees.items; indices = parts.index; log = parts.log; released = c.into_parts-core.result.2.total } in
     let stay = is_stay g.D.Disk.bytes g.D.Disk.images g.N.Naming.committee g.N.Naming.replica g.N.Naming.opening d keeps in
     record { life = stay.life; found = stay.found }
 
@@ -57,7 +57,7 @@ returns-in_default-clause-left g c =
     let core = c.into_parts-core.result.0 in
     let parts = c.into_parts-core.result.1 in
     let released = c.into_parts-core.result.2.total in
-    let d : DeskView _ = record { core = core; seed = parts.tree; indices = parts.index; log = parts.log; released = released } in
+    let d : DeskView _ = record { core = core; seeds = parts.trees.items; indices = parts.index; log = parts.log; released = released } in
     (core, released, is_stay g.D.Disk.bytes g.D.Disk.images g.N.Naming.committee g.N.Naming.replica g.N.Naming.opening d c.into_parts-core.ensures.keeps)
 
 pub returns-then-not-are_receipts-clause-left : goal.returns-then-not-are_receipts-clause-left
@@ -65,5 +65,5 @@ returns-then-not-are_receipts-clause-left g c =
     let core = c.into_parts-core.result.0 in
     let parts = c.into_parts-core.result.1 in
     let released = c.into_parts-core.result.2.total in
-    let d : DeskView _ = record { core = core; seed = parts.tree; indices = parts.index; log = parts.log; released = released } in
+    let d : DeskView _ = record { core = core; seeds = parts.trees.items; indices = parts.index; log = parts.log; released = released } in
     (core, released, is_stay g.D.Disk.bytes g.D.Disk.images g.N.Naming.committee g.N.Naming.replica g.N.Naming.opening d c.into_parts-core.ensures.keeps)

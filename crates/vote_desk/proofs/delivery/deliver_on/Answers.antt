@@ -8,7 +8,7 @@ use Rattle.vote_log.specs.Logs.{IsLogBeforeOrAfter, LeavesEntries, LogState, Sta
 use Rattle.vote_desk.specs.declared.reply.Answer.TheVariants.{Voted, Raised, Held}
 use Rattle.vote_desk.specs.DeskRefusals.{HasRoomTo}
 use Rattle.blocks.specs.Genesis.{chain_id_of}
-use Rattle.vote_desk.specs.Deliveries.{vote_under, AddsEntry, CommitsIn, IsLeftBy, IsLeftWith, entry_for}
+use Rattle.vote_desk.specs.Deliveries.{signed_in, vote_under, AddsEntry, CommitsIn, IsLeftBy, IsLeftWith, entry_for}
 use Rattle.vote_desk.proofs.Delivered.{asks_for, committed_in, delivered, durable_now, raised_image, same_signature, storage_refused, voted_image, votes}
 use Rattle.certificates.specs.declared.vote.SignedVote.{SignedVote}
 use Rattle.vote_desk.proofs.Steps.{weaker}
@@ -25,7 +25,7 @@ returns-in-Vote-clause-ok g c =
     let e = c.in_ok-plan.ensures in
     let r = c.in_ok-receipt-in-Vote.receipt in
     let v = c.in_ok-receipt-in-Vote.ensures in
-    delivered g.D.Disk.bytes g.N.Naming.committee g.N.Naming.replica o m n c.args.block p (Voted r) e.core e.plan e.block c.in-Vote.is v.stored.headers v.stored.genesis v.stored.state (v.stored.seed ∙ e.same.0)
+    delivered g.D.Disk.bytes g.N.Naming.committee g.N.Naming.replica o m n c.args.block p (Voted r) e.core e.plan e.block c.in-Vote.is v.stored.headers v.stored.genesis v.stored.state (v.stored.seeds ∙ e.same.0)
     (votes g.D.Disk.bytes g.N.Naming.committee g.N.Naming.replica o m n c.args.block p r e.same.0 e.same.1 e.same.2 e.block v.number v.vote v.index v.good v.stored.adds v.drawn)
     (v.released ∙ ap (λ (k : ℕ). k + 1) e.same.3)
 
@@ -56,11 +56,11 @@ returns-in-Vote-clause-any_moment g c =
     let n = c.vote.new.self in
     let m = c.plan.new.self in
     let p = c.in_ok-plan.plan in
-    let signature = (vote_under (chain_id_of g.N.Naming.committee) g.N.Naming.replica m.seed m.indices.mark p.block).signature in
-    let entry = entry_for c.args.block p.parent (Some signature) in
+    let signed = signed_in (vote_under (chain_id_of g.N.Naming.committee) g.N.Naming.replica m.seeds m.indices.mark p.block) in
+    let entry = entry_for c.args.block p.parent (Some signed) in
     λ running.
     weaker (g.D.Disk.bytes o.log.disk) g.D.Disk.moment g.D.Disk.images_since o.log.disk n.log.disk (IsLeftWith o.log.entries entry) (IsLeftBy g.N.Naming.committee g.N.Naming.replica o c.args.block)
-    (voted_image g.N.Naming.committee g.N.Naming.replica o m.core c.args.block p signature e.core e.plan e.block c.in-Vote.is e.legal (same_signature g.N.Naming.committee g.N.Naming.replica o m p.block c.args.block.header e.same.0 e.same.1 e.block))
+    (voted_image g.N.Naming.committee g.N.Naming.replica o m.core c.args.block p signed e.core e.plan e.block c.in-Vote.is e.legal (same_signature g.N.Naming.committee g.N.Naming.replica o m p.block c.args.block.header e.same.0 e.same.1 e.block))
     (subst (λ (l : LogState _). IfSome (g.D.Disk.bytes l.disk) (λ _. LeavesOnly g.D.Disk.moment g.D.Disk.images_since l.disk n.log.disk (IsLeftWith l.entries entry))) e.same.2 c.in_ok-receipt-in-Vote.ensures.any_moment)
 
 pub returns-in_err-receipt-in-Vote-clause-any_moment :
@@ -71,11 +71,11 @@ returns-in_err-receipt-in-Vote-clause-any_moment g c =
     let n = c.vote.new.self in
     let m = c.plan.new.self in
     let p = c.in_ok-plan.plan in
-    let signature = (vote_under (chain_id_of g.N.Naming.committee) g.N.Naming.replica m.seed m.indices.mark p.block).signature in
-    let entry = entry_for c.args.block p.parent (Some signature) in
+    let signed = signed_in (vote_under (chain_id_of g.N.Naming.committee) g.N.Naming.replica m.seeds m.indices.mark p.block) in
+    let entry = entry_for c.args.block p.parent (Some signed) in
     λ running.
     weaker (g.D.Disk.bytes o.log.disk) g.D.Disk.moment g.D.Disk.images_since o.log.disk n.log.disk (IsLeftWith o.log.entries entry) (IsLeftBy g.N.Naming.committee g.N.Naming.replica o c.args.block)
-    (voted_image g.N.Naming.committee g.N.Naming.replica o m.core c.args.block p signature e.core e.plan e.block c.in-Vote.is e.legal (same_signature g.N.Naming.committee g.N.Naming.replica o m p.block c.args.block.header e.same.0 e.same.1 e.block))
+    (voted_image g.N.Naming.committee g.N.Naming.replica o m.core c.args.block p signed e.core e.plan e.block c.in-Vote.is e.legal (same_signature g.N.Naming.committee g.N.Naming.replica o m p.block c.args.block.header e.same.0 e.same.1 e.block))
     (subst (λ (l : LogState _). IfSome (g.D.Disk.bytes l.disk) (λ _. LeavesOnly g.D.Disk.moment g.D.Disk.images_since l.disk n.log.disk (IsLeftWith l.entries entry))) e.same.2 c.in_err-receipt-in-Vote.ensures.any_moment)
 
 pub returns-in_err-receipt-in-Vote-clause-first_refusal :
@@ -99,7 +99,7 @@ returns-in-Raise-clause-ok g c =
     let p = c.in_ok-plan.plan in
     let e = c.in_ok-plan.ensures in
     let v = c.in_ok-raise-in-Raise.ensures in
-    delivered g.D.Disk.bytes g.N.Naming.committee g.N.Naming.replica o m n c.args.block p Raised e.core e.plan e.block c.in-Raise.is v.stored.headers v.stored.genesis v.stored.state (v.stored.seed ∙ e.same.0)
+    delivered g.D.Disk.bytes g.N.Naming.committee g.N.Naming.replica o m n c.args.block p Raised e.core e.plan e.block c.in-Raise.is v.stored.headers v.stored.genesis v.stored.state (v.stored.seeds ∙ e.same.0)
     (record {
       adds = subst (λ (l : LogState _). AddsEntry g.D.Disk.bytes l n.log (entry_for c.args.block p.parent None)) e.same.2 v.stored.adds;
       undrawn = v.same.0 ∙ e.same.1;

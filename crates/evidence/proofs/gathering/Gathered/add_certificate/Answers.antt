@@ -20,7 +20,7 @@ loop-k-preserved g c =
     let below = c.loop-k-test.true in
     let count = c.count-k-end.ensures.value in
     let Shows = IsVoteOf cert in
-    grown_as a d _ _ _ _ none_of (λ v. next_votes Shows cert.entries k (record { replica = 0; signature = [] }) (λ (x : SignedVote). x ≡ w) v (omega arith) (named_vote cert (nth_endorsement cert k) w v (c.in_ok-vote.ensures ∙ c.vote.ensures)))
+    grown_as a d _ _ _ _ none_of (λ v. next_votes Shows cert.entries k (record { replica = 0; key = 0; signature = [] }) (λ (x : SignedVote). x ≡ w) v (omega arith) (named_vote cert (nth_endorsement cert k) w v (c.in_ok-vote.ensures ∙ c.vote.ensures)))
     (grown_both a b d IsNone IsNone (InSome Shows (take k cert.entries)) (λ (x : SignedVote). x ≡ w) c.loop-k.invariant c.in_ok-add_vote.ensures)
 
 pub returns : goal.returns

@@ -5,7 +5,7 @@ use Rattle.log_format.proofs.entry.Entry.write.Goals as goal
 
 pub returns-clause-text : goal.returns-clause-text
 returns-clause-text c =
-    let e : Entry = record { block = c.self.inside.block; parent = c.self.inside.parent; signature = c.self.inside.signature; certificate = c.self.inside.certificate } in
+    let e : Entry = record { block = c.self.inside.block; parent = c.self.inside.parent; own = c.self.inside.own; certificate = c.self.inside.certificate } in
     let first = c.append.new.text.items in
     let second = c.append-2.new.text.items in
     let third = c.append-3.new.text.items in
@@ -24,5 +24,5 @@ returns-clause-spells c = record { entry = subst IsEntry c.self.view_is c.self.i
 
 pub returns-clause-size : goal.returns-clause-size
 returns-clause-size c =
-    subst (λ (t : List ℕ). (0 < length t) × (length t ≤ 46777)) (sym (returns-clause-text c))
+    subst (λ (t : List ℕ). (0 < length t) × (length t ≤ 46809)) (sym (returns-clause-text c))
     (length-entry_text c.args.self.now (subst IsEntry c.self.view_is c.self.invariant))

@@ -10,7 +10,7 @@ returns-in-DoubleVote c =
     let bytes = c.args.self.now in
     let readable : IsReadableVerdict bytes = subst IsReadableVerdict c.self.view_is c.self.invariant in
     let one : verdict_kind_in bytes ≡ 1 = sym c.rule.ensures ∙ ap rule_number c.in-DoubleVote.is in
-    let long : length bytes ≡ 3023 = subst (λ (k : ℕ). length bytes ≡ verdict_length k) one readable.1.1.1.0 in
+    let long : length bytes ≡ 3025 = subst (λ (k : ℕ). length bytes ≡ verdict_length k) one readable.1.1.1.0 in
     sym (no_headers bytes long)
 
 pub returns-in-LockViolation : goal.returns-in-LockViolation

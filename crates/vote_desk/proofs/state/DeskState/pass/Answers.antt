@@ -5,7 +5,7 @@ use Rattle.vote_desk.proofs.state.DeskState.pass.Goals as goal
 pub invariant_of-self : goal.invariant_of-self
 invariant_of-self g c =
     let i = c.self.inside in
-    let d : DeskView _ = record { core = i.core; seed = i.tree; indices = i.indices; log = i.log; released = i.book.total } in
+    let d : DeskView _ = record { core = i.core; seeds = i.trees.items; indices = i.indices; log = i.log; released = i.book.total } in
     let plan = rw (← c.self.view_is) at c.requires.plan in
     let done = c.apply.ensures in
     record {

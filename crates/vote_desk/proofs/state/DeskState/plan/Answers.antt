@@ -9,7 +9,7 @@ pub returns-in_err-check_room-clause-first_refusal :
     goal.returns-in_err-check_room-clause-first_refusal
 returns-in_err-check_room-clause-first_refusal g c =
     let i = c.self.inside in
-    let d : DeskView _ = record { core = i.core; seed = i.tree; indices = i.indices; log = i.log; released = i.book.total } in
+    let d : DeskView _ = record { core = i.core; seeds = i.trees.items; indices = i.indices; log = i.log; released = i.book.total } in
     let e = c.in-Ok.ensures in
     let running : IsRunning d = running_where d c.stopped.result (rw (← c.self.view_is) at c.stopped.ensures) c.if-stopped.false in
     let p = err_from_is_err_and c.from_residual.result c.from_residual.ensures.1 in
@@ -18,6 +18,6 @@ returns-in_err-check_room-clause-first_refusal g c =
 pub returns-clause-legal : goal.returns-clause-legal
 returns-clause-legal g c =
     let i = c.self.inside in
-    let d : DeskView _ = record { core = i.core; seed = i.tree; indices = i.indices; log = i.log; released = i.book.total } in
+    let d : DeskView _ = record { core = i.core; seeds = i.trees.items; indices = i.indices; log = i.log; released = i.book.total } in
     let e = c.in-Ok.ensures in
     rw (← c.self.view_is) (plan_legal g.D.Disk.bytes g.D.Disk.images g.N.Naming.committee g.N.Naming.replica g.N.Naming.opening d c.self.invariant.desk c.admit.new.self c.in-Ok.plan e.same e.plan)

@@ -13,7 +13,7 @@ use Rattle.vote_desk.proofs.state.DeskState.raise.Goals as goal
 pub store-requires-clause-legal : goal.store-requires-clause-legal
 store-requires-clause-legal g c =
     let i = c.self.inside in
-    let d : DeskView _ = record { core = i.core; seed = i.tree; indices = i.indices; log = i.log; released = i.book.total } in
+    let d : DeskView _ = record { core = i.core; seeds = i.trees.items; indices = i.indices; log = i.log; released = i.book.total } in
     let plan = rw (← c.self.view_is) at c.requires.plan in
     let legal = plan_is_legal g.D.Disk.bytes g.D.Disk.images g.N.Naming.committee g.N.Naming.replica g.N.Naming.opening d c.self.invariant.desk c.args.plan false plan c.requires.act in
     let same : planned_entry c.args.plan false ≡ stored_in (entry_for c.args.block c.args.plan.parent None) =
@@ -23,7 +23,7 @@ store-requires-clause-legal g c =
 pub invariant_of-self : goal.invariant_of-self
 invariant_of-self g c =
     let i = c.self.inside in
-    let d : DeskView _ = record { core = i.core; seed = i.tree; indices = i.indices; log = i.log; released = i.book.total } in
+    let d : DeskView _ = record { core = i.core; seeds = i.trees.items; indices = i.indices; log = i.log; released = i.book.total } in
     let plan = rw (← c.self.view_is) at c.requires.plan in
     let refused = c.in_err-store.ensures in
     let same : stored_in (entry_for c.args.block c.args.plan.parent None) ≡ planned_entry c.args.plan false =
@@ -39,7 +39,7 @@ invariant_of-self g c =
 pub invariant_of-self-2 : goal.invariant_of-self-2
 invariant_of-self-2 g c =
     let i = c.self.inside in
-    let d : DeskView _ = record { core = i.core; seed = i.tree; indices = i.indices; log = i.log; released = i.book.total } in
+    let d : DeskView _ = record { core = i.core; seeds = i.trees.items; indices = i.indices; log = i.log; released = i.book.total } in
     let plan = rw (← c.self.view_is) at c.requires.plan in
     let done = c.in_ok-store.ensures in
     let e : Entry = entry_for c.args.block c.args.plan.parent None in
@@ -48,7 +48,7 @@ invariant_of-self-2 g c =
     record {
       desk = keeps_stored g.D.Disk.bytes g.D.Disk.images g.N.Naming.committee g.N.Naming.replica g.N.Naming.opening d c.self.invariant.desk c.store.new.core c.store.new.log i.indices i.book.total c.args.plan false e
           plan c.requires.act same done.is_entry done.adds done.genesis done.durable done.tells done.headers done.same_genesis done.state
-          (λ n long r. rising_raise n i.indices.mark i.log.entries e long refl r) (λ long. vote_same _ i.log.steps (planned_entry c.args.plan false) long refl ∙ c.self.invariant.desk.list.counted);
+          (λ n long r. rising_raise n i.indices.mark i.log.entries e long refl r) (λ long. vote_same _ i.log.steps (planned_entry c.args.plan false) long refl ∙ c.self.invariant.desk.list.counted) refl;
       replica_is = c.self.invariant.replica_is;
       chain_is = c.self.invariant.chain_is;
       opened_is = c.self.invariant.opened_is;
@@ -65,5 +65,5 @@ returns-clause-stored g c =
       headers = done.headers;
       genesis = done.same_genesis;
       state = done.state;
-      seed = refl;
+      seeds = refl;
     })

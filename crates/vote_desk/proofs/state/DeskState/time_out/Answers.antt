@@ -5,7 +5,7 @@ use Rattle.vote_desk.proofs.state.DeskState.time_out.Goals as goal
 pub invariant_of-self : goal.invariant_of-self
 invariant_of-self g c =
     let i = c.self.inside in
-    let d : DeskView _ = record { core = i.core; seed = i.tree; indices = i.indices; log = i.log; released = i.book.total } in
+    let d : DeskView _ = record { core = i.core; seeds = i.trees.items; indices = i.indices; log = i.log; released = i.book.total } in
     record {
       desk = keeps_timed_out g.D.Disk.bytes g.D.Disk.images g.N.Naming.committee g.N.Naming.replica g.N.Naming.opening d c.self.invariant.desk c.timeout.new.self c.args.view c.timeout.ensures;
       replica_is = c.self.invariant.replica_is;

@@ -1,13 +1,15 @@
 use Rattle.std.proofs.Common.{◌≡◌, ◌≤◌, ◌+◌, ◌++◌, ◌∷◌, [], List, inl, drop, ℕ, true, Err, Some, refl, sym, ap, subst, ◌∙◌, arith}
+use Rattle.lmots.specs.declared.keys.PrivateSeed.{PrivateSeed}
 use Rattle.blocks.specs.Headers.{Header}
 use Rattle.blocks.specs.Genesis.{chain_id_of}
 use Rattle.certificates.specs.declared.vote.SignedVote.{SignedVote}
 use Rattle.blocks.specs.Replica.{Stored}
 use Rattle.blocks.specs.Replay.{IsLegal}
 use Rattle.log_format.specs.EntryText.{Entry, IsEntry, stored_in}
+use Rattle.log_format.specs.declared.entry.KeyedSignature.{KeyedSignature}
 use Rattle.vote_log.specs.Logs.{IsLogBeforeOrAfter}
 use Rattle.vote_desk.specs.declared.desk_error.DeskError.{DeskError}
-use Rattle.vote_desk.specs.Deliveries.{IsLeftWith, entry_for, planned_entry, vote_under}
+use Rattle.vote_desk.specs.Deliveries.{IsLeftWith, entry_for, planned_entry, signed_in, vote_under}
 use Rattle.vote_desk.specs.Desks.{AreRising, DeskView, indices_in}
 use Rattle.vote_desk.proofs.Lists.{rising_vote, vote_more}
 use Rattle.vote_desk.proofs.Steps.{keeps_drawn, keeps_refused, keeps_stored, plan_is_legal, unmoved, left_with, weaker}
@@ -16,8 +18,8 @@ use Rattle.vote_desk.proofs.state.DeskState.vote.Goals as goal
 pub returns-in_err-reserve-clause-any_moment : goal.returns-in_err-reserve-clause-any_moment
 returns-in_err-reserve-clause-any_moment g c =
     let i = c.self.inside in
-    let d : DeskView _ = record { core = i.core; seed = i.tree; indices = i.indices; log = i.log; released = i.book.total } in
-    let wanted = (vote_under (chain_id_of g.N.Naming.committee) g.N.Naming.replica i.tree i.indices.mark c.args.plan.block).signature in
+    let d : DeskView _ = record { core = i.core; seeds = i.trees.items; indices = i.indices; log = i.log; released = i.book.total } in
+    let wanted = signed_in (vote_under (chain_id_of g.N.Naming.committee) g.N.Naming.replica i.trees.items i.indices.mark c.args.plan.block) in
     let entry : Entry = entry_for c.args.block c.args.plan.parent (Some wanted) in
     rw (← c.self.view_is)
     (unmoved g.D.Disk.bytes g.D.Disk.images g.N.Naming.committee g.N.Naming.replica g.N.Naming.opening d c.self.invariant.desk g.D.Disk.moment g.D.Disk.images_since
@@ -26,8 +28,8 @@ returns-in_err-reserve-clause-any_moment g c =
 pub returns-in_err-vote-clause-any_moment : goal.returns-in_err-vote-clause-any_moment
 returns-in_err-vote-clause-any_moment g c =
     let i = c.self.inside in
-    let d : DeskView _ = record { core = i.core; seed = i.tree; indices = i.indices; log = i.log; released = i.book.total } in
-    let wanted = (vote_under (chain_id_of g.N.Naming.committee) g.N.Naming.replica i.tree i.indices.mark c.args.plan.block).signature in
+    let d : DeskView _ = record { core = i.core; seeds = i.trees.items; indices = i.indices; log = i.log; released = i.book.total } in
+    let wanted = signed_in (vote_under (chain_id_of g.N.Naming.committee) g.N.Naming.replica i.trees.items i.indices.mark c.args.plan.block) in
     let entry : Entry = entry_for c.args.block c.args.plan.parent (Some wanted) in
     rw (← c.self.view_is)
     (unmoved g.D.Disk.bytes g.D.Disk.images g.N.Naming.committee g.N.Naming.replica g.N.Naming.opening d c.self.invariant.desk g.D.Disk.moment g.D.Disk.images_since
@@ -36,23 +38,23 @@ returns-in_err-vote-clause-any_moment g c =
 pub store-requires-clause-legal : goal.store-requires-clause-legal
 store-requires-clause-legal g c =
     let i = c.self.inside in
-    let d : DeskView _ = record { core = i.core; seed = i.tree; indices = i.indices; log = i.log; released = i.book.total } in
+    let d : DeskView _ = record { core = i.core; seeds = i.trees.items; indices = i.indices; log = i.log; released = i.book.total } in
     let plan = rw (← c.self.view_is) at c.requires.plan in
     let legal = plan_is_legal g.D.Disk.bytes g.D.Disk.images g.N.Naming.committee g.N.Naming.replica g.N.Naming.opening d c.self.invariant.desk c.args.plan true plan c.requires.act in
-    let same : planned_entry c.args.plan true ≡ stored_in (entry_for c.args.block c.args.plan.parent (Some c.in_ok-vote.vote.signature)) =
+    let same : planned_entry c.args.plan true ≡ stored_in (entry_for c.args.block c.args.plan.parent (Some (signed_in c.in_ok-vote.vote))) =
     ap (λ (b : Header). let x : Stored = record { voted = true; block = b; parent = c.args.plan.parent } in x) c.requires.block in
     subst (λ (x : Stored). IsLegal i.log.genesis (i.log.steps ++ x ∷ [])) same legal
 
 pub invariant_of-self-in_err-store : goal.invariant_of-self-in_err-store
 invariant_of-self-in_err-store g c =
     let i = c.self.inside in
-    let d : DeskView _ = record { core = i.core; seed = i.tree; indices = i.indices; log = i.log; released = i.book.total } in
-    let drawn : DeskView _ = record { core = i.core; seed = i.tree; indices = c.draw.new.indices; log = i.log; released = i.book.total } in
+    let d : DeskView _ = record { core = i.core; seeds = i.trees.items; indices = i.indices; log = i.log; released = i.book.total } in
+    let drawn : DeskView _ = record { core = i.core; seeds = i.trees.items; indices = c.draw.new.indices; log = i.log; released = i.book.total } in
     let up : i.indices.mark ≤ c.draw.new.indices.mark = omega (arith, c.in_ok-vote.ensures.drawn) in
-    let keeps = keeps_drawn g.D.Disk.bytes g.D.Disk.images g.N.Naming.committee g.N.Naming.replica g.N.Naming.opening d c.self.invariant.desk c.draw.new.indices up in
+    let keeps = keeps_drawn g.D.Disk.bytes g.D.Disk.images g.N.Naming.committee g.N.Naming.replica g.N.Naming.opening d c.self.invariant.desk c.draw.new.indices up c.in_ok-vote.ensures.keys in
     let plan = rw (← c.self.view_is) at c.requires.plan in
     let refused = c.in_err-store.ensures in
-    let e : Entry = entry_for c.args.block c.args.plan.parent (Some c.in_ok-vote.vote.signature) in
+    let e : Entry = entry_for c.args.block c.args.plan.parent (Some (signed_in c.in_ok-vote.vote)) in
     let same : stored_in e ≡ planned_entry c.args.plan true =
     ap (λ (b : Header). let x : Stored = record { voted = true; block = b; parent = c.args.plan.parent } in x) (sym c.requires.block) in
     record {
@@ -66,19 +68,19 @@ invariant_of-self-in_err-store g c =
 pub invariant_of-self-2 : goal.invariant_of-self-2
 invariant_of-self-2 g c =
     let i = c.self.inside in
-    let d : DeskView _ = record { core = i.core; seed = i.tree; indices = i.indices; log = i.log; released = i.book.total } in
+    let d : DeskView _ = record { core = i.core; seeds = i.trees.items; indices = i.indices; log = i.log; released = i.book.total } in
     let plan = rw (← c.self.view_is) at c.requires.plan in
     let done = c.in_ok-store.ensures in
-    let signature = c.in_ok-vote.vote.signature in
-    let e : Entry = entry_for c.args.block c.args.plan.parent (Some signature) in
+    let own = signed_in c.in_ok-vote.vote in
+    let e : Entry = entry_for c.args.block c.args.plan.parent (Some own) in
     let same : stored_in e ≡ planned_entry c.args.plan true =
     ap (λ (b : Header). let x : Stored = record { voted = true; block = b; parent = c.args.plan.parent } in x) (sym c.requires.block) in
     let signed = c.in_ok-vote.ensures in
     record {
       desk = keeps_stored g.D.Disk.bytes g.D.Disk.images g.N.Naming.committee g.N.Naming.replica g.N.Naming.opening d c.self.invariant.desk c.store.new.core c.store.new.log c.draw.new.indices c.release.new.book.total c.args.plan true e
           plan c.requires.act same done.is_entry done.adds done.genesis done.durable done.tells done.headers done.same_genesis done.state
-          (λ n long r. subst (λ (m : ℕ). AreRising m (indices_in (drop n (i.log.entries ++ e ∷ [])))) (sym signed.drawn) (rising_vote n i.indices.mark i.log.entries e signature long refl signed.index r))
-          (λ long. vote_more _ i.log.steps (planned_entry c.args.plan true) long refl ∙ ap (λ (n : ℕ). n + 1) c.self.invariant.desk.list.counted ∙ sym c.release.ensures.total);
+          (λ n long r. subst (λ (m : ℕ). AreRising m (indices_in (drop n (i.log.entries ++ e ∷ [])))) (sym signed.drawn) (rising_vote n i.indices.mark i.log.entries e own long refl signed.index r))
+          (λ long. vote_more _ i.log.steps (planned_entry c.args.plan true) long refl ∙ ap (λ (n : ℕ). n + 1) c.self.invariant.desk.list.counted ∙ sym c.release.ensures.total) signed.keys;
       replica_is = c.self.invariant.replica_is;
       chain_is = c.self.invariant.chain_is;
       opened_is = c.self.invariant.opened_is;
@@ -95,35 +97,37 @@ returns-clause-stored g c =
       headers = done.headers;
       genesis = done.same_genesis;
       state = done.state;
-      seed = refl;
+      seeds = refl;
     })
 
 pub returns-in_err-store-clause-any_moment : goal.returns-in_err-store-clause-any_moment
 returns-in_err-store-clause-any_moment g c =
     let i = c.self.inside in
-    let wanted = (vote_under (chain_id_of g.N.Naming.committee) g.N.Naming.replica i.tree i.indices.mark c.args.plan.block).signature in
+    let wanted = signed_in (vote_under (chain_id_of g.N.Naming.committee) g.N.Naming.replica i.trees.items i.indices.mark c.args.plan.block) in
     let entry : Entry = entry_for c.args.block c.args.plan.parent (Some wanted) in
-    let same : c.in_ok-vote.vote.signature ≡ wanted =
-    ap (λ (v : SignedVote). v.signature) c.in_ok-vote.ensures.value
-    ∙ ap (λ (k : List ℕ). (vote_under k i.replica i.tree i.indices.mark c.args.plan.block).signature) c.self.invariant.chain_is
-    ∙ ap (λ (n : ℕ). (vote_under (chain_id_of g.N.Naming.committee) n i.tree i.indices.mark c.args.plan.block).signature) c.self.invariant.replica_is in
-    let left : (signature : List ℕ) → signature ≡ wanted → IsEntry (entry_for c.args.block c.args.plan.parent (Some signature)) → (image : List ℕ) → IsLogBeforeOrAfter i.log.entries (entry_for c.args.block c.args.plan.parent (Some signature)) image → IsLeftWith i.log.entries entry image =
-    λ signature is is_entry image left. subst (λ (x : List ℕ). IsLeftWith i.log.entries (entry_for c.args.block c.args.plan.parent (Some x)) image) is (left_with i.log.entries (entry_for c.args.block c.args.plan.parent (Some signature)) is_entry image left) in
+    let same : signed_in c.in_ok-vote.vote ≡ wanted =
+    ap (λ (v : SignedVote). signed_in v) c.in_ok-vote.ensures.value
+    ∙ ap (λ (t : List PrivateSeed). signed_in (vote_under i.chain i.replica t i.indices.mark c.args.plan.block)) c.deref.ensures.value
+    ∙ ap (λ (k : List ℕ). signed_in (vote_under k i.replica i.trees.items i.indices.mark c.args.plan.block)) c.self.invariant.chain_is
+    ∙ ap (λ (n : ℕ). signed_in (vote_under (chain_id_of g.N.Naming.committee) n i.trees.items i.indices.mark c.args.plan.block)) c.self.invariant.replica_is in
+    let left : (signed : KeyedSignature) → signed ≡ wanted → IsEntry (entry_for c.args.block c.args.plan.parent (Some signed)) → (image : List ℕ) → IsLogBeforeOrAfter i.log.entries (entry_for c.args.block c.args.plan.parent (Some signed)) image → IsLeftWith i.log.entries entry image =
+    λ signed is is_entry image left. subst (λ (x : KeyedSignature). IsLeftWith i.log.entries (entry_for c.args.block c.args.plan.parent (Some x)) image) is (left_with i.log.entries (entry_for c.args.block c.args.plan.parent (Some signed)) is_entry image left) in
     rw (← c.self.view_is)
-    (weaker (g.D.Disk.bytes i.log.disk) g.D.Disk.moment g.D.Disk.images_since i.log.disk c.store.new.log.disk (IsLogBeforeOrAfter i.log.entries (entry_for c.args.block c.args.plan.parent (Some c.in_ok-vote.vote.signature))) (IsLeftWith i.log.entries entry)
-    (left c.in_ok-vote.vote.signature same c.in_err-store.ensures.is_entry) c.in_err-store.ensures.any_moment)
+    (weaker (g.D.Disk.bytes i.log.disk) g.D.Disk.moment g.D.Disk.images_since i.log.disk c.store.new.log.disk (IsLogBeforeOrAfter i.log.entries (entry_for c.args.block c.args.plan.parent (Some (signed_in c.in_ok-vote.vote)))) (IsLeftWith i.log.entries entry)
+    (left (signed_in c.in_ok-vote.vote) same c.in_err-store.ensures.is_entry) c.in_err-store.ensures.any_moment)
 
 pub returns-clause-any_moment : goal.returns-clause-any_moment
 returns-clause-any_moment g c =
     let i = c.self.inside in
-    let wanted = (vote_under (chain_id_of g.N.Naming.committee) g.N.Naming.replica i.tree i.indices.mark c.args.plan.block).signature in
+    let wanted = signed_in (vote_under (chain_id_of g.N.Naming.committee) g.N.Naming.replica i.trees.items i.indices.mark c.args.plan.block) in
     let entry : Entry = entry_for c.args.block c.args.plan.parent (Some wanted) in
-    let same : c.in_ok-vote.vote.signature ≡ wanted =
-    ap (λ (v : SignedVote). v.signature) c.in_ok-vote.ensures.value
-    ∙ ap (λ (k : List ℕ). (vote_under k i.replica i.tree i.indices.mark c.args.plan.block).signature) c.self.invariant.chain_is
-    ∙ ap (λ (n : ℕ). (vote_under (chain_id_of g.N.Naming.committee) n i.tree i.indices.mark c.args.plan.block).signature) c.self.invariant.replica_is in
-    let left : (signature : List ℕ) → signature ≡ wanted → IsEntry (entry_for c.args.block c.args.plan.parent (Some signature)) → (image : List ℕ) → IsLogBeforeOrAfter i.log.entries (entry_for c.args.block c.args.plan.parent (Some signature)) image → IsLeftWith i.log.entries entry image =
-    λ signature is is_entry image left. subst (λ (x : List ℕ). IsLeftWith i.log.entries (entry_for c.args.block c.args.plan.parent (Some x)) image) is (left_with i.log.entries (entry_for c.args.block c.args.plan.parent (Some signature)) is_entry image left) in
+    let same : signed_in c.in_ok-vote.vote ≡ wanted =
+    ap (λ (v : SignedVote). signed_in v) c.in_ok-vote.ensures.value
+    ∙ ap (λ (t : List PrivateSeed). signed_in (vote_under i.chain i.replica t i.indices.mark c.args.plan.block)) c.deref.ensures.value
+    ∙ ap (λ (k : List ℕ). signed_in (vote_under k i.replica i.trees.items i.indices.mark c.args.plan.block)) c.self.invariant.chain_is
+    ∙ ap (λ (n : ℕ). signed_in (vote_under (chain_id_of g.N.Naming.committee) n i.trees.items i.indices.mark c.args.plan.block)) c.self.invariant.replica_is in
+    let left : (signed : KeyedSignature) → signed ≡ wanted → IsEntry (entry_for c.args.block c.args.plan.parent (Some signed)) → (image : List ℕ) → IsLogBeforeOrAfter i.log.entries (entry_for c.args.block c.args.plan.parent (Some signed)) image → IsLeftWith i.log.entries entry image =
+    λ signed is is_entry image left. subst (λ (x : KeyedSignature). IsLeftWith i.log.entries (entry_for c.args.block c.args.plan.parent (Some x)) image) is (left_with i.log.entries (entry_for c.args.block c.args.plan.parent (Some signed)) is_entry image left) in
     rw (← c.self.view_is)
-    (weaker (g.D.Disk.bytes i.log.disk) g.D.Disk.moment g.D.Disk.images_since i.log.disk c.store.new.log.disk (IsLogBeforeOrAfter i.log.entries (entry_for c.args.block c.args.plan.parent (Some c.in_ok-vote.vote.signature))) (IsLeftWith i.log.entries entry)
-    (left c.in_ok-vote.vote.signature same c.in_ok-store.ensures.is_entry) c.in_ok-store.ensures.any_moment)
+    (weaker (g.D.Disk.bytes i.log.disk) g.D.Disk.moment g.D.Disk.images_since i.log.disk c.store.new.log.disk (IsLogBeforeOrAfter i.log.entries (entry_for c.args.block c.args.plan.parent (Some (signed_in c.in_ok-vote.vote)))) (IsLeftWith i.log.entries entry)
+    (left (signed_in c.in_ok-vote.vote) same c.in_ok-store.ensures.is_entry) c.in_ok-store.ensures.any_moment)

@@ -1,0 +1,7 @@
+use Rattle.std.proofs.Common.{◌≡◌, None}
+use Rattle.wire.specs.Refusals.{first_of}
+use Rattle.blocks.specs.CommitteeReading.{bad_count}
+use Rattle.blocks.proofs.committee.bad_count.Given as goal
+
+abbrev pub invariant-loop-r : goal.invariant-loop-r
+invariant-loop-r l = first_of (bad_count l.bytes) l.r ≡ None

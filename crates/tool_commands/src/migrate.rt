@@ -1,0 +1,100 @@
+//! `hs_tool migrate OLD NEW COMMITTEE`: a log from before votes named their keys, carried over to the form of today.
+
+ghost use Rattle.std.specs.Prelude.{◌≢◌, IfErr};
+ghost use Rattle.blocks.specs.Headers.{IsGenesis};
+ghost use Rattle.tool_commands.specs.Writes.{CountsWrites};
+
+use crate::fault::{Fault, Place};
+use crate::files::read_committee;
+use blocks::{CommitteeView, Header};
+use stable_log::{FileDisk, Journal, JournalError};
+use std::alloc::Global;
+use std::fs;
+use std::fs::{File, Files, OpenOptions};
+use std::io::ErrorKind;
+use streams::{Sink, write_all};
+use vote_log::{LogError, migrate};
+
+/// Carries the log in the file at `old` over to a new file at `new`, and prints `migrated ` and how many entries it has.
+/// The old log is opened for reading alone, and read whole before anything is written. The committee at `path` is that of the
+/// log's chain. In this order: `old` that can't be opened, or is no journal, `path` that can't be read, or is no committee,
+/// `new` that is there already, and an entry of `old` that is not of the old form or not legal. After one of these there is no
+/// file at `new` that was not there before, unless the system would not remove it. After `Output`, or where memory for the
+/// line is refused, the whole log is there.
+pub fn migrate_log<'a, F: Files<File = File>, W: Sink>(
+    rt: &F,
+    alloc: Global,
+    old: &'a str,
+    new: &'a str,
+    path: &'a str,
+    out: &mut W,
+) -> Result<(), Fault<'a>>
+    ensures { CountsWrites result (W.failed out.old) (W.failed out.new) }
+{
+    let log = open_old(rt, alloc, old)?;
+    let bytes = read_committee(rt, alloc, path)?;
+    let committee = match CommitteeView::parse(&bytes) {
+        Ok(committee) => committee,
+        Err(refusal) => return Err(Fault::Committee(refusal)),
+    };
+    let disk = make_new(rt, new)?;
+    let count = match carry(alloc, log, disk, committee.genesis()) {
+        Ok(count) => count,
+        Err(fault) => {
+            if fs::remove_file(rt, new).is_err() {
+                // It stays, and the next try tells it.
+            }
+            return Err(fault);
+        }
+    };
+    let line = format!(in alloc; "migrated {count}\n")?;
+    write_all(out, line.as_bytes()).map_err(|_| Fault::Output)
+}
+
+// The journal of the old log, in a file that is only read.
+fn open_old<'a, F: Files<File = File>>(
+    rt: &F,
+    alloc: Global,
+    path: &'a str,
+) -> Result<Journal<FileDisk>, Fault<'a>>
+    ensures { IfErr result (λ fault. fault ≢ Fault.Output) }
+{
+    let file = match OpenOptions::new().read(true).open(rt, path) {
+        Ok(file) => file,
+        Err(error) => return Err(Fault::unless_memory(&error, Fault::File(Place::Path(path)))),
+    };
+    match Journal::recover(alloc, FileDisk::new(file)) {
+        Ok(journal) => Ok(journal),
+        Err((JournalError::Memory, _)) => Err(Fault::Memory),
+        Err((refusal, _)) => Err(Fault::Store(refusal.number())),
+    }
+}
+
+// A new file, as a disk.
+fn make_new<'a, F: Files<File = File>>(rt: &F, path: &'a str) -> Result<FileDisk, Fault<'a>>
+    ensures { IfErr result (λ fault. fault ≢ Fault.Output) }
+{
+    let mut how = OpenOptions::new();
+    how.read(true).write(true).create_new(true);
+    match how.open(rt, path) {
+        Ok(file) => Ok(FileDisk::new(file)),
+        Err(error) => Err(Fault::unless_memory(&error, Fault::File(Place::Path(path)))),
+    }
+}
+
+// How many entries were carried over.
+fn carry<'a>(
+    alloc: Global,
+    old: Journal<FileDisk>,
+    disk: FileDisk,
+    genesis: Header,
+) -> Result<usize, Fault<'a>>
+    requires { IsGenesis genesis }
+    ensures { IfErr result (λ fault. fault ≢ Fault.Output) }
+{
+    match migrate(alloc, old, disk, genesis) {
+        Ok((log, _)) => Ok(log.count()),
+        Err((LogError::Memory, _, _)) => Err(Fault::Memory),
+        Err((refusal, _, _)) => Err(Fault::Store(refusal.number())),
+    }
+}
