@@ -14,7 +14,7 @@ pub enum KeyNumber {
 }
 
 impl KeyNumber {
-    /// The key of this number.
+    /// The key of this number, which must be below 4.
     pub fn of(number: u8) -> KeyNumber
         requires { number < MOST_KEYS }
         ensures { key_number result ≡ number }

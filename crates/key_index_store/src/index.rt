@@ -6,7 +6,7 @@ ghost use Rattle.key_index_store.specs.declared.store.TheConstants.{INDICES, MOS
 
 use crate::store::INDICES;
 
-/// The key that an index is of: key 0 has the first 1,024 of them.
+/// The key that an index is of, which must be below 4,096: key 0 has the first 1,024 of them.
 pub fn key_of(index: u32) -> u8
     requires { index < limit_of MOST_KEYS }
     ensures { result ≡ key index }

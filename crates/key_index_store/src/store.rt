@@ -45,7 +45,8 @@ fn indices_of(keys: u8) -> u32
 /// The disk holds a journal of at most 64 entries a key, whose entry k is the big-endian u32 16(k+1): all indices
 /// below it are taken. It doesn't say how many keys there are: a store may be recovered with more keys than before.
 ///
-/// Contracts see the disk, how many keys the store has, the mark below which lies every index given or skipped, and whether the store is stopped.
+/// Contracts see the disk, how many keys the store has, the mark below which lies every index given or skipped, and
+/// whether the store is stopped.
 #[derive(Drop)]
 pub struct IndexStore<D: Disk> {
     journal: Journal<D>,
@@ -151,9 +152,9 @@ fn read_reservations<D: Disk>(
 }
 
 impl<D: Disk> IndexStore<D> {
-    /// Makes an empty disk a store of so many keys that has given nothing. A refusal hands the disk back; one that was not empty is
-    /// not written to, and after `Device` an empty one may hold any part of the 9 bytes of an empty journal. In this
-    /// order: `Device`, `BadEntry`.
+    /// Makes an empty disk a store of so many keys, 1 to 4, that has given nothing. A refusal hands the disk back; one
+    /// that was not empty is not written to, and after `Device` an empty one may hold any part of the 9 bytes of an
+    /// empty journal. In this order: `Device`, `BadEntry`.
     pub fn create(alloc: Global, disk: D, keys: u8) -> Result<IndexStore<D>, (IndexError, D)>
         requires some { 1 ≤ keys }
         requires most { keys ≤ MOST_KEYS }
@@ -184,8 +185,8 @@ impl<D: Disk> IndexStore<D> {
         }
     }
 
-    /// Reads a store that a crash or a failed call may have left, with so many keys from now on, and goes on at the
-    /// stored boundary, 0 where nothing is stored. It writes nothing. A refusal hands the disk back; a boundary beyond
+    /// Reads a store that a crash or a failed call may have left, with so many keys from now on, 1 to 4, and goes on at
+    /// the stored boundary, 0 where nothing is stored. It writes nothing. A refusal hands the disk back; a boundary beyond
     /// these keys is a `BadEntry`. In this order: `Memory`, `Device`, `BadEntry`.
     pub fn recover(alloc: Global, disk: D, keys: u8) -> Result<IndexStore<D>, (IndexError, D)>
         requires some { 1 ≤ keys }

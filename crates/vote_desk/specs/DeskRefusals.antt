@@ -127,8 +127,8 @@ start_error_number start.WrongKey = 3
 start_error_number start.WrongChain = 4
 start_error_number start.Stopped = 5
 
--- what a desk can be opened with: the replica's keys and as many keys' indices, a log of the committee's chain, and neither log nor index store
--- is stopped
+-- what a desk can be opened with: the replica's keys and the indices of as many keys, a log of the committee's chain, and
+-- neither log nor index store is stopped
 pub record IsStartable {D : Type 0} (committee : List ℕ) (replica : ℕ) (seeds : List PrivateSeed) (log : LogState D) (store : IndexState D) : Type 0 where
   pub keys : AreKeysOf committee replica seeds store.keys
   pub chain : log.genesis ≡ genesis_of committee
