@@ -31,7 +31,10 @@ impl Model for Ancestry {
 
     ghost view = { λ a. record { genesis = a.genesis; headers = a.headers.items } };
 
-    ghost invariant = { λ a. IsIndex (record { genesis = a.genesis; headers = a.headers.items }) a.links.items };
+    ghost invariant = { λ a. IsIndex (record {
+      genesis = a.genesis;
+      headers = a.headers.items;
+    }) a.links.items };
 }
 
 /// The header of this id, among headers whose ids rise strictly, byte by byte from the first; None where none
@@ -137,14 +140,14 @@ impl Ancestry {
 
     // The position of the known header of this id.
     fn position(&self, id: &Id) -> Option<usize>
-        ensures position { MatchOption result ((h : HeaderValue) → Contains (all_of self.now) h → header_id h ≢ id.now)
-            (λ k. (k ≤ length self.now.headers) × (header_id (header_at self.now k) ≡ id.now)) }
+        ensures position { MatchOption result ((h : HeaderValue) → Contains (all_of self.now) h
+            → header_id h ≢ id.now) (λ k. (k ≤ length self.now.headers)
+            × (header_id (header_at self.now k) ≡ id.now)) }
         ensures known { IsKnown self.now }
     {
         position_of(&self.genesis, &self.headers, id)
     }
 
-    // The header at this position.
     fn header(&self, at: usize) -> &NamedHeader
         ensures header { result.now ≡ header_at self.now at }
         ensures known { IsKnown self.now }
@@ -205,7 +208,8 @@ impl Ancestry {
     // Whether the header at this position has a chain to genesis.
     fn has_chain(&self, at: usize) -> bool
         requires { at ≤ length self.now.headers }
-        ensures { IsTrue result ↔ IsLinked (all_of self.now) self.now.genesis (header_at self.now at) }
+        ensures { IsTrue result ↔ IsLinked (all_of self.now) self.now.genesis
+            (header_at self.now at) }
     {
         self.leads_to(at, &self.genesis)
     }
@@ -226,8 +230,8 @@ impl Ancestry {
         requires a_in { a ≤ length self.now.headers }
         requires b_in { b ≤ length self.now.headers }
         requires linked { IsLinked (all_of self.now) self.now.genesis (header_at self.now a) }
-        ensures { IsTrue result
-            ↔ IsAncestor (all_of self.now) self.now.genesis (header_at self.now a) (header_at self.now b) }
+        ensures { IsTrue result ↔ IsAncestor (all_of self.now) self.now.genesis
+            (header_at self.now a) (header_at self.now b) }
     {
         let above = self.header(a);
         if same_id(above, self.header(b)) {

@@ -31,7 +31,10 @@ fn parent_of(genesis: &NamedHeader, headers: &[NamedHeader], at: usize) -> usize
     requires known { IsKnown (record { genesis = genesis.now; headers = headers.now }) }
     requires at_in { at ≤ length headers.now }
     ensures parent_in { result ≤ length headers.now }
-    ensures parent { IsParentAt (record { genesis = genesis.now; headers = headers.now }) at result }
+    ensures parent { IsParentAt (record {
+      genesis = genesis.now;
+      headers = headers.now;
+    }) at result }
 {
     let b = header_at(genesis, headers, at).header();
     let Some(p) = position_of(genesis, headers, &b.parent) else {
@@ -51,7 +54,8 @@ pub(crate) fn links_of(
     headers: &[NamedHeader],
 ) -> Result<Vec<Link>, AllocError>
     requires { IsKnown (record { genesis = genesis.now; headers = headers.now }) }
-    ensures { IfOk result (λ links. IsIndex (record { genesis = genesis.now; headers = headers.now }) links.items) }
+    ensures { IfOk result (λ links.
+        IsIndex (record { genesis = genesis.now; headers = headers.now }) links.items) }
 {
     let mut links = Vec::with_capacity(alloc, headers.len() + 1)?;
     for at in 0..headers.len() + 1 {

@@ -1,5 +1,5 @@
 -- How much each replica counts, and how much a quorum. A committee is here what these rules need of it, whatever its bytes.
-use Rattle.std.specs.Prelude.{ℕ, zero, suc, ◌+◌, ◌*◌, ◌/◌, ◌<◌, List, Bool, true, cond, nat_eq, nat_lt}
+use Rattle.std.specs.Prelude.{ℕ, zero, suc, ◌≡◌, ◌+◌, ◌*◌, ◌/◌, ◌<◌, List, Bool, true, cond, nat_eq, nat_lt}
 use Rattle.std.specs.List.{list_any}
 use Rattle.blocks.specs.Headers.{Header}
 use Rattle.blocks.specs.Committees.{n_of, weight_at}
@@ -16,6 +16,10 @@ pub record Committee : Type 0 where
 abbrev pub weight_of : (ℕ → ℕ) → (ℕ → Bool) → ℕ → ℕ
 weight_of weight test zero = 0
 weight_of weight test (suc n) = weight_of weight test n + cond (test n) (weight n) 0
+
+-- the calls of a test of replicas below n answer what is_in says
+abbrev pub Decides : {F : Type 0} → (F → ℕ → Bool → Type 0) → F → (ℕ → Bool) → ℕ → Type 0
+Decides post test is_in n = (r : ℕ) (answer : Bool) → r < n → post test r answer → answer ≡ is_in r
 
 -- every replica passes
 abbrev pub is_any : ℕ → Bool

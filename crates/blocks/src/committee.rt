@@ -1,6 +1,6 @@
 //! Committees.
 
-ghost use Rattle.std.specs.Prelude.{◌≡◌, ◌&&◌, ◌+◌, ◌*◌, ◌^◌, ◌++◌, ◌<◌, ◌≤◌, ◌↔◌, IfOk, IfSome, IsTrue, OnOk, MatchResult, length, replicate, slice_get};
+ghost use Rattle.std.specs.Prelude.{ℕ, Bool, true, ◌≡◌, ◌&&◌, ◌+◌, ◌*◌, ◌^◌, ◌++◌, ◌<◌, ◌≤◌, ◌↔◌, IfOk, IfSome, IsTrue, OnOk, MatchResult, length, replicate, slice_get};
 ghost use Rattle.std.specs.List.{All, concat};
 ghost use Rattle.std.specs.Str.{bytes_eq};
 ghost use Rattle.lms_tree.specs.Tree.{key_text};
@@ -8,7 +8,7 @@ ghost use Rattle.wire.specs.Pieces.{AreBytes};
 ghost use Rattle.wire.specs.Refusals.{first_of};
 ghost use Rattle.blocks.specs.CommitteeReading.{CountsFit, is_key, is_count, unused_at, are_zeros, bad_count, key_number, bad_key, bad_key_of, same_key, same_key_of, twin_of, first_twin_of, no_weight, has_size, committee_in, committee_refusal_number};
 ghost use Rattle.blocks.specs.Committees.{IsCommittee, WhereSpelled, HaveOneKey, committee_text, weighted_text, multikey_text, member_text, multikey_member_text, slots_text, has_many_keys, has_weights, n_of, place_of, weight_at, room_of, keys_of, key_place, key_at, key_id_at, root_at};
-ghost use Rattle.blocks.specs.Weights.{total_of, quorum_of, weight_of, is_any};
+ghost use Rattle.blocks.specs.Weights.{Decides, total_of, quorum_of, weight_of, is_any};
 ghost use Rattle.blocks.specs.Genesis.{genesis_of, chain_id_of};
 ghost use Rattle.blocks.specs.Headers.{IsGenesis};
 
@@ -17,10 +17,7 @@ use lms_tree::{PUBLIC_KEY_LEN, PublicKey};
 use sha2::{Digest, Sha256};
 use std::alloc::{AllocError, Global};
 use std::marker::Model;
-use wire::{array_at, u16_at, u32_at};
-
-/// The greatest number of keys of a replica.
-pub const MOST_KEYS: usize = 4;
+use wire::{MOST_KEYS, array_at, u16_at, u32_at};
 
 /// The length of a weight, in bytes.
 const WEIGHT_LEN: usize = 4;
@@ -32,7 +29,7 @@ const WEIGHTED_LEN: usize = WEIGHT_LEN + PUBLIC_KEY_LEN;
 const MULTIKEY_HEAD_LEN: usize = WEIGHT_LEN + 4;
 
 /// The length of those and of the room for the most keys, in bytes.
-const MULTIKEY_LEN: usize = MULTIKEY_HEAD_LEN + MOST_KEYS * PUBLIC_KEY_LEN;
+const MULTIKEY_LEN: usize = MULTIKEY_HEAD_LEN + MOST_KEYS as usize * PUBLIC_KEY_LEN;
 
 /// Why bytes are no committee, in the order of the tests.
 ///
@@ -114,7 +111,8 @@ impl<'a> Model for CommitteeView<'a> {
 
     ghost view = { λ v. v.bytes.now };
 
-    ghost invariant = { λ v. IsCommittee v.bytes.now × (v.genesis ≡ genesis_of v.bytes.now) × (v.total ≡ total_of v.bytes.now) };
+    ghost invariant = { λ v. IsCommittee v.bytes.now × (v.genesis ≡ genesis_of v.bytes.now)
+        × (v.total ≡ total_of v.bytes.now) };
 }
 
 // Whether the format has room for several keys.
@@ -124,7 +122,6 @@ fn has_many_keys(bytes: &[u8]) -> bool
     bytes.starts_with(b"HSC3")
 }
 
-// Whether the format has weights.
 fn has_weights(bytes: &[u8]) -> bool
     ensures { result ≡ has_weights bytes.now }
 {
@@ -150,7 +147,7 @@ fn room_of(bytes: &[u8]) -> u32
     ensures { result ≡ room_of bytes.now }
 {
     if has_many_keys(bytes) {
-        MOST_KEYS as u32
+        u32::from(MOST_KEYS)
     } else {
         1
     }
@@ -219,7 +216,6 @@ fn weight_at(bytes: &[u8], r: u16) -> u32
     }
 }
 
-// Whether all bytes are 0.
 fn are_zeros(bytes: &[u8]) -> bool
     ensures { IsTrue result ↔ All (λ b. b ≡ 0) bytes.now }
 {
@@ -241,7 +237,8 @@ fn unused_at(bytes: &[u8], r: u16) -> &[u8]
 // Whether replica r has as many keys as it may, and zeros behind them.
 fn has_count(bytes: &[u8], r: u16) -> bool
     requires { place_of bytes.now (r + 1) ≤ length bytes.now }
-    ensures { result ≡ (is_count (room_of bytes.now) (keys_of bytes.now r) && are_zeros (unused_at bytes.now r)) }
+    ensures { result ≡ (is_count (room_of bytes.now) (keys_of bytes.now r) && are_zeros
+        (unused_at bytes.now r)) }
 {
     let (room, keys) = (room_of(bytes), keys_of(bytes, r));
     if keys < 1 || room < keys {
@@ -414,7 +411,8 @@ fn has_size(bytes: &[u8]) -> bool
 // judged.
 #[tactic(auto, unfolding(crate::specs::CommitteeReading::committee_in))]
 fn judge(bytes: &[u8]) -> Result<(), CommitteeRefusal>
-    ensures { MatchResult result (λ _. committee_in bytes.now ≡ Ok bytes.now) (λ refusal. committee_in bytes.now ≡ Err refusal) }
+    ensures { MatchResult result (λ _. committee_in bytes.now ≡ Ok bytes.now) (λ refusal.
+        committee_in bytes.now ≡ Err refusal) }
 {
     if bytes.len() < 8 || bytes.len() != place_of(bytes, u16_at(bytes, 6)) {
         return Err(CommitteeRefusal::Length);
@@ -441,16 +439,34 @@ fn judge(bytes: &[u8]) -> Result<(), CommitteeRefusal>
     Ok(())
 }
 
+// The weight of those of the first n replicas that pass a test.
+fn weight_of<F: Fn(u16) -> bool>(bytes: &[u8], n: u16, test: F) -> u64
+    requires place { place_of bytes.now n ≤ length bytes.now }
+    requires callable { F.IsAlwaysCallable test }
+    ensures { (passes : ℕ → Bool) → Decides F.post test passes n
+        → result ≡ weight_of (weight_at bytes.now) passes n }
+{
+    let mut weight = 0;
+    for r in 0..n {
+        if test(r) {
+            weight += u64::from(weight_at(bytes, r));
+        }
+    }
+    weight
+}
+
 // The weight of the first n replicas.
 fn total_of(bytes: &[u8], n: u16) -> u64
     requires { place_of bytes.now n ≤ length bytes.now }
     ensures { result ≡ weight_of (weight_at bytes.now) is_any n }
 {
-    let mut total = 0;
-    for r in 0..n {
-        total += u64::from(weight_at(bytes, r));
-    }
-    total
+    weight_of(
+        bytes,
+        n,
+        |_| -> bool
+            ensures { result ≡ true }
+        { true },
+    )
 }
 
 // The header in which each chain of the committee of these bytes ends.
@@ -533,7 +549,8 @@ impl<'a> CommitteeView<'a> {
     pub fn weight(&self, r: u16) -> u32
         requires { r < n_of self.now }
         ensures value { result ≡ weight_at self.now r }
-        ensures as_written { WhereSpelled self.now (λ members. IfSome (slice_get members r) (λ m. result ≡ m.weight)) }
+        ensures as_written { WhereSpelled self.now (λ members.
+            IfSome (slice_get members r) (λ m. result ≡ m.weight)) }
         ensures least { 1 ≤ result }
     {
         weight_at(self.bytes, r)
@@ -545,6 +562,15 @@ impl<'a> CommitteeView<'a> {
         ensures most { result < 2 ^ 37 }
     {
         self.total
+    }
+
+    /// How much the replicas that pass a test count together.
+    pub fn weight_of<F: Fn(u16) -> bool>(&self, test: F) -> u64
+        requires { F.IsAlwaysCallable test }
+        ensures { (passes : ℕ → Bool) → Decides F.post test passes (n_of self.now)
+            → result ≡ weight_of (weight_at self.now) passes (n_of self.now) }
+    {
+        weight_of(self.bytes, self.n(), test)
     }
 
     /// How much a quorum counts: the least above two thirds of the weight of all replicas. Of 3f + 1 replicas of weight 1 it
@@ -561,7 +587,8 @@ impl<'a> CommitteeView<'a> {
     pub fn keys(&self, r: u16) -> u8
         requires { r < n_of self.now }
         ensures value { result ≡ keys_of self.now r }
-        ensures as_written { WhereSpelled self.now (λ members. IfSome (slice_get members r) (λ m. result ≡ length m.keys)) }
+        ensures as_written { WhereSpelled self.now (λ members.
+            IfSome (slice_get members r) (λ m. result ≡ length m.keys)) }
         ensures least { 1 ≤ result }
         ensures most { result ≤ 4 }
     {
@@ -573,7 +600,9 @@ impl<'a> CommitteeView<'a> {
         requires known { r < n_of self.now }
         requires has { k < keys_of self.now r }
         ensures text { key_text result.key_id result.root ≡ key_at self.now r k }
-        ensures as_written { WhereSpelled self.now (λ members. IfSome (slice_get members r) (λ m. IfSome (slice_get m.keys k) (λ key. key ≡ key_text result.key_id result.root))) }
+        ensures as_written { WhereSpelled self.now (λ members.
+            IfSome (slice_get members r) (λ m.
+            IfSome (slice_get m.keys k) (λ key. key ≡ key_text result.key_id result.root))) }
         ensures key_id { result.key_id ≡ key_id_at self.now r k }
         ensures root { result.root ≡ root_at self.now r k }
     {
@@ -677,7 +706,10 @@ fn put_multikey_member(text: &mut Vec<u8>, member: &Member) -> Result<(), AllocE
     text.extend_from_slice(&member.weight.to_be_bytes())?;
     text.extend_from_slice(&(member.keys.len() as u32).to_be_bytes())?;
     put_keys(text, &member.keys)?;
-    put_zeros(text, PUBLIC_KEY_LEN * (MOST_KEYS - member.keys.len()))
+    put_zeros(
+        text,
+        PUBLIC_KEY_LEN * (MOST_KEYS as usize - member.keys.len()),
+    )
 }
 
 /// The bytes of a committee with weights and several keys a replica, of these replicas in this order; there must be fewer

@@ -32,9 +32,19 @@ impl Model for Header {
 
     ghost Value = { HeaderValue };
 
-    ghost view = { λ h. record { view = h.view; parent_view = h.parent_view; parent = h.parent; payload = h.payload } };
+    ghost view = { λ h. record {
+      view = h.view;
+      parent_view = h.parent_view;
+      parent = h.parent;
+      payload = h.payload;
+    } };
 
-    ghost inverse = { λ h. record { view = h.view; parent_view = h.parent_view; parent = h.parent; payload = h.payload } };
+    ghost inverse = { λ h. record {
+      view = h.view;
+      parent_view = h.parent_view;
+      parent = h.parent;
+      payload = h.payload;
+    } };
 
     ghost invariant = { λ h. AreInOrder h.parent_view h.view };
 }

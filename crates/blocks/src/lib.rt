@@ -10,7 +10,7 @@ mod refusal_text;
 
 pub use ballot::Ballot;
 pub use committee::{
-    CommitteeRefusal, CommitteeView, MOST_KEYS, Member, write_committee, write_multikey_committee,
+    CommitteeRefusal, CommitteeView, Member, write_committee, write_multikey_committee,
     write_weighted_committee,
 };
 pub use header::{HEADER_LEN, Header, HeaderRefusal, Id, NamedHeader};

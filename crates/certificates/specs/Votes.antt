@@ -28,6 +28,6 @@ IsAnswerOn committee v answer = IsTrue answer ↔ IsGoodVote committee v
 abbrev pub ballot_of : SignedVote → Ballot
 ballot_of v = record { view = v.view; id = v.id }
 
--- the 1,495 bytes of a vote: its replica, its key, its view, its block's id and its signature
+-- the bytes of a vote: its replica, its key, its view, its block's id and its signature
 unfoldable pub vote_text : SignedVote → List ℕ
 vote_text v = big_bytes 2 v.replica ++ v.key ∷ (big_bytes 8 v.view ++ (v.id ++ v.signature))

@@ -65,7 +65,8 @@ fn are_for(votes: &[SignedVote], block: &Ballot) -> bool
 // Whether the votes weigh as much as a quorum. No more are looked at than it takes.
 fn weigh_enough(committee: &CommitteeView, votes: &[SignedVote]) -> bool
     requires { All (λ v. v.replica < n_of committee.now) votes.now }
-    ensures enough { IsTrue result ↔ (quorum_of committee.now ≤ votes_weight committee.now votes.now) }
+    ensures enough { IsTrue result
+        ↔ (quorum_of committee.now ≤ votes_weight committee.now votes.now) }
     ensures few { n_of committee.now ≤ 31 }
 {
     let quorum = committee.quorum();
@@ -124,7 +125,6 @@ fn endorsements_of(alloc: Global, votes: &[SignedVote]) -> Result<Vec<Endorsemen
     Ok(entries)
 }
 
-// Sorts entries by replica.
 fn sort_by_replica(entries: &mut Vec<Endorsement>)
     ensures same { IsPermutation entries.old.items entries.new.items }
     ensures sorted { IsNonDecreasingBy (λ e. e.replica) entries.new.items }
@@ -145,7 +145,8 @@ pub fn assemble(
     // The certificate has just these votes, and they pass each test.
     ensures ok { IfOk result (IsAssembled votes.now) }
     ensures passes { OnOk result (AreAssemblable committee.now votes.now) }
-    ensures first_refusal { IfErr result (λ refusal. IsAssembleRefusal refusal committee.now votes.now) }
+    ensures first_refusal { IfErr result (λ refusal.
+        IsAssembleRefusal refusal committee.now votes.now) }
 {
     let Some(first) = votes.first() else {
         return Err(AssembleRefusal::TooFew);

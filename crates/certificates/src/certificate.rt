@@ -9,19 +9,23 @@ ghost use Rattle.certificates.specs.declared.certificate.TheConstants.{ENDORSEME
 
 use crate::vote::SignedVote;
 use blocks::{Ballot, Id};
-use lms_tree::Signature;
+use lms_tree::{SIGNATURE_LEN, Signature};
 use std::alloc::{AllocError, AllocFailed, Global};
 use std::marker::Model;
 use wire::{array_at, u16_at, u64_at};
 
 /// The length in bytes of what stands before the entries: the view, the id and the count.
-const HEAD_LEN: usize = 42;
+pub const CERTIFICATE_HEAD_LEN: usize = 8 + 32 + 2;
 
 /// The length of an entry in bytes: the number of a replica, that of its key, and a signature.
-pub const ENDORSEMENT_LEN: usize = 1455;
+pub const ENDORSEMENT_LEN: usize = 2 + 1 + SIGNATURE_LEN;
 
 /// The greatest number of entries, one for each replica of the greatest committee.
 pub const MOST_ENDORSEMENTS: u16 = 31;
+
+/// The greatest length of a certificate in bytes.
+pub const LONGEST_CERTIFICATE: usize = CERTIFICATE_HEAD_LEN
+    + ENDORSEMENT_LEN * MOST_ENDORSEMENTS as usize;
 
 /// A replica, one of its keys and the signature under that key, in a certificate.
 #[derive(Clone, Copy, Debug)]
@@ -50,7 +54,11 @@ impl Model for Certificate {
 
     ghost view = { λ c. record { view = c.view; id = c.id; entries = c.entries.items } };
 
-    ghost invariant = { λ c. IsCertificate (record { view = c.view; id = c.id; entries = c.entries.items }) };
+    ghost invariant = { λ c. IsCertificate (record {
+      view = c.view;
+      id = c.id;
+      entries = c.entries.items;
+    }) };
 }
 
 /// Why bytes are no certificate, in the order of the tests.
@@ -58,7 +66,7 @@ impl Model for Certificate {
 pub enum CertificateRefusal {
     /// Memory was refused.
     Memory = 1,
-    /// There are fewer than 42 bytes, or not 42 and 1,455 for each entry.
+    /// There are fewer than `CERTIFICATE_HEAD_LEN` bytes, or not these and `ENDORSEMENT_LEN` for each entry.
     Length = 2,
     /// The numbers of the replicas do not rise.
     Order = 3,
@@ -97,7 +105,7 @@ fn endorsement_at(bytes: &[u8], k: u16) -> Endorsement
     requires { 42 + ENDORSEMENT_LEN * (k + 1) ≤ length bytes.now }
     ensures { result ≡ endorsement_at bytes.now k }
 {
-    let at = HEAD_LEN + ENDORSEMENT_LEN * k as usize;
+    let at = CERTIFICATE_HEAD_LEN + ENDORSEMENT_LEN * k as usize;
     Endorsement {
         replica: u16_at(bytes, at),
         key: bytes[at + 2],
@@ -129,10 +137,10 @@ pub fn is_whole_certificate(bytes: &[u8]) -> bool
     ensures value { result ≡ is_whole_certificate bytes.now }
     ensures long { IsTrue result → 42 ≤ length bytes.now }
 {
-    if bytes.len() < HEAD_LEN {
+    if bytes.len() < CERTIFICATE_HEAD_LEN {
         return false;
     }
-    bytes.len() == HEAD_LEN + ENDORSEMENT_LEN * u16_at(bytes, 40) as usize
+    bytes.len() == CERTIFICATE_HEAD_LEN + ENDORSEMENT_LEN * u16_at(bytes, 40) as usize
 }
 
 // The number of the replica of entry k.
@@ -141,7 +149,7 @@ fn replica_at(bytes: &[u8], k: u16) -> u16
     requires { 42 + ENDORSEMENT_LEN * (k + 1) ≤ length bytes.now }
     ensures { result ≡ (endorsement_at bytes.now k).replica }
 {
-    u16_at(bytes, HEAD_LEN + ENDORSEMENT_LEN * k as usize)
+    u16_at(bytes, CERTIFICATE_HEAD_LEN + ENDORSEMENT_LEN * k as usize)
 }
 
 // Whether the numbers of the replicas rise in the bytes of so many entries.
@@ -183,7 +191,8 @@ fn put_entry(text: &mut Vec<u8>, e: &Endorsement) -> Result<(), AllocError>
 
 // Adds each entry to the text.
 fn put_entries(text: &mut Vec<u8>, entries: &[Endorsement]) -> Result<(), AllocError>
-    ensures { OnOk result (text.new.items ≡ text.old.items ++ flat_map endorsement_text entries.now) }
+    ensures { OnOk result (text.new.items ≡ text.old.items
+        ++ flat_map endorsement_text entries.now) }
 {
     for e in entries {
         put_entry(text, e)?;
@@ -205,17 +214,19 @@ impl Certificate {
 
     /// The certificate that the bytes spell: the view (8 bytes at 0), the id (32 at 8), the number of
     /// entries (2 at 40), and for each entry the number of its replica (2), that of its key (1) and its
-    /// signature (1,452), numbers with the highest byte first. Any number of a key is read. Refused in this
+    /// signature, numbers with the highest byte first. Any number of a key is read. Refused in this
     /// order: Memory, where memory for the entries of a text of whole length was refused, Length, Order, Count.
     pub fn read(alloc: Global, bytes: &[u8]) -> Result<Certificate, CertificateRefusal>
         // What is read is spelled so.
         ensures found { IfOk result (λ c. IsCertificate c × (bytes.now ≡ certificate_text c)) }
 
         // What is spelled so is read, unless memory is refused.
-        ensures only { (c : CertificateValue) → IsCertificate c → bytes.now ≡ certificate_text c → result ≢ Err CertificateRefusal.Memory → result ≡ Ok c }
+        ensures only { (c : CertificateValue) → IsCertificate c → bytes.now ≡ certificate_text c
+            → result ≢ Err CertificateRefusal.Memory → result ≡ Ok c }
 
         // The first test that fails refuses, unless memory is refused.
-        ensures first_refusal { result ≢ Err CertificateRefusal.Memory → result ≡ certificate_in bytes.now }
+        ensures first_refusal { result ≢ Err CertificateRefusal.Memory
+            → result ≡ certificate_in bytes.now }
         // Nothing is copied before the bytes passed each test.
         ensures memory { result ≡ Err CertificateRefusal.Memory → IsOk (certificate_in bytes.now) }
     {
@@ -246,7 +257,7 @@ impl Certificate {
         })
     }
 
-    /// The bytes of the certificate, 42 and 1,455 for each entry.
+    /// The bytes of the certificate, `CERTIFICATE_HEAD_LEN` and `ENDORSEMENT_LEN` for each entry.
     #[tactic(auto, unfolding(crate::specs::Certificates::certificate_text))]
     pub fn write(&self, alloc: Global) -> Result<Vec<u8>, AllocError>
         ensures text { IfOk result (λ text. text.items ≡ certificate_text self.now) }

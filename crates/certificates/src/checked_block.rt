@@ -9,7 +9,7 @@ ghost use Rattle.certificates.specs.GoodCertificates.{IsOnGenesis};
 
 use crate::certificate::{Certificate, Endorsement};
 use crate::vote::{Verifier, is_signed_by};
-use blocks::{CommitteeView, Header};
+use blocks::{CommitteeView, Header, NamedHeader};
 use std::marker::Model;
 
 /// Why a block is refused, in the order of the tests.
@@ -44,11 +44,11 @@ impl BlockRefusal {
 }
 
 /// A block and the certificate of its parent, made by `check_block` alone: the certificate is good under
-/// the committee that the block keeps, and on the parent that its header names.
+/// the committee that the block keeps, and on the parent that its header names. The block's id is hashed here, once.
 #[derive(Drop)]
 pub struct CheckedBlock<'a> {
     committee: CommitteeView<'a>,
-    header: Header,
+    header: NamedHeader,
     certificate: Certificate,
 }
 
@@ -57,7 +57,11 @@ impl<'a> Model for CheckedBlock<'a> {
 
     ghost Value = { CheckedBlockValue };
 
-    ghost view = { λ b. record { committee = b.committee; header = b.header; certificate = b.certificate } };
+    ghost view = { λ b. record {
+      committee = b.committee;
+      header = b.header;
+      certificate = b.certificate;
+    } };
 
     ghost invariant = { λ b. IsChecked b.committee b.header b.certificate };
 }
@@ -163,7 +167,8 @@ fn first_unsigned<V: Verifier>(
 ) -> Option<usize>
     requires known { AreInCommittee committee.now certificate.now }
     requires keys { HaveKnownKeys committee.now certificate.now }
-    ensures none { IfNone result (All (IsSignedEntry committee.now certificate.now) certificate.now.entries) }
+    ensures none { IfNone result
+        (All (IsSignedEntry committee.now certificate.now) certificate.now.entries) }
     ensures some { IfSome result (λ k. IsFirstUnsigned committee.now certificate.now k) }
 {
     let entries = certificate.entries();
@@ -183,7 +188,8 @@ fn judge<V: Verifier>(
     certificate: &Certificate,
 ) -> Result<(), BlockRefusal>
     ensures exact { IsOk result ↔ IsChecked committee.now header.now certificate.now }
-    ensures first_refusal { IfErr result (λ refusal. IsBlockRefusal refusal committee.now header.now certificate.now) }
+    ensures first_refusal { IfErr result (λ refusal.
+        IsBlockRefusal refusal committee.now header.now certificate.now) }
 {
     if !is_on_parent(header, certificate) {
         return Err(BlockRefusal::WrongBlock);
@@ -215,13 +221,18 @@ pub fn check_block<'a, V: Verifier>(
     certificate: Certificate,
 ) -> Result<CheckedBlock<'a>, BlockRefusal>
     ensures exact { IsOk result ↔ IsChecked committee.now header certificate }
-    ensures ok { IfOk result (λ b. b ≡ record { committee = committee.now; header = header; certificate = certificate }) }
-    ensures first_refusal { IfErr result (λ refusal. IsBlockRefusal refusal committee.now header certificate) }
+    ensures ok { IfOk result (λ b. b ≡ record {
+      committee = committee.now;
+      header = header;
+      certificate = certificate;
+    }) }
+    ensures first_refusal { IfErr result (λ refusal.
+        IsBlockRefusal refusal committee.now header certificate) }
 {
     judge(committee, verifier, &header, &certificate)?;
     Ok(CheckedBlock {
         committee: committee.again(),
-        header,
+        header: NamedHeader::of(header),
         certificate,
     })
 }
@@ -229,6 +240,14 @@ pub fn check_block<'a, V: Verifier>(
 impl<'a> CheckedBlock<'a> {
     /// The header.
     pub fn header(&self) -> &Header
+        ensures value { result.now ≡ self.now.header }
+        ensures is_checked { IsChecked self.now.committee self.now.header self.now.certificate }
+    {
+        self.header.header()
+    }
+
+    /// The header beside the block's id.
+    pub fn named(&self) -> &NamedHeader
         ensures value { result.now ≡ self.now.header }
         ensures is_checked { IsChecked self.now.committee self.now.header self.now.certificate }
     {
@@ -251,11 +270,12 @@ impl<'a> CheckedBlock<'a> {
         self.committee.again()
     }
 
-    /// The header, and the certificate of the parent. The committee that the block was checked under is
-    /// let go.
-    pub fn into_parts(self) -> (Header, Certificate)
+    /// The header beside the block's id, and the certificate of the parent. The committee that the block was checked
+    /// under is let go.
+    pub fn into_parts(self) -> (NamedHeader, Certificate)
         ensures value { (result.0 ≡ self.entry.header) × (result.1 ≡ self.entry.certificate) }
-        ensures is_checked { IsChecked self.entry.committee self.entry.header self.entry.certificate }
+        ensures is_checked { IsChecked self.entry.committee self.entry.header
+            self.entry.certificate }
     {
         let CheckedBlock {
             committee: _,

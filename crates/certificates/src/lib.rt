@@ -9,9 +9,13 @@ mod vote;
 
 pub use assembling::{AssembleRefusal, assemble};
 pub use blocks::CommitteeView;
-pub use certificate::{Certificate, CertificateRefusal, is_whole_certificate};
+pub use certificate::{
+    CERTIFICATE_HEAD_LEN, Certificate, CertificateRefusal, ENDORSEMENT_LEN, LONGEST_CERTIFICATE,
+    is_whole_certificate,
+};
 pub use checked_block::{BlockRefusal, CheckedBlock, check_block};
 pub use statement::{STATEMENT_LEN, Statement, statements_have_one_spelling};
 pub use vote::{
-    LmsVerifier, SignedVote, VOTE_LEN, Verifier, VoteRefusal, check_vote, is_signed_by,
+    BOUND_VOTE_LEN, LmsVerifier, SignedVote, VOTE_LEN, Verifier, VoteRefusal, check_vote,
+    is_signed_by,
 };

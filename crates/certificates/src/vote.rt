@@ -8,11 +8,15 @@ ghost use Rattle.certificates.specs.Votes.{IsGoodVote, IsSignedBy, ballot_of, vo
 
 use crate::statement::Statement;
 use blocks::{Ballot, CommitteeView, Id};
-use lms_tree::{PublicKey, Signature, verify};
+use lms_tree::{PublicKey, SIGNATURE_LEN, Signature, verify};
 use wire::put;
 
-/// The length of a vote in bytes.
-pub const VOTE_LEN: usize = 1495;
+/// The length in bytes of a vote that leaves its replica to what it stands in: the number of the key, the view, the
+/// block's id and the signature.
+pub const BOUND_VOTE_LEN: usize = 1 + 8 + 32 + SIGNATURE_LEN;
+
+/// The length of a vote in bytes: the number of its replica, and the rest.
+pub const VOTE_LEN: usize = 2 + BOUND_VOTE_LEN;
 
 /// A replica's signed vote for a block. Votes are ordered by replica, view, id, key and signature.
 #[derive(Clone, Copy, Debug, PartialEq, Eq, PartialOrd, Ord)]
@@ -25,7 +29,7 @@ pub struct SignedVote {
     pub id: Id,
     /// The number of the replica's key that signed, from 0.
     pub key: u8,
-    /// The LMS signature of the statement under that key, 1,452 bytes (RFC 8554, section 5.4).
+    /// The LMS signature of the statement under that key (RFC 8554, section 5.4).
     pub signature: Signature,
 }
 
@@ -41,7 +45,7 @@ impl SignedVote {
     }
 
     /// The bytes of the vote: its replica (2 bytes at 0), its key (1 at 2), its view (8 at 3), its block's id (32 at 11)
-    /// and its signature (1,452 at 43).
+    /// and its signature (from 43 on).
     #[tactic(auto, using(wire::proofs::Numbers::filled), unfolding(crate::specs::Votes::vote_text))]
     pub fn to_bytes(&self) -> [u8; VOTE_LEN]
         ensures { result ≡ vote_text self.now }
@@ -106,7 +110,8 @@ pub fn is_signed_by<V: Verifier>(
 ) -> bool
     requires known { replica < n_of committee.now }
     requires key { key < keys_of committee.now replica }
-    ensures { IsTrue result ↔ IsSignedBy committee.now replica key on.now.view on.now.id signature.now }
+    ensures { IsTrue result ↔ IsSignedBy committee.now replica key on.now.view on.now.id
+        signature.now }
 {
     let statement = Statement {
         chain: committee.chain(),

@@ -1,6 +1,6 @@
 -- What the program answers once it has a line to print.
 use Rattle.std.specs.Prelude.{◌≡◌, ◌⊎◌, ℕ, List, Option}
-use Rattle.faults.specs.Counting.{one_more}
+use Rattle.streams.specs.Counting.{one_more}
 use Rattle.streams.specs.Streams.{Wrote, WrotePart}
 
 -- the whole line was written and the answer is the status, or a write failed behind a first part of the

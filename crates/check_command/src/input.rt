@@ -108,7 +108,8 @@ fn two_lines(text: &[u8]) -> Option<(&[u8], &[u8])>
 // What stands before the first line feed, and what stands behind it.
 fn cut(text: &[u8]) -> Option<(&[u8], &[u8])>
     ensures none { IfNone result (Contains text.now 10 → ⊥) }
-    ensures some { IfSome result (λ parts. (text.now ≡ parts.0.now ++ 10 ∷ parts.1.now) × (Contains parts.0.now 10 → ⊥)) }
+    ensures some { IfSome result (λ parts. (text.now ≡ parts.0.now ++ 10 ∷ parts.1.now)
+        × (Contains parts.0.now 10 → ⊥)) }
 {
     let at = text.iter().position(|byte| *byte == b'\n')?;
     Some((&text[..at], &text[at + 1..]))

@@ -28,10 +28,12 @@ pub const FAULT: u8 = 2;
 /// written then, or where a write failed behind a first part of the line. It takes no memory.
 pub fn run_check<W: Sink>(committee: &[u8], verdict: &[u8], out: &mut W) -> u8
     ensures accepts { IsCommittee committee.now → IsProof committee.now verdict.now
-        → Answers (W.text out.old) (W.text out.new) (W.failed out.old) (W.failed out.new) (accepted_line verdict.now) 0 result }
+        → Answers (W.text out.old) (W.text out.new) (W.failed out.old) (W.failed out.new)
+        (accepted_line verdict.now) 0 result }
     ensures refuses { IsCommittee committee.now → (IsProof committee.now verdict.now → ⊥)
         → (r : RefusalValue) × IsRefused committee.now verdict.now r
-        × Answers (W.text out.old) (W.text out.new) (W.failed out.old) (W.failed out.new) (refused_line r) 1 result }
+        × Answers (W.text out.old) (W.text out.new) (W.failed out.old) (W.failed out.new)
+        (refused_line r) 1 result }
     ensures unreadable { (IsCommittee committee.now → ⊥) → (result ≡ 2) × (out.new ≡ out.old) }
 {
     let Ok(committee) = CommitteeView::parse(committee) else {
@@ -45,7 +47,8 @@ pub fn run_check<W: Sink>(committee: &[u8], verdict: &[u8], out: &mut W) -> u8
 
 // Writes the line, and answers the status or a fault.
 fn print<W: Sink>(out: &mut W, line: &Line, status: u8) -> u8
-    ensures { Answers (W.text out.old) (W.text out.new) (W.failed out.old) (W.failed out.new) line.now status result }
+    ensures { Answers (W.text out.old) (W.text out.new) (W.failed out.old)
+        (W.failed out.new) line.now status result }
 {
     match write_all(out, line.as_bytes()) {
         Ok(()) => status,
@@ -54,7 +57,8 @@ fn print<W: Sink>(out: &mut W, line: &Line, status: u8) -> u8
 }
 
 fn accepted(finding: &Finding) -> Line
-    ensures { result ≡ accepted_text finding.now.replica (rule_number finding.now.rule) finding.now.view }
+    ensures { result ≡ accepted_text finding.now.replica
+        (rule_number finding.now.rule) finding.now.view }
 {
     let mut line = Line::new();
     line.push(b"accepted replica ");

@@ -29,7 +29,8 @@ pub fn run_program<F: Files<File = File>, R: Read + Drop, W: Sink, E: Sink>(
 ) -> u8
     ensures silent { result ≢ 2 → faults.new ≡ faults.old }
     ensures told { result ≡ 2 → (fault : FaultValue)
-        × Told (E.text faults.old) (E.text faults.new) (E.failed faults.old) (E.failed faults.new) (check_fault_line fault) }
+        × Told (E.text faults.old) (E.text faults.new) (E.failed faults.old) (E.failed faults.new)
+        (check_fault_line fault) }
 {
     match judge(rt, alloc, words, stdin, out) {
         Ok(status) => status,
@@ -65,7 +66,8 @@ fn judge<'a, F: Files<File = File>, R: Read + Drop, W: Sink>(
 // Why there was no judgement. To judge takes no memory, so with a readable committee a write failed.
 fn why<'a>(committee: &[u8]) -> Fault<'a>
     ensures readable { IsCommittee committee.now → result ≡ Fault.Output }
-    ensures unreadable { (r : RefusalValue) → committee_in committee.now ≡ Err r → result ≡ Fault.Committee r }
+    ensures unreadable { (r : RefusalValue) → committee_in committee.now ≡ Err r
+        → result ≡ Fault.Committee r }
 {
     match CommitteeView::parse(committee) {
         Ok(_) => Fault::Output,

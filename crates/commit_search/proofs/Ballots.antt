@@ -18,7 +18,7 @@ use Rattle.std.proofs.lemmas.Slice.Eq.{bytes_eq-Decides}
 use Rattle.certificates.specs.declared.vote.SignedVote.{SignedVote}
 use Rattle.certificates.specs.VoteOrder.{IsLowerVote}
 use Rattle.certificates.proofs.VoteOrder.{both_equal}
-use Rattle.accountability.specs.Commits.{has_vote, is_vote_on}
+use Rattle.commit_search.specs.Commits.{has_vote, is_vote_on}
 
 -- ---- ballots
 

@@ -15,7 +15,7 @@ use Rattle.ancestry.proofs.Ids.{apart_in}
 use Rattle.ancestry.proofs.Walks.{head_or_later, linked_is}
 use Rattle.evidence.specs.Evidence.{Evidence, IsEvidence}
 use Rattle.blocks.specs.Weights.{committee_of}
-use Rattle.accountability.specs.Commits.{AreProvedCommits, IsCertified, IsLowerBlock, IsProvedCommit, Stands}
+use Rattle.commit_search.specs.Commits.{AreProvedCommits, IsCertified, IsLowerBlock, IsProvedCommit, Stands}
 use Rattle.commit_search.specs.Chosen.{AreCertifiedHeaders, AreThose}
 use Rattle.commit_search.specs.Successors.{HasNext, HasTwoNext, IsCommitAmong}
 

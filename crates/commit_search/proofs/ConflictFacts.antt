@@ -15,7 +15,7 @@ use Rattle.ancestry.specs.Known.{Known, IsKnown, all_of, IsLinkedId, IsAncestorI
 use Rattle.ancestry.proofs.Walks.{ancestor_is, head_or_later, linked_is}
 use Rattle.evidence.specs.Evidence.{Evidence, IsEvidence}
 use Rattle.blocks.specs.Weights.{committee_of}
-use Rattle.accountability.specs.Commits.{AreConflicting, AreFirstConflict, AreProvedCommits, HasNoConflict, IsAtMost, IsLowerBlock, IsProvedCommit}
+use Rattle.commit_search.specs.Commits.{AreConflicting, AreFirstConflict, AreProvedCommits, HasNoConflict, IsAtMost, IsLowerBlock, IsProvedCommit}
 use Rattle.commit_search.specs.declared.conflicts.ConflictingCommits.{ConflictingCommits}
 use Rattle.commit_search.specs.Pairs.{Agree, AreConflictingIn, AreFirstIn, DoConflict, IsLeastConflictWith, IsNoAncestor}
 use Rattle.commit_search.specs.Chosen.{AreCertifiedHeaders}

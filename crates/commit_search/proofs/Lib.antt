@@ -1,3 +1,6 @@
+pub mod Weights
+pub mod ConflictsAccuse
+pub mod NamedPairs
 pub mod Choices
 pub mod Parents
 pub mod Orders

@@ -11,7 +11,7 @@ use Rattle.blocks.proofs.Members.{Contains-later}
 use Rattle.ancestry.specs.Known.{Known, IsKnown, all_of, IsAncestorId, IsLinkedId}
 use Rattle.ancestry.proofs.Ids.{apart}
 use Rattle.ancestry.proofs.Walks.{ancestor_is, head_or_later, not_in_none}
-use Rattle.accountability.specs.Commits.{IsLowerBlock}
+use Rattle.commit_search.specs.Commits.{IsLowerBlock}
 use Rattle.commit_search.specs.Pairs.{Agree, AreFirstIn, FirstAreAbove, IsTrunk, StandInOneChain}
 use Rattle.commit_search.proofs.ConflictFacts.{none_before, found_later, rises_later}
 

@@ -11,7 +11,7 @@ use Rattle.std.proofs.lemmas.Cmp.{nat_cmp_total, nat_list_cmp_total, on_total, t
 use Rattle.std.proofs.lemmas.List.Sorted.{ranks_by, sorted_far}
 use Rattle.std.proofs.lemmas.Map.Keys.{IsDistinct-IsPermutation, IsDistinct-from_apart, apart_from_distinct}
 use Rattle.blocks.specs.Headers.{Header, HasLowerId, header_id}
-use Rattle.accountability.specs.Commits.{block_cmp, IsLowerBlock}
+use Rattle.commit_search.specs.Commits.{block_cmp, IsLowerBlock}
 
 pub blocks_total : IsTotalOrder block_cmp
 blocks_total = then_total (on_total (λ (h : Header). h.view) nat_cmp_total) (on_total (λ (h : Header). header_id h) nat_list_cmp_total)

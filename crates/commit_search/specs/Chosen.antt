@@ -6,7 +6,7 @@ use Rattle.blocks.specs.Headers.{Header, HasLowerId}
 use Rattle.blocks.specs.Weights.{committee_of}
 use Rattle.ancestry.specs.Known.{Known}
 use Rattle.evidence.specs.Evidence.{Evidence}
-use Rattle.accountability.specs.Commits.{IsCertified}
+use Rattle.commit_search.specs.Commits.{IsCertified}
 
 -- the headers of this kind among hs, by rising id
 pub record AreThose (Is : Header → Type 0) (hs chosen : List Header) : Type 0 where

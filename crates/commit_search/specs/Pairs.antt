@@ -4,7 +4,7 @@ use Rattle.std.specs.List.{All, AllPairs, Contains}
 use Rattle.blocks.specs.Headers.{Header}
 use Rattle.blocks.specs.Chains.{Conflict, IsAncestor, IsLinked}
 use Rattle.ancestry.specs.Known.{Known, all_of}
-use Rattle.accountability.specs.Commits.{IsLowerBlock, IsAtMost}
+use Rattle.commit_search.specs.Commits.{IsLowerBlock, IsAtMost}
 
 -- two known blocks conflict
 abbrev pub DoConflict : Known → Header → Header → Type 0

@@ -37,7 +37,8 @@ fn parent_id(h: &NamedHeader) -> Id
 impl ByParent {
     /// These headers. Memory is refused where they could not be copied.
     pub fn of(alloc: Global, headers: &[NamedHeader]) -> Result<ByParent, AllocError>
-        ensures { IfOk result (λ sorted. (h : HeaderValue) → Contains sorted h ↔ Contains headers.now h) }
+        ensures { IfOk result (λ sorted. (h : HeaderValue) → Contains sorted h
+            ↔ Contains headers.now h) }
     {
         let mut sorted = headers.to_vec(alloc)?;
         sorted.sort_unstable_by_key(
@@ -50,7 +51,8 @@ impl ByParent {
 
     /// Those that name this id for their parent. Two binary searches.
     pub fn on(&self, id: &Id) -> &[NamedHeader]
-        ensures { (h : HeaderValue) → Contains result.now h ↔ (Contains self.now h × (h.parent ≡ id.now)) }
+        ensures { (h : HeaderValue) → Contains result.now h
+            ↔ (Contains self.now h × (h.parent ≡ id.now)) }
     {
         let start = self
             .headers

@@ -6,7 +6,7 @@ ghost use Rattle.ancestry.specs.Known.{all_of};
 ghost use Rattle.blocks.specs.Committees.{IsCommittee};
 ghost use Rattle.blocks.specs.Headers.{Header as HeaderValue, HasLowerId};
 ghost use Rattle.blocks.specs.Weights.{committee_of};
-ghost use Rattle.accountability.specs.Commits.{AreProvedCommits, IsLowerBlock};
+ghost use Rattle.commit_search.specs.Commits.{AreProvedCommits, IsLowerBlock};
 ghost use Rattle.commit_search.specs.Chosen.{AreCertifiedHeaders, AreThose};
 ghost use Rattle.evidence.specs.Evidence.{Evidence as EvidenceValue, IsEvidence};
 ghost use Rattle.commit_search.specs.Successors.{IsNext, HasNext, HasTwoNext, IsCommitAmong};
@@ -60,7 +60,8 @@ fn is_commit_among(chains: &Ancestry, certified: &ByParent, b: &NamedHeader) -> 
 
 // The known blocks that known blocks commit, by rising id.
 fn commits_among(alloc: Global, chains: &Ancestry) -> Result<Vec<NamedHeader>, AllocError>
-    ensures { IfOk result (λ chosen. AreThose (IsCommitAmong chains.now) chains.now.headers chosen.items) }
+    ensures { IfOk result (λ chosen.
+        AreThose (IsCommitAmong chains.now) chains.now.headers chosen.items) }
 {
     let certified = ByParent::of(alloc, chains.headers())?;
     let mut chosen = Vec::new(alloc);
@@ -101,8 +102,9 @@ pub fn certified_chains(alloc: Global, evidence: &Evidence) -> Result<Ancestry, 
 pub fn proved_commits(alloc: Global, chains: &Ancestry) -> Result<Vec<NamedHeader>, AllocError>
     ensures known { IfOk result (λ commits. All (Contains (all_of chains.now)) commits.items) }
     ensures rising { IfOk result (λ commits. AllPairs IsLowerBlock commits.items) }
-    ensures proved { IfOk result (λ commits. (e : EvidenceValue) → IsEvidence e → AreCertifiedHeaders e chains.now →
-        AreProvedCommits (committee_of e.committee) e commits.items) }
+    ensures proved { IfOk result (λ commits. (e : EvidenceValue) → IsEvidence e
+        → AreCertifiedHeaders e chains.now
+        → AreProvedCommits (committee_of e.committee) e commits.items) }
 {
     let mut commits = commits_among(alloc, chains)?;
     sort_blocks(&mut commits);

@@ -3,7 +3,7 @@
 ghost use Rattle.std.specs.Prelude.{◌≡◌, ◌≤◌, ◌↔◌, length, IsTrue, MatchOption};
 ghost use Rattle.std.specs.List.{All, AllPairs, Contains};
 ghost use Rattle.blocks.specs.Weights.{committee_of};
-ghost use Rattle.accountability.specs.Commits.{AreProvedCommits, AreFirstConflict, HasNoConflict, IsLowerBlock};
+ghost use Rattle.commit_search.specs.Commits.{AreProvedCommits, AreFirstConflict, HasNoConflict, IsLowerBlock};
 ghost use Rattle.blocks.specs.Chains.{IsAncestor};
 ghost use Rattle.ancestry.specs.Known.{all_of, IsKnown};
 ghost use Rattle.commit_search.specs.Chosen.{AreCertifiedHeaders};
@@ -98,7 +98,8 @@ fn conflict_with(chains: &Ancestry, a: &NamedHeader, blocks: &[NamedHeader]) -> 
     requires first { Contains (all_of chains.now) a.now }
     requires others { All (Contains (all_of chains.now)) blocks.now }
     requires rising { AllPairs IsLowerBlock blocks.now }
-    ensures { MatchOption result (All (Agree chains.now a.now) blocks.now) (IsLeastConflictWith chains.now a.now blocks.now) }
+    ensures { MatchOption result (All (Agree chains.now a.now) blocks.now)
+        (IsLeastConflictWith chains.now a.now blocks.now) }
 {
     for b in blocks {
         if do_conflict(chains, a, b) {
@@ -114,7 +115,8 @@ fn first_pair(chains: &Ancestry, blocks: &[NamedHeader]) -> Option<ConflictingCo
     requires known { IsKnown chains.now }
     requires there { All (Contains (all_of chains.now)) blocks.now }
     requires rising { AllPairs IsLowerBlock blocks.now }
-    ensures { MatchOption result (AllPairs (Agree chains.now) blocks.now) (λ pair. AreFirstIn chains.now blocks.now pair.first pair.second) }
+    ensures { MatchOption result (AllPairs (Agree chains.now) blocks.now) (λ pair.
+        AreFirstIn chains.now blocks.now pair.first pair.second) }
 {
     let mut rest = &blocks[trunk_length(chains, blocks)..];
     while let [first, later @ ..] = rest {
@@ -140,6 +142,7 @@ pub fn first_conflict(chains: &Ancestry, commits: &[NamedHeader]) -> Option<Conf
         MatchOption result (HasNoConflict (committee_of e.committee) e)
         (λ pair. AreFirstConflict (committee_of e.committee) e pair.first pair.second) }
 {
+    // For the proof: no two headers of the chains have one id.
     let _known = chains.headers();
     first_pair(chains, commits)
 }

@@ -8,9 +8,10 @@ use Rattle.blocks.specs.Rules.{IsDoubleVote}
 use Rattle.ancestry.proofs.Ids.{apart_in}
 use Rattle.certificates.specs.declared.vote.SignedVote.{SignedVote}
 use Rattle.evidence.specs.Evidence.{Evidence, IsEvidence, IsNotBelowParent}
+use Rattle.verdict_format.specs.declared.parts.Shown.TheVariants.{DoubleVote, LockViolation}
 use Rattle.verdict_format.specs.Verdicts.{VotedHeaders}
 use Rattle.certificates.specs.Votes.{ballot_of}
-use Rattle.accountability.specs.Culprits.{BreakARule}
+use Rattle.commit_search.specs.Culprits.{BreakARule}
 use Rattle.culprit_search.specs.Searches.{IsFoundAt, IsNoViolation, NoneIsAt, ShowsViolation}
 
 -- where ids rise one header at most has an id
@@ -93,8 +94,8 @@ violation e v w b p l less found parent later older = (
 -- ---- no rule broken
 
 pub breaks_none : (e : Evidence) (v w : SignedVote) → (IsDoubleVote (ballot_of v) (ballot_of w) → ⊥) → IsNoViolation e v w → BreakARule e v w → ⊥
-breaks_none e v w no_double no_violation (None, shown) = no_double shown
-breaks_none e v w no_double no_violation (Some h, shown) = no_violation h shown
+breaks_none e v w no_double no_violation (DoubleVote, shown) = no_double shown
+breaks_none e v w no_double no_violation (LockViolation h, shown) = no_violation h shown
 
 -- where the block of the later vote is not in evidence
 pub no_later : (e : Evidence) (v w : SignedVote) → NoneIsAt e.headers w.id w.view → IsNoViolation e v w

@@ -10,7 +10,7 @@ use Rattle.ancestry.proofs.Walks.{not_in_none}
 use Rattle.evidence.specs.Evidence.{Evidence, IsEvidence}
 use Rattle.verdict_format.specs.Proofs.{IsProof}
 use Rattle.verdict_format.specs.Verdicts.{replica_in}
-use Rattle.accountability.specs.Culprits.{AreCulprits, IsCulprit}
+use Rattle.commit_search.specs.Culprits.{AreCulprits, IsCulprit}
 use Rattle.culprit_search.specs.Verdicts.{Accuses, AreVerdicts, IsOnLowerReplica}
 use Rattle.culprit_search.proofs.Written.{accused}
 

@@ -1,5 +1,5 @@
 -- What the screen passes over.
-use Rattle.std.proofs.Common.{◌≡◌, Bool, true, false, not, inl, inr, ℕ, ◌-◌, ◌<◌, ◌≤◌, List, length, get_or, take, ltb-true, Some, None, refl, sym, ◌∙◌, ap, subst, arith}
+use Rattle.std.proofs.Common.{◌≡◌, Bool, true, false, not, inl, inr, ℕ, ◌-◌, ◌<◌, ◌≤◌, List, length, get_or, take, ltb-true, refl, sym, ◌∙◌, ap, subst, arith}
 use Rattle.std.specs.Prelude.{◌↔◌, IsTrue, nat_eq, nat_lt}
 use Rattle.std.specs.Cmp.Lexicographic.{slice_cmp}
 use Rattle.std.specs.List.{All, AllPairs}
@@ -19,6 +19,7 @@ use Rattle.blocks.specs.Headers.{Header}
 use Rattle.certificates.specs.declared.vote.SignedVote.{SignedVote}
 use Rattle.evidence.specs.Evidence.{Evidence, IsEvidence}
 use Rattle.certificates.specs.VoteOrder.{IsLowerVote}
+use Rattle.verdict_format.specs.declared.parts.Shown.TheVariants.{DoubleVote, LockViolation}
 use Rattle.culprit_search.specs.Searches.{AreByOne, AreOwnVotes, HasNoLockAbove, IsFoundAt, IsOnParentBelow, LowerHaveNoLockAbove, NoneBreaksWith, NoneIsDouble, StandBetween}
 use Rattle.culprit_search.proofs.Breaches.{only_one}
 use Rattle.culprit_search.proofs.VotesInOrder.{Parts, greater, in_front, view_of}
@@ -166,8 +167,8 @@ on_parent_below e w view read h is found same = (
 
 -- neither a double vote nor a lock violation
 pub none_breaks : (e : Evidence) (own : List SignedVote) (w : SignedVote) (n : ℕ) → LowerHaveNoLockAbove e own w.view n → NoneIsDouble own w → (IsOnParentBelow e w n → ⊥) → NoneBreaksWith e own w
-none_breaks e own w n lower no_double not_below v there (None, shown) = no_double v there shown
-none_breaks e own w n lower no_double not_below v there (Some h, (known, broken)) =
+none_breaks e own w n lower no_double not_below v there (DoubleVote, shown) = no_double v there shown
+none_breaks e own w n lower no_double not_below v there (LockViolation h, (known, broken)) =
     let lock : h.parent.parent_view ≤ n = lower v there broken.later h.parent.parent_view (record {
       block = h.earlier;
       block_found = (known.earlier, record { id_is = broken.e_id; view_is = broken.e_view });

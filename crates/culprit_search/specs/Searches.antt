@@ -7,10 +7,9 @@ use Rattle.certificates.specs.Votes.{ballot_of}
 use Rattle.certificates.specs.declared.vote.SignedVote.{SignedVote}
 use Rattle.evidence.specs.Evidence.{Evidence}
 use Rattle.certificates.specs.VoteOrder.{IsLowerVote}
-use Rattle.verdict_format.specs.declared.parts.VerdictParts.{VerdictParts}
-use Rattle.verdict_format.specs.VerdictText.{IsVerdictOf}
+use Rattle.verdict_format.specs.declared.parts.Shown.TheVariants.{LockViolation}
 use Rattle.verdict_format.specs.Verdicts.{VotedHeaders}
-use Rattle.accountability.specs.Culprits.{BreakARule, IsVoteAtMost, Shows}
+use Rattle.commit_search.specs.Culprits.{BreakARule, IsVoteAtMost, Shows}
 use Rattle.culprit_search.specs.declared.locks.Locks.{Locks}
 use Rattle.culprit_search.specs.declared.pairs.Offence.{Offence}
 
@@ -38,7 +37,7 @@ IsBlockOf headers w (Some h) = IsFoundAt headers w.id w.view h
 
 -- the headers show that the votes are a lock violation
 abbrev pub ShowsViolation : Evidence → SignedVote → SignedVote → VotedHeaders → Type 0
-ShowsViolation e v w h = Shows e v w (Some h)
+ShowsViolation e v w h = Shows e v w (LockViolation h)
 
 -- none do
 abbrev pub IsNoViolation : Evidence → SignedVote → SignedVote → Type 0
@@ -59,11 +58,11 @@ NoneBreaksWith e own w = (v : SignedVote) → Contains own v → BreakARule e v 
 abbrev pub NoTwoBreak : Evidence → List SignedVote → Type 0
 NoTwoBreak e own = (w : SignedVote) → Contains own w → NoneBreaksWith e own w
 
--- of these votes its earlier one is the least that breaks a rule with w, as its headers show
+-- of these votes its earlier one is the least that breaks a rule with w, as is shown
 pub record IsLeastAgainst (e : Evidence) (own : List SignedVote) (w : SignedVote) (o : Offence) : Type 0 where
   pub later_is : o.later ≡ w
   pub among : Contains own o.earlier
-  pub shown : Shows e o.earlier w o.headers
+  pub shown : Shows e o.earlier w o.shown
   pub least : (x : SignedVote) → Contains own x → BreakARule e x w → IsVoteAtMost o.earlier x
 
 -- of the pairs of these votes that break a rule it is the one with the least later vote, and of those the one with
@@ -115,9 +114,3 @@ LowerHaveNoLockAbove e own view n = (v : SignedVote) → Contains own v → v.vi
 -- w's block is in evidence, and names a parent below this view
 abbrev pub IsOnParentBelow : Evidence → SignedVote → ℕ → Type 0
 IsOnParentBelow e w view = (h : Header) × IsFoundAt e.headers w.id w.view h × (h.parent_view < view)
-
--- ---- verdicts
-
--- the bytes are those of some verdict
-abbrev pub SpellsAVerdict : List ℕ → Type 0
-SpellsAVerdict bytes = (parts : VerdictParts) × IsVerdictOf bytes parts

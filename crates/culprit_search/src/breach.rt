@@ -4,25 +4,18 @@ ghost use Rattle.std.specs.Prelude.{◌≡◌, ◌↔◌, IsTrue, MatchOption};
 ghost use Rattle.blocks.specs.Rules.{IsDoubleVote};
 ghost use Rattle.evidence.specs.Evidence.{IsEvidence};
 ghost use Rattle.certificates.specs.Votes.{ballot_of};
-ghost use Rattle.accountability.specs.Culprits.{BreakARule, Shows};
+ghost use Rattle.commit_search.specs.Culprits.{BreakARule, Shows};
 ghost use Rattle.culprit_search.specs.Searches.{IsBlockOf, IsFoundAt, IsNoViolation, NoneIsAt, ShowsViolation};
 
 use blocks::{Header, Id, NamedHeader};
 use certificates::SignedVote;
 use evidence::Evidence;
-use verdict_format::VotedHeaders;
-
-/// What shows that two votes break a rule: of a lock violation the headers behind them, of a double vote
-/// nothing besides.
-#[derive(Drop)]
-pub struct Breach {
-    /// The headers of a lock violation.
-    pub headers: Option<VotedHeaders>,
-}
+use verdict_format::{Shown, VotedHeaders};
 
 // The header of this id and view, if it is in evidence.
 fn header_at(evidence: &Evidence, id: &Id, view: u64) -> Option<NamedHeader>
-    ensures header { MatchOption result (NoneIsAt evidence.now.headers id.now view) (IsFoundAt evidence.now.headers id.now view) }
+    ensures header { MatchOption result (NoneIsAt evidence.now.headers id.now view)
+        (IsFoundAt evidence.now.headers id.now view) }
     ensures is_evidence { IsEvidence evidence.now }
 {
     let found = evidence.header(id)?;
@@ -43,7 +36,8 @@ pub fn block_of(evidence: &Evidence, vote: &SignedVote) -> Option<NamedHeader>
 
 /// The header of the parent that a block names, if it is in evidence.
 pub fn parent_of(evidence: &Evidence, block: &Header) -> Option<NamedHeader>
-    ensures { MatchOption result (NoneIsAt evidence.now.headers block.now.parent block.now.parent_view)
+    ensures { MatchOption result
+        (NoneIsAt evidence.now.headers block.now.parent block.now.parent_view)
         (IsFoundAt evidence.now.headers block.now.parent block.now.parent_view) }
 {
     header_at(evidence, &block.parent, block.parent_view)
@@ -65,7 +59,8 @@ fn lock_violation(
 ) -> Option<VotedHeaders>
     requires is_evidence { IsEvidence evidence.now }
     requires later { IsFoundAt evidence.now.headers w.now.id w.now.view later.now }
-    ensures { MatchOption result (IsNoViolation evidence.now v.now w.now) (ShowsViolation evidence.now v.now w.now) }
+    ensures { MatchOption result (IsNoViolation evidence.now v.now w.now)
+        (ShowsViolation evidence.now v.now w.now) }
 {
     if v.view >= w.view {
         return None;
@@ -89,24 +84,23 @@ fn lock_violation(
 
 /// What shows that two votes of one replica break a rule, if they do by what is in evidence. The block of
 /// the later vote is given, if it is in evidence.
-pub fn breach_of(
+pub fn what_shows(
     evidence: &Evidence,
     v: &SignedVote,
     w: &SignedVote,
     later: &Option<NamedHeader>,
-) -> Option<Breach>
+) -> Option<Shown>
     requires is_evidence { IsEvidence evidence.now }
     requires later { IsBlockOf evidence.now.headers w.now later.now }
-    ensures { MatchOption result (BreakARule evidence.now v.now w.now → ⊥) (λ b. Shows evidence.now v.now w.now b.headers) }
+    ensures { MatchOption result (BreakARule evidence.now v.now w.now
+        → ⊥) (Shows evidence.now v.now w.now) }
 {
     if is_double_vote(v, w) {
-        return Some(Breach { headers: None });
+        return Some(Shown::DoubleVote);
     }
     let Some(later) = later else {
         return None;
     };
     let headers = lock_violation(evidence, v, w, later.header())?;
-    Some(Breach {
-        headers: Some(headers),
-    })
+    Some(Shown::LockViolation(headers))
 }

@@ -36,7 +36,8 @@ impl Locks {
 // The view that a vote shows its replica to be locked on, if the block of the vote and the parent of that block are in
 // evidence: the view of the block on which the parent stands.
 fn lock_view(evidence: &Evidence, vote: &SignedVote) -> Option<u64>
-    ensures lock { MatchOption result (ShowsNoLock evidence.now vote.now) (IsLockView evidence.now vote.now) }
+    ensures lock { MatchOption result (ShowsNoLock evidence.now vote.now)
+        (IsLockView evidence.now vote.now) }
     ensures is_evidence { IsEvidence evidence.now }
 {
     let block = block_of(evidence, vote)?;

@@ -2,7 +2,7 @@
 
 ghost use Rattle.std.specs.Prelude.{IfOk, map};
 ghost use Rattle.std.specs.List.{All};
-ghost use Rattle.accountability.specs.Culprits.{AreCulprits};
+ghost use Rattle.commit_search.specs.Culprits.{AreCulprits};
 ghost use Rattle.culprit_search.specs.Verdicts.{AreVerdicts};
 ghost use Rattle.verdict_format.specs.Proofs.{IsProof};
 ghost use Rattle.verdict_format.specs.Verdicts.{replica_in};

@@ -11,7 +11,7 @@ use culprit_search::{Report, Verdict};
 use evidence::Evidence;
 use std::alloc::{AllocError, Global};
 use std::collections::BTreeMap;
-use verdict_format::{VerdictView, VoteView};
+use verdict_format::BoundVote;
 
 // A block that was placed.
 #[derive(Clone, Copy)]
@@ -21,17 +21,17 @@ struct Placed {
 }
 
 // The culprit of a verdict. Its columns are set once there are any.
-fn culprit_of(verdict: &Verdict) -> Option<Culprit> {
-    let view = VerdictView::parse(verdict.as_bytes()).ok()?;
-    Some(Culprit {
-        replica: view.replica(),
-        rule: view.rule(),
-        earlier: mark_of(&view.earlier()),
-        later: mark_of(&view.later()),
-    })
+fn culprit_of(verdict: &Verdict) -> Culprit {
+    let parts = verdict.parts();
+    Culprit {
+        replica: parts.replica,
+        rule: parts.shown.rule(),
+        earlier: mark_of(&parts.earlier),
+        later: mark_of(&parts.later),
+    }
 }
 
-fn mark_of(vote: &VoteView) -> Mark {
+fn mark_of(vote: &BoundVote) -> Mark {
     Mark {
         view: vote.view,
         id: vote.id,
@@ -42,9 +42,7 @@ fn mark_of(vote: &VoteView) -> Mark {
 fn culprits_of(alloc: Global, verdicts: &[Verdict]) -> Result<Vec<Culprit>, AllocError> {
     let mut culprits = Vec::new(alloc);
     for verdict in verdicts {
-        if let Some(culprit) = culprit_of(verdict) {
-            culprits.push(culprit)?;
-        }
+        culprits.push(culprit_of(verdict))?;
     }
     Ok(culprits)
 }
@@ -68,7 +66,6 @@ fn views_of(
     Ok(views)
 }
 
-// A column for each view.
 fn columns_of(alloc: Global, views: &[u64]) -> Result<Vec<Column>, AllocError> {
     let mut columns = Vec::new(alloc);
     let mut next = 0;
@@ -88,7 +85,6 @@ fn columns_of(alloc: Global, views: &[u64]) -> Result<Vec<Column>, AllocError> {
     Ok(columns)
 }
 
-// The column of a view.
 fn column_of(columns: &[Column], view: u64) -> usize {
     columns.partition_point(|column| column.view < view)
 }
@@ -165,7 +161,6 @@ fn in_order(
     Ok(order)
 }
 
-// The blocks in their places.
 fn blocks_of(
     alloc: Global,
     evidence: &Evidence,

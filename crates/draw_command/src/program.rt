@@ -41,7 +41,8 @@ where
     F::Dir: Send,
     ensures silent { result ≢ 2 → faults.new ≡ faults.old }
     ensures told { result ≡ 2 → (fault : FaultValue)
-        × Told (E.text faults.old) (E.text faults.new) (E.failed faults.old) (E.failed faults.new) (draw_fault_line fault) }
+        × Told (E.text faults.old) (E.text faults.new) (E.failed faults.old) (E.failed faults.new)
+        (draw_fault_line fault) }
 {
     match run(files, rt, alloc, words, out) {
         Ok(()) => DRAWN,

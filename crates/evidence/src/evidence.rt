@@ -37,9 +37,19 @@ impl<'a> Model for Evidence<'a> {
 
     ghost Value = { EvidenceValue };
 
-    ghost view = { λ e. record { committee = e.committee; headers = e.headers.items; votes = e.votes.items; sources = e.sources.items } };
+    ghost view = { λ e. record {
+      committee = e.committee;
+      headers = e.headers.items;
+      votes = e.votes.items;
+      sources = e.sources.items;
+    } };
 
-    ghost invariant = { λ e. IsEvidence (record { committee = e.committee; headers = e.headers.items; votes = e.votes.items; sources = e.sources.items }) };
+    ghost invariant = { λ e. IsEvidence (record {
+      committee = e.committee;
+      headers = e.headers.items;
+      votes = e.votes.items;
+      sources = e.sources.items;
+    }) };
 }
 
 impl<'a> Evidence<'a> {
@@ -54,7 +64,12 @@ impl<'a> Evidence<'a> {
     ) -> Result<Evidence<'a>, AllocError>
         requires genesis { Contains listing.headers (genesis_of listing.committee) }
         requires answers { AllZip (IsAnswerOn listing.committee) listing.votes answers.now }
-        ensures { IfOk result (λ e. e ≡ record { committee = listing.entry.committee; headers = listing.entry.headers; votes = those listing.entry.votes answers.now; sources = sources.items }) }
+        ensures { IfOk result (λ e. e ≡ record {
+          committee = listing.entry.committee;
+          headers = listing.entry.headers;
+          votes = those listing.entry.votes answers.now;
+          sources = sources.items;
+        }) }
     {
         let votes = good_votes(alloc, &listing.votes, answers)?;
         let Listing {
@@ -118,7 +133,8 @@ fn put_if(
     good: &mut Vec<Shared<SignedVote>>,
     vote: &Shared<SignedVote>,
 ) -> Result<(), AllocError>
-    ensures { OnOk result (good.new.items ≡ good.old.items ++ (if answer then vote.now ∷ [] else [])) }
+    ensures { OnOk result (good.new.items ≡ good.old.items
+        ++ (if answer then vote.now ∷ [] else [])) }
 {
     if answer {
         good.push(vote.again()?)?;
@@ -142,7 +158,6 @@ fn good_votes(
     Ok(good)
 }
 
-// Whether the vote is good.
 fn is_good(committee: &CommitteeView, vote: &SignedVote) -> bool
     ensures { IsAnswerOn committee.now vote.now result }
 {

@@ -45,7 +45,8 @@ impl<'a> Gathered<'a> {
     /// Genesis alone.
     pub fn new(alloc: Global, committee: &CommitteeView<'a>) -> Result<Gathered<'a>, AllocError>
         ensures committee { IfOk result (λ g. g.committee ≡ committee.now) }
-        ensures headers { IfOk result (λ g. (h : Header) → Contains g.headers h ↔ (h ≡ genesis_of committee.now)) }
+        ensures headers { IfOk result (λ g. (h : Header) → Contains g.headers h
+            ↔ (h ≡ genesis_of committee.now)) }
         ensures votes { IfOk result (λ g. g.votes ≡ []) }
     {
         let mut headers = HeaderSet::new(alloc);
@@ -60,7 +61,8 @@ impl<'a> Gathered<'a> {
     // Whether the header is gathered already. Refused where another one of its id is.
     fn holds(&self, header: &NamedHeader) -> Result<bool, EvidenceRefusal>
         ensures held { IfOk result (λ held. IsTrue held → Contains self.now.headers header.now) }
-        ensures new { IfOk result (λ held. IsFalse held → HasNone self.now.headers (header_id header.now)) }
+        ensures new { IfOk result (λ held. IsFalse held
+            → HasNone self.now.headers (header_id header.now)) }
         ensures err { IfErr result (IsGatheringRefusal self.now (λ h. h ≡ header.now)) }
         ensures no_memory { result ≢ Err Memory }
     {
@@ -74,12 +76,12 @@ impl<'a> Gathered<'a> {
         Ok(true)
     }
 
-    // Adds a header.
     fn add_header<K: Keeper>(&mut self, keeper: &K, header: &Header) -> Result<(), EvidenceRefusal>
         ensures ok { OnOk result (Grows self.old self.new (λ h. h ≡ header.now) IsNone) }
         ensures err { IfErr result (IsGatheringRefusal self.old (λ h. h ≡ header.now)) }
         // Nothing grows for a header that is gathered already, nor for one that collides.
-        ensures memory { IsErrOf result EvidenceRefusal.Memory → HasNone self.old.headers (header_id header.now) }
+        ensures memory { IsErrOf result EvidenceRefusal.Memory
+            → HasNone self.old.headers (header_id header.now) }
     {
         let named = NamedHeader::of(*header);
         if self.holds(&named)? {
@@ -89,14 +91,12 @@ impl<'a> Gathered<'a> {
         Ok(())
     }
 
-    // Adds a vote.
     fn add_vote(&mut self, vote: Shared<SignedVote>) -> Result<(), AllocError>
         ensures { OnOk result (Grows self.old self.new IsNone (λ v. v ≡ vote)) }
     {
         self.votes.insert(vote)
     }
 
-    // Adds the votes of a certificate.
     fn add_certificate<K: Keeper>(
         &mut self,
         keeper: &K,
@@ -110,7 +110,6 @@ impl<'a> Gathered<'a> {
         Ok(())
     }
 
-    // Adds the own vote of an entry, if it has one.
     fn add_own_vote<K: Keeper>(
         &mut self,
         keeper: &K,
@@ -125,7 +124,6 @@ impl<'a> Gathered<'a> {
         Ok(())
     }
 
-    // Adds the headers of an entry.
     fn add_headers<K: Keeper>(&mut self, keeper: &K, entry: &Entry) -> Result<(), EvidenceRefusal>
         ensures ok { OnOk result (Grows self.old self.new (HasHeader entry.now) IsNone) }
         ensures err { IfErr result (IsGatheringRefusal self.old (HasHeader entry.now)) }
@@ -134,7 +132,6 @@ impl<'a> Gathered<'a> {
         self.add_header(keeper, entry.parent())
     }
 
-    // Adds the votes of an entry.
     fn add_votes<K: Keeper>(
         &mut self,
         keeper: &K,
@@ -154,7 +151,8 @@ impl<'a> Gathered<'a> {
         replica: u16,
         entry: &Entry,
     ) -> Result<(), EvidenceRefusal>
-        ensures ok { OnOk result (Grows self.old self.new (HasHeader entry.now) (HasVote replica entry.now)) }
+        ensures ok { OnOk result (Grows self.old self.new (HasHeader entry.now)
+            (HasVote replica entry.now)) }
         ensures err { IfErr result (IsGatheringRefusal self.old (HasHeader entry.now)) }
     {
         self.add_headers(keeper, entry)?;
@@ -171,10 +169,12 @@ impl<'a> Gathered<'a> {
         replica: u16,
         frame: &[u8],
     ) -> Result<bool, EvidenceRefusal>
-        ensures ok { OnOk result (Grows self.old self.new (FrameHasHeader frame.now) (FrameNamesVote replica frame.now)) }
+        ensures ok { OnOk result (Grows self.old self.new (FrameHasHeader frame.now)
+            (FrameNamesVote replica frame.now)) }
         ensures entry { IfOk result (λ is. IsTrue is ↔ SpellsEntry frame.now) }
         ensures err { IfErr result (IsGatheringRefusal self.old (FrameHasHeader frame.now)) }
     {
+        // For the proof: a frame is the text of one entry at most.
         entries_have_one_spelling();
         match Entry::read(alloc, frame) {
             Ok(entry) => {
@@ -194,9 +194,11 @@ impl<'a> Gathered<'a> {
         replica: u16,
         frames: &Frames,
     ) -> Result<usize, EvidenceRefusal>
-        ensures ok { OnOk result (Grows self.old self.new (InSome FrameHasHeader frames.now.frames) (InSome (FrameNamesVote replica) frames.now.frames)) }
+        ensures ok { OnOk result (Grows self.old self.new (InSome FrameHasHeader frames.now.frames)
+            (InSome (FrameNamesVote replica) frames.now.frames)) }
         ensures entries { IfOk result (HaveEntries frames.now.frames) }
-        ensures err { IfErr result (IsGatheringRefusal self.old (InSome FrameHasHeader frames.now.frames)) }
+        ensures err { IfErr result
+            (IsGatheringRefusal self.old (InSome FrameHasHeader frames.now.frames)) }
     {
         let mut entries = 0;
         for k in 0..frames.len() {
@@ -214,7 +216,8 @@ impl<'a> Gathered<'a> {
         keeper: &K,
         log: &SourceLog,
     ) -> Result<SourceReport, EvidenceRefusal>
-        ensures ok { OnOk result (Grows self.old self.new (LogHasHeader log.now) (LogNamesVote log.now)) }
+        ensures ok { OnOk result (Grows self.old self.new (LogHasHeader log.now)
+            (LogNamesVote log.now)) }
         ensures report { IfOk result (IsReportOf log.now) }
         ensures err { IfErr result (IsGatheringRefusal self.old (LogHasHeader log.now)) }
     {
@@ -239,7 +242,6 @@ impl<'a> Gathered<'a> {
         Ok(())
     }
 
-    // Adds headers.
     fn absorb_headers(&mut self, headers: &[Shared<NamedHeader>]) -> Result<(), EvidenceRefusal>
         ensures ok { OnOk result (Grows self.old self.new (Contains headers.now) IsNone) }
         ensures err { IfErr result (IsGatheringRefusal self.old (Contains headers.now)) }
@@ -250,7 +252,6 @@ impl<'a> Gathered<'a> {
         Ok(())
     }
 
-    // Adds votes.
     fn absorb_votes(&mut self, votes: &[Shared<SignedVote>]) -> Result<(), AllocError>
         ensures { OnOk result (Grows self.old self.new IsNone (Contains votes.now)) }
     {
@@ -266,7 +267,8 @@ impl<'a> Gathered<'a> {
         headers: &[Shared<NamedHeader>],
         votes: &[Shared<SignedVote>],
     ) -> Result<(), EvidenceRefusal>
-        ensures ok { OnOk result (Grows self.old self.new (Contains headers.now) (Contains votes.now)) }
+        ensures ok { OnOk result (Grows self.old self.new (Contains headers.now)
+            (Contains votes.now)) }
         ensures err { IfErr result (IsGatheringRefusal self.old (Contains headers.now)) }
     {
         self.absorb_headers(headers)?;

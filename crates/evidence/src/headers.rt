@@ -44,7 +44,8 @@ impl HeaderSet {
 
     /// The header of this id.
     pub fn get(&self, id: &Id) -> Option<&Shared<NamedHeader>>
-        ensures { MatchOption result (HasNone self.now id.now) (λ h. Contains self.now h.now × (header_id h.now ≡ id.now)) }
+        ensures { MatchOption result (HasNone self.now id.now) (λ h. Contains self.now h.now
+            × (header_id h.now ≡ id.now)) }
     {
         self.headers.get(id)
     }

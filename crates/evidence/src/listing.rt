@@ -23,9 +23,17 @@ impl<'a> Model for Listing<'a> {
 
     ghost Value = { GatheredValue };
 
-    ghost view = { λ l. record { committee = l.committee; headers = l.headers.items; votes = l.votes.items } };
+    ghost view = { λ l. record {
+      committee = l.committee;
+      headers = l.headers.items;
+      votes = l.votes.items;
+    } };
 
-    ghost invariant = { λ l. IsInOrder (record { committee = l.committee; headers = l.headers.items; votes = l.votes.items }) };
+    ghost invariant = { λ l. IsInOrder (record {
+      committee = l.committee;
+      headers = l.headers.items;
+      votes = l.votes.items;
+    }) };
 }
 
 impl<'a> Listing<'a> {

@@ -19,7 +19,11 @@ impl<'a> Model for SourceLog<'a> {
 
     ghost Value = { ReceivedLog };
 
-    ghost view = { λ l. record { replica = l.replica; frames = l.frames.frames; status = l.frames.status } };
+    ghost view = { λ l. record {
+      replica = l.replica;
+      frames = l.frames.frames;
+      status = l.frames.status;
+    } };
 }
 
 /// How a source did.

@@ -18,7 +18,8 @@ impl InputFault {
     /// What a failed call of the system is.
     pub fn of(error: &Error) -> InputFault
         ensures memory { error_kind error.now ≡ ErrorKind.OutOfMemory → result ≡ InputFault.Memory }
-        ensures other { error_kind error.now ≢ ErrorKind.OutOfMemory → result ≡ InputFault.Unreadable }
+        ensures other { error_kind error.now ≢ ErrorKind.OutOfMemory
+            → result ≡ InputFault.Unreadable }
     {
         match error.kind() {
             ErrorKind::OutOfMemory => InputFault::Memory,

@@ -26,7 +26,8 @@ pub fn read_at_most<R: Read + Drop>(
     stream: R,
     most: u64,
 ) -> Result<Vec<u8>, InputFault>
-    ensures { IfOk result (λ bytes. IfSome (R.remaining stream) (λ rest. bytes.items ≡ take most rest)) }
+    ensures { IfOk result (λ bytes.
+        IfSome (R.remaining stream) (λ rest. bytes.items ≡ take most rest)) }
 {
     let mut bytes = Vec::new(alloc);
     match stream.take(most).read_to_end(&mut bytes) {

@@ -6,9 +6,9 @@ ghost use Rattle.log_transfer.specs.declared.place.TheConstants.{MOST_TRIES};
 ghost use Rattle.parallel_verify.specs.Collections.{MayBeTried};
 
 use crate::fault::Fault;
-use crate::replica::Replica;
+use crate::replica::{Replica, all_of};
 use culprit_search::Report;
-use log_serving::serve;
+use log_server::serve;
 use log_transfer::TcpConnector;
 use parallel_verify::Source;
 use source_audit::audit_run;
@@ -31,6 +31,19 @@ struct Server {
 }
 
 impl Server {
+    fn of<R: Net<Listener = TcpListener, Stream = TcpStream>>(
+        rt: &R,
+        replica: Replica,
+    ) -> Result<Server, Fault> {
+        let listener = TcpListener::bind(rt, "127.0.0.1:0")?;
+        Ok(Server { replica, listener })
+    }
+
+    fn address(&self, alloc: Global) -> Result<String, Fault> {
+        let address = self.listener.local_addr()?;
+        Ok(format!(in alloc; "{address}")?)
+    }
+
     // Answers the request of one connection.
     fn serve_one(self) -> Result<Replica, Fault> {
         let Server {
@@ -97,6 +110,34 @@ fn audit<
     report.map_err(|_| Fault::Audit)
 }
 
+fn servers<R: Net<Listener = TcpListener, Stream = TcpStream> + AllocGlobal>(
+    rt: &R,
+    replicas: Vec<Replica>,
+) -> Result<Vec<Server>, Fault> {
+    let mut servers = Vec::new(rt.alloc());
+    for replica in replicas {
+        servers.push(Server::of(rt, replica)?)?;
+    }
+    Ok(servers)
+}
+
+fn addresses(alloc: Global, servers: &[Server]) -> Result<Vec<String>, Fault> {
+    let mut addresses = Vec::new(alloc);
+    for server in servers {
+        addresses.push(server.address(alloc)?)?;
+    }
+    Ok(addresses)
+}
+
+// Answers one connection to each server, and the replicas as they were.
+fn serve_all<R: Threads + Sync + AllocGlobal>(
+    rt: &R,
+    servers: Vec<Server>,
+) -> Result<Vec<Replica>, Fault> {
+    let served = thread::map_vec(rt, servers, &|server: Server| { server.serve_one() })?;
+    all_of(rt.alloc(), served)
+}
+
 /// Hands out the log of each replica once, over TCP, audits them, and prints the report. Answers the report, and the replicas
 /// as they were.
 pub(crate) fn audit_over_tcp<
@@ -113,23 +154,13 @@ pub(crate) fn audit_over_tcp<
     replicas: Vec<Replica>,
     out: &mut W,
 ) -> Result<(Report, Vec<Replica>), Fault> {
-    let alloc = rt.alloc();
-    let mut servers = Vec::new(alloc);
-    let mut addresses = Vec::new(alloc);
-    for replica in replicas {
-        let listener = TcpListener::bind(rt, "127.0.0.1:0")?;
-        let address = listener.local_addr()?;
-        addresses.push(format!(in alloc; "{address}")?)?;
-        servers.push(Server { replica, listener })?;
-    }
-    let (served, report) = thread::join(
+    let servers = servers(rt, replicas)?;
+    let addresses = addresses(rt.alloc(), &servers)?;
+    let (replicas, report) = thread::join(
         rt,
-        move || thread::map_vec(rt, servers, &|server: Server| { server.serve_one() }),
+        move || serve_all(rt, servers),
         || audit(rt, committee, &addresses, out),
     );
-    let mut replicas = Vec::new(alloc);
-    for replica in served? {
-        replicas.push(replica?)?;
-    }
+    let replicas = replicas?;
     Ok((report?, replicas))
 }

@@ -3,7 +3,7 @@
 use crate::branch::Branch;
 use crate::fault::Fault;
 use crate::leader::{Decided, Voter, lead};
-use crate::replica::{Line, Replica, run};
+use crate::replica::{Line, Replica, all_of, run};
 use blocks::CommitteeView;
 use std::alloc::{AllocError, Global};
 use std::sync::Wait;
@@ -33,6 +33,32 @@ fn connection(alloc: Global) -> Result<(Voter, Line), AllocError> {
     Ok((voter, line))
 }
 
+// Each replica in its seat, and the leader's ends of their connections.
+fn seated(alloc: Global, replicas: Vec<Replica>) -> Result<(Vec<Voter>, Vec<Seat>), AllocError> {
+    let mut voters = Vec::new(alloc);
+    let mut seats = Vec::new(alloc);
+    for replica in replicas {
+        let (voter, line) = connection(alloc)?;
+        voters.push(voter)?;
+        seats.push(Seat { replica, line })?;
+    }
+    Ok((voters, seats))
+}
+
+// Runs each replica until the leader hangs up.
+fn run_all<R: Threads + Wait + Sync + AllocGlobal>(
+    rt: &R,
+    committee: &CommitteeView,
+    seats: Vec<Seat>,
+) -> Result<Vec<Replica>, Fault> {
+    let stayed = thread::map_vec(
+        rt,
+        seats,
+        &|seat: Seat| { run(rt, committee, seat.replica, &seat.line) },
+    )?;
+    all_of(rt.alloc(), stayed)
+}
+
 /// Runs these replicas for as long as it takes them to vote for a branch. Answers what was decided, and the replicas as they
 /// are then.
 pub(crate) fn vote_for<R: Threads + Wait + Clock + Sync + AllocGlobal>(
@@ -41,28 +67,12 @@ pub(crate) fn vote_for<R: Threads + Wait + Clock + Sync + AllocGlobal>(
     branch: Branch,
     replicas: Vec<Replica>,
 ) -> Result<(Vec<Decided>, Vec<Replica>), Fault> {
-    let alloc = rt.alloc();
-    let mut voters = Vec::new(alloc);
-    let mut seats = Vec::new(alloc);
-    for replica in replicas {
-        let (voter, line) = connection(alloc)?;
-        voters.push(voter)?;
-        seats.push(Seat { replica, line })?;
-    }
-    let (decided, stayed) = thread::join(
+    let (voters, seats) = seated(rt.alloc(), replicas)?;
+    let (decided, replicas) = thread::join(
         rt,
         move || lead(rt, committee, branch, voters),
-        move || {
-            thread::map_vec(
-                rt,
-                seats,
-                &|seat: Seat| { run(rt, committee, seat.replica, &seat.line) },
-            )
-        },
+        move || run_all(rt, committee, seats),
     );
-    let mut replicas = Vec::new(alloc);
-    for replica in stayed? {
-        replicas.push(replica?)?;
-    }
+    let replicas = replicas?;
     Ok((decided?, replicas))
 }

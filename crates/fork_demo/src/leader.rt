@@ -108,6 +108,30 @@ fn certificate_of(
     Ok(certificate.write(alloc)?)
 }
 
+// Where a branch stands: its youngest block, and the bytes of the certificate on it.
+#[derive(Drop)]
+struct Tip {
+    block: NamedHeader,
+    certificate: Vec<u8>,
+}
+
+// Has the voters vote for one more block on the tip.
+fn decide<R: Wait + Clock + AllocGlobal>(
+    rt: &R,
+    committee: &CommitteeView,
+    voters: &[Voter],
+    tip: &mut Tip,
+    letter: u8,
+    view: u8,
+) -> Result<Decided, Fault> {
+    let block = block_on(&tip.block, letter, view).ok_or(Fault::Votes)?;
+    propose(rt, voters, &block, &tip.certificate)?;
+    let Round { votes, committed } = gather(rt, voters)?;
+    tip.certificate = certificate_of(rt.alloc(), committee, &votes)?;
+    tip.block = block;
+    Ok(Decided { block, committed })
+}
+
 /// Has the voters vote for the blocks of a branch, one after the other, and hangs up.
 pub(crate) fn lead<R: Wait + Clock + AllocGlobal>(
     rt: &R,
@@ -116,17 +140,12 @@ pub(crate) fn lead<R: Wait + Clock + AllocGlobal>(
     voters: Vec<Voter>,
 ) -> Result<Vec<Decided>, Fault> {
     let mut decided = Vec::new(rt.alloc());
-    let mut parent = NamedHeader::of(committee.genesis());
-    let mut certificate = on_genesis(rt.alloc(), committee)?;
+    let mut tip = Tip {
+        block: NamedHeader::of(committee.genesis()),
+        certificate: on_genesis(rt.alloc(), committee)?,
+    };
     for view in branch.views {
-        let Some(block) = block_on(&parent, branch.letter, view) else {
-            return Err(Fault::Votes);
-        };
-        propose(rt, &voters, &block, &certificate)?;
-        let Round { votes, committed } = gather(rt, &voters)?;
-        certificate = certificate_of(rt.alloc(), committee, &votes)?;
-        decided.push(Decided { block, committed })?;
-        parent = block;
+        decided.push(decide(rt, committee, &voters, &mut tip, branch.letter, view)?)?;
     }
     Ok(decided)
 }

@@ -12,7 +12,7 @@ use std::alloc::Global;
 use std::marker::Brand;
 use std::sync::Wait;
 use std::sync::ledger::Blank;
-use vote_desk::{Answer, Desk, Naming, Parts, Reply, Session};
+use vote_desk::{Answer, Desk, DeskNaming, Parts, Reply, Session};
 
 /// A replica that is not running.
 #[derive(Drop)]
@@ -20,6 +20,18 @@ pub(crate) struct Replica {
     pub number: u16,
     /// Its key, and what it stores: here in memory, in a program of your own on two `FileDisk`s.
     pub parts: Parts<MemoryDisk>,
+}
+
+/// All of these replicas, or the first fault among them.
+pub(crate) fn all_of(
+    alloc: Global,
+    answers: Vec<Result<Replica, Fault>>,
+) -> Result<Vec<Replica>, Fault> {
+    let mut replicas = Vec::new(alloc);
+    for replica in answers {
+        replicas.push(replica?)?;
+    }
+    Ok(replicas)
 }
 
 /// A block as it comes over a network, with the bytes of the certificate of its parent.
@@ -71,7 +83,7 @@ fn checked<'a>(
 }
 
 // Hands in each block that comes, and sends on what the desk answers, until the other end hangs up.
-fn attend<N: Naming, R: Wait + AllocGlobal>(
+fn attend<N: DeskNaming, R: Wait + AllocGlobal>(
     rt: &R,
     committee: &CommitteeView,
     desk: &Desk<N, MemoryDisk>,
@@ -94,7 +106,7 @@ fn attend<N: Naming, R: Wait + AllocGlobal>(
 }
 
 // One stay at the desk: from what is stored to what is stored then.
-fn stay<N: Naming, R: Wait + AllocGlobal>(
+fn stay<N: DeskNaming, R: Wait + AllocGlobal>(
     rt: &R,
     blank: Blank,
     committee: &CommitteeView,

@@ -1,13 +1,13 @@
 //! The fork, from the keys to the verdicts.
 
 use crate::auditing::audit_over_tcp;
-use crate::branch::{A, B};
+use crate::branch::{A, B, Branch};
 use crate::cluster::vote_for;
 use crate::fault::Fault;
 use crate::files::Folder;
 use crate::replica::Replica;
 use crate::storing::{Backup, new_replica, restored};
-use crate::story::{short, tell, tell_branch, tell_finding};
+use crate::story::{short, tell, tell_all, tell_branch, tell_finding};
 use blocks::{CommitteeView, write_committee};
 use culprit_search::Report;
 use lmots::PrivateSeed;
@@ -26,6 +26,12 @@ use verdict_checker::check;
 const F: u16 = 1;
 
 const REPLICAS: u8 = 4;
+
+// What is told behind the first branch.
+const PUT_BACK: [&str; 2] = [
+    "\nThe logs of replicas 1 and 2 are put back to backups from before their first vote. So both have",
+    "forgotten that they are locked on A1. Now replica 0 can't be reached, and replica 3 can:",
+];
 
 // The key of each replica. The seeds are known to everyone, so they are good for nothing but this demonstration.
 fn keys<R: Threads + Sync + AllocGlobal>(rt: &R) -> Result<Vec<SigningTree>, Fault> {
@@ -132,6 +138,126 @@ fn check_verdicts<F: Files, W: Sink>(
     Ok(())
 }
 
+// Has the replicas vote for a branch, and tells it. Answers them as they are then.
+fn vote_and_tell<R: Threads + Wait + Clock + Sync + AllocGlobal, W: Sink>(
+    rt: &R,
+    committee: &CommitteeView,
+    branch: Branch,
+    replicas: Vec<Replica>,
+    voters: &str,
+    out: &mut W,
+) -> Result<Vec<Replica>, Fault> {
+    let (decided, replicas) = vote_for(rt, committee, branch, replicas)?;
+    tell_branch(rt.alloc(), out, branch, &decided, voters)?;
+    Ok(replicas)
+}
+
+// The first branch, behind which logs are put back. Answers replica 0, which is apart then, and those that run.
+fn first_branch<R: Threads + Wait + Clock + Sync + AllocGlobal, W: Sink>(
+    rt: &R,
+    committee: &CommitteeView,
+    replicas: Vec<(Replica, Backup)>,
+    out: &mut W,
+) -> Result<(Vec<Replica>, Vec<Replica>), Fault> {
+    let Stage {
+        running,
+        waiting,
+        backups,
+    } = set_up(rt.alloc(), replicas)?;
+    let before = vote_and_tell(rt, committee, A, running, "replicas 0, 1 and 2", out)?;
+    tell_all(out, &PUT_BACK)?;
+    put_back(rt.alloc(), committee, before, waiting, backups)
+}
+
+// The second branch. Answers all four replicas.
+fn second_branch<R: Threads + Wait + Clock + Sync + AllocGlobal, W: Sink>(
+    rt: &R,
+    committee: &CommitteeView,
+    apart: Vec<Replica>,
+    running: Vec<Replica>,
+    out: &mut W,
+) -> Result<Vec<Replica>, Fault> {
+    let mut replicas = apart;
+    for replica in vote_and_tell(rt, committee, B, running, "replicas 1, 2 and 3", out)? {
+        replicas.push(replica)?;
+    }
+    Ok(replicas)
+}
+
+// Hands out the logs, audits them, and writes them to the folder. Answers the report.
+fn audit_logs<
+    R: Files
+        + Threads
+        + Wait
+        + Clock
+        + Net<Listener = TcpListener, Stream = TcpStream>
+        + Sync
+        + AllocGlobal,
+    W: Sink + Send,
+>(
+    rt: &R,
+    folder: &Folder<R>,
+    committee: &[u8],
+    replicas: Vec<Replica>,
+    out: &mut W,
+) -> Result<Report, Fault> {
+    tell(
+        out,
+        "\nReplica 0 has A1 for final, and replica 3 has B4. The four logs are read over TCP and audited:",
+    )?;
+    let (report, mut replicas) = audit_over_tcp(rt, committee, replicas, out)?;
+    for replica in &mut replicas {
+        folder.write_log(replica)?;
+    }
+    Ok(report)
+}
+
+// Tells who the replicas are.
+fn tell_committee<W: Sink>(
+    alloc: Global,
+    out: &mut W,
+    committee: &CommitteeView,
+) -> Result<(), Fault> {
+    let chain = short(alloc, &committee.chain())?;
+    let line = format!(in alloc;
+        "Four replicas, of which one may be faulty, and their chain {chain}."
+    )?;
+    tell(out, &line)?;
+    tell(
+        out,
+        "\nReplica 3 can't be reached. The others go on without it:",
+    )
+}
+
+// The fork of the replicas of these keys, whose committee has these bytes.
+fn play_under<
+    R: Files
+        + Threads
+        + Wait
+        + Clock
+        + Net<Listener = TcpListener, Stream = TcpStream>
+        + Sync
+        + AllocGlobal,
+    W: Sink + Send,
+>(
+    rt: &R,
+    folder: &Folder<R>,
+    bytes: &[u8],
+    keys: Vec<SigningTree>,
+    out: &mut W,
+) -> Result<(), Fault> {
+    let alloc = rt.alloc();
+    let committee = CommitteeView::parse(bytes).map_err(|_| Fault::Keys)?;
+    folder.write_committee(bytes)?;
+    tell_committee(alloc, out, &committee)?;
+    let replicas = new_replicas(alloc, &committee, keys)?;
+    let (apart, running) = first_branch(rt, &committee, replicas, out)?;
+    let replicas = second_branch(rt, &committee, apart, running, out)?;
+    let report = audit_logs(rt, folder, bytes, replicas, out)?;
+    tell(out, "\nThe checker accepts a verdict on each culprit:")?;
+    check_verdicts(alloc, &committee, folder, &report, out)
+}
+
 /// Plays the fork, tells it, and leaves its files in the folder.
 pub(crate) fn play<
     R: Files
@@ -143,54 +269,8 @@ pub(crate) fn play<
         + AllocGlobal,
     W: Sink + Send,
 >(rt: &R, folder: &str, out: &mut W) -> Result<(), Fault> {
-    let alloc = rt.alloc();
-    let folder = Folder::make(rt, alloc, folder)?;
+    let folder = Folder::make(rt, rt.alloc(), folder)?;
     let keys = keys(rt)?;
-    let bytes = committee_of(alloc, &keys)?;
-    let committee = CommitteeView::parse(&bytes).map_err(|_| Fault::Keys)?;
-    folder.write_committee(&bytes)?;
-    let chain = short(alloc, &committee.chain())?;
-    tell(
-        out,
-        &format!(in alloc; "Four replicas, of which one may be faulty, and their chain {chain}.")?,
-    )?;
-
-    tell(
-        out,
-        "\nReplica 3 can't be reached. The others go on without it:",
-    )?;
-    let Stage {
-        running,
-        waiting,
-        backups,
-    } = set_up(alloc, new_replicas(alloc, &committee, keys)?)?;
-    let (decided, before) = vote_for(rt, &committee, A, running)?;
-    tell_branch(alloc, out, A, &decided, "replicas 0, 1 and 2")?;
-
-    tell(
-        out,
-        "\nThe logs of replicas 1 and 2 are put back to backups from before their first vote. So both have",
-    )?;
-    tell(
-        out,
-        "forgotten that they are locked on A1. Now replica 0 can't be reached, and replica 3 can:",
-    )?;
-    let (mut replicas, running) = put_back(alloc, &committee, before, waiting, backups)?;
-    let (decided, running) = vote_for(rt, &committee, B, running)?;
-    tell_branch(alloc, out, B, &decided, "replicas 1, 2 and 3")?;
-    for replica in running {
-        replicas.push(replica)?;
-    }
-
-    tell(
-        out,
-        "\nReplica 0 has A1 for final, and replica 3 has B4. The four logs are read over TCP and audited:",
-    )?;
-    let (report, mut replicas) = audit_over_tcp(rt, &bytes, replicas, out)?;
-    for replica in &mut replicas {
-        folder.write_log(replica)?;
-    }
-
-    tell(out, "\nThe checker accepts a verdict on each culprit:")?;
-    check_verdicts(alloc, &committee, &folder, &report, out)
+    let bytes = committee_of(rt.alloc(), &keys)?;
+    play_under(rt, &folder, &bytes, keys, out)
 }

@@ -6,7 +6,7 @@ use blocks::CommitteeView;
 use key_index_store::IndexStore;
 use lms_tree::SigningTree;
 use stable_log::MemoryDisk;
-use std::alloc::Global;
+use std::alloc::{AllocError, Global};
 use vote_desk::Parts;
 use vote_log::VoteLog;
 
@@ -14,6 +14,14 @@ use vote_log::VoteLog;
 #[derive(Drop)]
 pub(crate) struct Backup {
     log: Vec<u8>,
+}
+
+impl Backup {
+    fn of(alloc: Global, disk: &MemoryDisk) -> Result<Backup, AllocError> {
+        Ok(Backup {
+            log: disk.bytes().to_vec(alloc)?,
+        })
+    }
 }
 
 fn recovered_log(
@@ -24,6 +32,19 @@ fn recovered_log(
     VoteLog::recover(alloc, disk, committee.genesis()).map_err(|_| Fault::Store)
 }
 
+// The disk of a log with no entry.
+fn new_log(alloc: Global, committee: &CommitteeView) -> Result<MemoryDisk, Fault> {
+    let disk = MemoryDisk::new(alloc, Vec::new(alloc))?;
+    let log = VoteLog::create(alloc, disk, committee.genesis()).map_err(|_| Fault::Store)?;
+    Ok(log.into_disk())
+}
+
+// A store of no index given.
+fn new_index(alloc: Global) -> Result<IndexStore<MemoryDisk>, Fault> {
+    let disk = MemoryDisk::new(alloc, Vec::new(alloc))?;
+    IndexStore::create(alloc, disk, 1).map_err(|_| Fault::Store)
+}
+
 /// A replica that has done nothing yet, and a backup of its log at that moment.
 pub(crate) fn new_replica(
     alloc: Global,
@@ -31,16 +52,11 @@ pub(crate) fn new_replica(
     number: u16,
     tree: SigningTree,
 ) -> Result<(Replica, Backup), Fault> {
-    let disk = MemoryDisk::new(alloc, Vec::new(alloc))?;
-    let index = IndexStore::create(alloc, disk, 1).map_err(|_| Fault::Store)?;
-    let disk = MemoryDisk::new(alloc, Vec::new(alloc))?;
-    let log = VoteLog::create(alloc, disk, committee.genesis()).map_err(|_| Fault::Store)?;
-    let disk = log.into_disk();
-    let backup = Backup {
-        log: disk.bytes().to_vec(alloc)?,
-    };
-    let log = recovered_log(alloc, committee, disk)?;
     let trees = vec![in alloc; tree]?;
+    let index = new_index(alloc)?;
+    let disk = new_log(alloc, committee)?;
+    let backup = Backup::of(alloc, &disk)?;
+    let log = recovered_log(alloc, committee, disk)?;
     let parts = Parts { trees, index, log };
     Ok((Replica { number, parts }, backup))
 }

@@ -18,6 +18,14 @@ pub(crate) fn tell<W: Sink>(out: &mut W, line: &str) -> Result<(), Fault> {
     write_all(out, b"\n").map_err(|_| Fault::Device)
 }
 
+/// Tells lines.
+pub(crate) fn tell_all<W: Sink>(out: &mut W, lines: &[&str]) -> Result<(), Fault> {
+    for line in lines {
+        tell(out, line)?;
+    }
+    Ok(())
+}
+
 /// The first digits of an id.
 pub(crate) fn short(alloc: Global, id: &Id) -> Result<String, AllocError> {
     hex::encode(alloc, &id[..SHORT])

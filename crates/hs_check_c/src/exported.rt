@@ -41,19 +41,25 @@ impl From<Finding> for HsFinding {
 /// two signature checks at the most.
 #[unsafe(no_mangle)]
 pub extern "C" fn hs_check(committee: &[u8], verdict: &[u8], finding: &mut HsFinding) -> i32
-    ensures accepted { (result ≡ pos 0) ↔ (IsCommittee committee.now × IsProof committee.now verdict.now) }
+    ensures accepted { (result ≡ pos 0)
+        ↔ (IsCommittee committee.now × IsProof committee.now verdict.now) }
     ensures finding { result ≡ pos 0 → IsWrittenFindingOf verdict.now finding.new }
-    ensures first_refusal { IsCommittee committee.now → (IsProof committee.now verdict.now → ⊥) → IsRefusedAs committee.now verdict.now result }
-    ensures committee_refused { (IsCommittee committee.now → ⊥) → IsCommitteeRefusedAs committee.now result }
+    ensures first_refusal { IsCommittee committee.now → (IsProof committee.now verdict.now → ⊥)
+        → IsRefusedAs committee.now verdict.now result }
+    ensures committee_refused { (IsCommittee committee.now → ⊥)
+        → IsCommitteeRefusedAs committee.now result }
     ensures untouched { (result ≡ pos 0 → ⊥) → finding.new ≡ finding.old }
     // No run of a correct replica has both votes, where no two different headers among those of the run and
     // of the verdict have one id.
     ensures sound { result ≡ pos 0 → NoRunApartHasBothVotes committee.now verdict.now }
     // For a double vote there is no premise on ids.
-    ensures sound_of_double_votes { result ≡ pos 0 → verdict_kind_in verdict.now ≡ 1 → NoRunHasBothVotes committee.now verdict.now }
+    ensures sound_of_double_votes { result ≡ pos 0 → verdict_kind_in verdict.now ≡ 1
+        → NoRunHasBothVotes committee.now verdict.now }
     // The same of a replica over all its crashes and restarts.
-    ensures sound_of_lives { result ≡ pos 0 → NoLifeApartReleasedBothVotes committee.now verdict.now }
-    ensures sound_of_lives_and_double_votes { result ≡ pos 0 → verdict_kind_in verdict.now ≡ 1 → NoLifeReleasedBothVotes committee.now verdict.now }
+    ensures sound_of_lives { result ≡ pos 0
+        → NoLifeApartReleasedBothVotes committee.now verdict.now }
+    ensures sound_of_lives_and_double_votes { result ≡ pos 0 → verdict_kind_in verdict.now ≡ 1
+        → NoLifeReleasedBothVotes committee.now verdict.now }
 {
     let committee = match CommitteeView::parse(committee) {
         Ok(committee) => committee,

@@ -1,10 +1,10 @@
 -- What a look for the files of a key finds.
 use Rattle.std.proofs.Common.{◌≡◌, ◌⊎◌, ℕ, List, Option, Some, None, IfSome, Result, Err, refl, sym, ap, subst, ◌∙◌, inl, inr, arith}
-use Rattle.faults.specs.Counting.{one_more}
+use Rattle.streams.specs.Counting.{one_more}
 use Rattle.key_files.specs.declared.files.KeyFile.{KeyFile}
 use Rattle.key_files.specs.declared.files.KeyFile.TheVariants.{Seed, PublicKey, Indices, Log}
-use Rattle.key_files.specs.declared.key_number.KeyNumber.{KeyNumber}
-use Rattle.key_files.specs.declared.key_number.KeyNumber.TheVariants.{Zero}
+use Rattle.wire.specs.declared.key_number.KeyNumber.{KeyNumber}
+use Rattle.wire.specs.declared.key_number.KeyNumber.TheVariants.{Zero}
 use Rattle.key_files.specs.declared.fault.KeyFault.{KeyFault}
 use Rattle.key_files.specs.declared.fault.KeyFault.TheVariants.{Memory, File, Output}
 use Rattle.key_files.specs.KeyFiles.{FolderFile, file_name, IsFaultOfLook, IsFaultOfLooks, IsFirstThere, IsNoneBefore, IsThere, OfFirstThere, made_with}

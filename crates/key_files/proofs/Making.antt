@@ -1,8 +1,8 @@
 -- Files that are made one after the other.
 use Rattle.std.proofs.Common.{◌≡◌, ℕ, List, [], ◌++◌, Option, Some, None, sym, ap, subst, ◌∙◌, append_assoc, take}
-use Rattle.faults.specs.Counting.{one_more}
+use Rattle.streams.specs.Counting.{one_more}
 use Rattle.key_files.specs.declared.files.KeyFile.{KeyFile}
-use Rattle.key_files.specs.declared.key_number.KeyNumber.{KeyNumber}
+use Rattle.wire.specs.declared.key_number.KeyNumber.{KeyNumber}
 use Rattle.key_files.specs.declared.fault.KeyFault.{KeyFault}
 use Rattle.key_files.specs.declared.fault.KeyFault.TheVariants.{Memory, File, Output}
 use Rattle.std.proofs.lemmas.List.{append-nil}

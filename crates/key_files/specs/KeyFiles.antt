@@ -6,9 +6,9 @@ use Rattle.hex.specs.Hex.{encode_lower}
 use Rattle.lms_tree.specs.Tree.{key_text, tree_root}
 use Rattle.key_files.specs.declared.files.KeyFile.{KeyFile as KeyFileValue}
 use Rattle.key_files.specs.declared.files.KeyFile.TheVariants.{Seed, PublicKey, Indices, Log}
-use Rattle.key_files.specs.declared.key_number.KeyNumber.{KeyNumber as KeyNumberValue}
-use Rattle.key_files.specs.declared.key_number.KeyNumber.TheVariants.{Zero, One, Two, Three}
-use Rattle.faults.specs.Counting.{one_more}
+use Rattle.wire.specs.declared.key_number.KeyNumber.{KeyNumber as KeyNumberValue}
+use Rattle.wire.specs.declared.key_number.KeyNumber.TheVariants.{Zero, One, Two, Three}
+use Rattle.streams.specs.Counting.{one_more}
 use Rattle.key_files.specs.declared.fault.KeyFault.{KeyFault as KeyFaultValue}
 use Rattle.key_files.specs.declared.fault.KeyFault.TheVariants.{Memory, File, Output}
 use Rattle.key_files.specs.declared.folder.Readers.{Readers}
@@ -19,12 +19,6 @@ pub record FolderFile : Type 0 where
   pub name : List ℕ
   pub bytes : List ℕ
   pub readers : Readers
-
-abbrev pub key_number : KeyNumberValue → ℕ
-key_number Zero = 0
-key_number One = 1
-key_number Two = 2
-key_number Three = 3
 
 abbrev pub file_name : KeyFileValue → List ℕ
 file_name (Seed Zero) = codes "key.seed"

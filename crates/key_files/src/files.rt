@@ -3,7 +3,7 @@
 ghost use Rattle.std.specs.Prelude.{◌≡◌, ◌≤◌, length};
 ghost use Rattle.key_files.specs.KeyFiles.{file_name};
 
-use crate::key_number::KeyNumber;
+use wire::KeyNumber;
 
 /// A file of a replica's keys. Those that are made with one key are made in this order.
 #[derive(Clone, Copy, Debug, PartialEq, Eq)]

@@ -1,21 +1,20 @@
 //! A replica's key files, made from the seeds of its keys.
 
-ghost use Rattle.std.specs.Prelude.{◌≡◌, ◌⊎◌, ◌++◌, ◌∷◌, [], Err, IfErr, IfSome, OnOk, OnErr};
-ghost use Rattle.faults.specs.Counting.{one_more};
+ghost use Rattle.std.specs.Prelude.{◌≡◌, ◌⊎◌, ◌∷◌, [], Err, IfErr, IfSome, OnOk, OnErr};
+ghost use Rattle.streams.specs.Counting.{one_more};
 ghost use Rattle.streams.specs.Streams.{Wrote, WrotePart};
 ghost use Rattle.stable_log.specs.Image.{empty_journal};
 ghost use Rattle.key_files.specs.KeyFiles.{file_name, key_files, key_line, files_with, IsFaultOf, IsFaultOfLook, IsFaultOfLooks, IsThere, LeavesFiles, LeavesLine, LeavesMade, LeavesSome, Made, OfFirstThere};
 
 use crate::fault::KeyFault;
 use crate::files::KeyFile;
-use crate::folder::{Folder, FolderFault, Readers, Store};
-use crate::key_number::KeyNumber;
+use crate::folder::{FolderFault, MakeFolder, Readers, Store};
 use lmots::PrivateSeed;
 use parallel_keys::generate_parallel;
 use std::alloc::Global;
 use std::thread::Threads;
 use streams::{Sink, write_all};
-use wire::put;
+use wire::KeyNumber;
 
 /// Makes the key of this number: `key.seed`, `key.pub`, `index.hsj` and `log.hsj` for key 0, `key-K.seed` and
 /// `key-K.pub` alone for a further key K, as new files in this order; and prints `key ` and the public key's 112 hex
@@ -23,7 +22,7 @@ use wire::put;
 /// looked for; then no key is computed, and nothing is made. A file that another process makes after that is a fault
 /// too; it stays as it is, and files made before it stay too. Tree, in threads by `generate_parallel`, and line are
 /// computed before the first file is made, so that want of memory for them leaves no file.
-pub fn make_key<R: Threads + Sync, D: Folder, W: Sink>(
+pub fn make_key<R: Threads + Sync, D: MakeFolder, W: Sink>(
     rt: &R,
     alloc: Global,
     folder: &mut D,
@@ -31,30 +30,40 @@ pub fn make_key<R: Threads + Sync, D: Folder, W: Sink>(
     secret: PrivateSeed,
     out: &mut W,
 ) -> Result<(), KeyFault>
-    ensures files { OnOk result (Made (D.files folder.old) (D.files folder.new) (key_files number secret.key_id secret.seed)) }
-    ensures line { OnOk result (Wrote (W.text out.old) (W.text out.new) (key_line secret.key_id secret.seed)) }
-    ensures no_failure { OnOk result ((D.failed folder.new ≡ D.failed folder.old) × (W.failed out.new ≡ W.failed out.old)) }
+    ensures files { OnOk result (Made (D.files folder.old) (D.files folder.new)
+        (key_files number secret.key_id secret.seed)) }
+    ensures line { OnOk result (Wrote (W.text out.old) (W.text out.new)
+        (key_line secret.key_id secret.seed)) }
+    ensures no_failure { OnOk result ((D.failed folder.new ≡ D.failed folder.old)
+        × (W.failed out.new ≡ W.failed out.old)) }
 
     ensures taken { OfFirstThere number (D.files folder.old) (λ file.
-        (result ≡ Err (KeyFault.File file)) ⊎ (D.failed folder.new ≡ one_more (D.failed folder.old))) }
+        (result ≡ Err (KeyFault.File file))
+        ⊎ (D.failed folder.new ≡ one_more (D.failed folder.old))) }
     ensures untouched { OfFirstThere number (D.files folder.old) (λ _.
-        (D.files folder.new ≡ D.files folder.old) × (W.text out.new ≡ W.text out.old) × (W.failed out.new ≡ W.failed out.old)) }
+        (D.files folder.new ≡ D.files folder.old) × (W.text out.new ≡ W.text out.old)
+        × (W.failed out.new ≡ W.failed out.old)) }
 
-    ensures part { OnErr result (WrotePart (W.text out.old) (W.text out.new) (key_line secret.key_id secret.seed)) }
-    ensures fewer { IfErr result (λ fault. LeavesFiles number fault (D.files folder.old) (D.files folder.new)
-        (D.failed folder.old) (D.failed folder.new) (key_files number secret.key_id secret.seed)) }
-    ensures cause { IfErr result (λ fault. LeavesLine fault (W.text out.old) (W.text out.new) (W.failed out.old) (W.failed out.new)) }
+    ensures part { OnErr result (WrotePart (W.text out.old) (W.text out.new)
+        (key_line secret.key_id secret.seed)) }
+    ensures fewer { IfErr result (λ fault.
+        LeavesFiles number fault (D.files folder.old) (D.files folder.new) (D.failed folder.old)
+        (D.failed folder.new) (key_files number secret.key_id secret.seed)) }
+    ensures cause { IfErr result (λ fault.
+        LeavesLine fault (W.text out.old) (W.text out.new) (W.failed out.old) (W.failed out.new)) }
 {
     look_for_files(folder, number)?;
     make_new_key(rt, alloc, folder, number, secret, out)
 }
 
 // The first of the key's files that is there is the fault.
-fn look_for_files<D: Folder>(folder: &mut D, number: KeyNumber) -> Result<(), KeyFault>
+fn look_for_files<D: MakeFolder>(folder: &mut D, number: KeyNumber) -> Result<(), KeyFault>
     ensures same { D.files folder.new ≡ D.files folder.old }
     ensures none { OnOk result (OfFirstThere number (D.files folder.old) (λ _. ⊥)) }
     ensures no_failure { OnOk result (D.failed folder.new ≡ D.failed folder.old) }
-    ensures err { IfErr result (λ fault. IsFaultOfLooks number fault (D.files folder.old) (D.failed folder.old) (D.failed folder.new)) }
+    ensures err { IfErr result (λ fault.
+        IsFaultOfLooks number fault (D.files folder.old) (D.failed folder.old)
+        (D.failed folder.new)) }
 {
     look(folder, KeyFile::Seed(number))?;
     look(folder, KeyFile::PublicKey(number))?;
@@ -66,11 +75,13 @@ fn look_for_files<D: Folder>(folder: &mut D, number: KeyNumber) -> Result<(), Ke
 }
 
 // A file that is there is a fault.
-fn look<D: Folder>(folder: &mut D, file: KeyFile) -> Result<(), KeyFault>
+fn look<D: MakeFolder>(folder: &mut D, file: KeyFile) -> Result<(), KeyFault>
     ensures same { D.files folder.new ≡ D.files folder.old }
-    ensures none { OnOk result (IfSome (D.files folder.old) (λ held. IsThere (file_name file) held → ⊥)) }
+    ensures none { OnOk result (IfSome (D.files folder.old) (λ held. IsThere (file_name file) held
+        → ⊥)) }
     ensures kept { OnOk result (D.failed folder.new ≡ D.failed folder.old) }
-    ensures err { IfErr result (λ fault. IsFaultOfLook file fault (D.files folder.old) (D.failed folder.old) (D.failed folder.new)) }
+    ensures err { IfErr result (λ fault.
+        IsFaultOfLook file fault (D.files folder.old) (D.failed folder.old) (D.failed folder.new)) }
 {
     match folder.has(file.name()) {
         Ok(false) => Ok(()),
@@ -81,7 +92,7 @@ fn look<D: Folder>(folder: &mut D, file: KeyFile) -> Result<(), KeyFault>
 }
 
 // Makes the key and prints its line, where none of the files was there.
-fn make_new_key<R: Threads + Sync, D: Folder, W: Sink>(
+fn make_new_key<R: Threads + Sync, D: MakeFolder, W: Sink>(
     rt: &R,
     alloc: Global,
     folder: &mut D,
@@ -89,13 +100,19 @@ fn make_new_key<R: Threads + Sync, D: Folder, W: Sink>(
     secret: PrivateSeed,
     out: &mut W,
 ) -> Result<(), KeyFault>
-    ensures files { OnOk result (Made (D.files folder.old) (D.files folder.new) (key_files number secret.key_id secret.seed)) }
-    ensures line { OnOk result (Wrote (W.text out.old) (W.text out.new) (key_line secret.key_id secret.seed)) }
-    ensures no_failure { OnOk result ((D.failed folder.new ≡ D.failed folder.old) × (W.failed out.new ≡ W.failed out.old)) }
-    ensures part { OnErr result (WrotePart (W.text out.old) (W.text out.new) (key_line secret.key_id secret.seed)) }
-    ensures fewer { IfErr result (λ fault. LeavesMade number fault (D.files folder.old) (D.files folder.new)
-        (D.failed folder.old) (D.failed folder.new) (key_files number secret.key_id secret.seed)) }
-    ensures cause { IfErr result (λ fault. LeavesLine fault (W.text out.old) (W.text out.new) (W.failed out.old) (W.failed out.new)) }
+    ensures files { OnOk result (Made (D.files folder.old) (D.files folder.new)
+        (key_files number secret.key_id secret.seed)) }
+    ensures line { OnOk result (Wrote (W.text out.old) (W.text out.new)
+        (key_line secret.key_id secret.seed)) }
+    ensures no_failure { OnOk result ((D.failed folder.new ≡ D.failed folder.old)
+        × (W.failed out.new ≡ W.failed out.old)) }
+    ensures part { OnErr result (WrotePart (W.text out.old) (W.text out.new)
+        (key_line secret.key_id secret.seed)) }
+    ensures fewer { IfErr result (λ fault.
+        LeavesMade number fault (D.files folder.old) (D.files folder.new) (D.failed folder.old)
+        (D.failed folder.new) (key_files number secret.key_id secret.seed)) }
+    ensures cause { IfErr result (λ fault.
+        LeavesLine fault (W.text out.old) (W.text out.new) (W.failed out.old) (W.failed out.new)) }
 {
     let public_key = generate_parallel(rt, alloc, secret)?
         .public_key()
@@ -110,18 +127,21 @@ fn make_new_key<R: Threads + Sync, D: Folder, W: Sink>(
 }
 
 // The secret key is for its owner alone.
-fn make_files<D: Folder>(
+fn make_files<D: MakeFolder>(
     folder: &mut D,
     number: KeyNumber,
     secret: &PrivateSeed,
     public_key: &[u8; 56],
 ) -> Result<(), KeyFault>
-    ensures ok { OnOk result (Made (D.files folder.old) (D.files folder.new) (files_with number secret.now.key_id secret.now.seed public_key.now)) }
+    ensures ok { OnOk result (Made (D.files folder.old) (D.files folder.new)
+        (files_with number secret.now.key_id secret.now.seed public_key.now)) }
     ensures no_failure { OnOk result (D.failed folder.new ≡ D.failed folder.old) }
-    ensures err { IfErr result (λ fault. LeavesSome number fault (D.files folder.old) (D.files folder.new)
-        (D.failed folder.old) (D.failed folder.new) (files_with number secret.now.key_id secret.now.seed public_key.now)) }
+    ensures err { IfErr result (λ fault.
+        LeavesSome number fault (D.files folder.old) (D.files folder.new) (D.failed folder.old)
+        (D.failed folder.new) (files_with number secret.now.key_id secret.now.seed
+        public_key.now)) }
 {
-    let secret_key = seed_bytes(secret);
+    let secret_key = secret.to_bytes();
     make(folder, KeyFile::Seed(number), &secret_key, Readers::Owner)?;
     make(folder, KeyFile::PublicKey(number), public_key, Readers::All)?;
     if number == KeyNumber::Zero {
@@ -132,15 +152,18 @@ fn make_files<D: Folder>(
 }
 
 // Makes a file of the folder.
-fn make<D: Folder>(
+fn make<D: MakeFolder>(
     folder: &mut D,
     file: KeyFile,
     bytes: &[u8],
     readers: Readers,
 ) -> Result<(), KeyFault>
-    ensures ok { OnOk result (Made (D.files folder.old) (D.files folder.new) (record { name = file_name file; bytes = bytes.now; readers = readers } ∷ [])) }
+    ensures ok { OnOk result (Made (D.files folder.old) (D.files folder.new)
+        (record { name = file_name file; bytes = bytes.now; readers = readers } ∷ [])) }
     ensures kept { OnOk result (D.failed folder.new ≡ D.failed folder.old) }
-    ensures err { IfErr result (λ fault. IsFaultOf file fault (D.files folder.old) (D.files folder.new) (D.failed folder.old) (D.failed folder.new)) }
+    ensures err { IfErr result (λ fault.
+        IsFaultOf file fault (D.files folder.old) (D.files folder.new) (D.failed folder.old)
+        (D.failed folder.new)) }
 {
     match folder.create(file.name(), bytes, readers) {
         Ok(()) => Ok(()),
@@ -150,25 +173,17 @@ fn make<D: Folder>(
 }
 
 // Makes an empty journal of the folder.
-fn make_store<D: Folder>(folder: &mut D, file: KeyFile, store: Store) -> Result<(), KeyFault>
-    ensures ok { OnOk result (Made (D.files folder.old) (D.files folder.new) (record { name = file_name file; bytes = empty_journal; readers = Readers.All } ∷ [])) }
+fn make_store<D: MakeFolder>(folder: &mut D, file: KeyFile, store: Store) -> Result<(), KeyFault>
+    ensures ok { OnOk result (Made (D.files folder.old) (D.files folder.new)
+        (record { name = file_name file; bytes = empty_journal; readers = Readers.All } ∷ [])) }
     ensures kept { OnOk result (D.failed folder.new ≡ D.failed folder.old) }
-    ensures err { IfErr result (λ fault. IsFaultOf file fault (D.files folder.old) (D.files folder.new) (D.failed folder.old) (D.failed folder.new)) }
+    ensures err { IfErr result (λ fault.
+        IsFaultOf file fault (D.files folder.old) (D.files folder.new) (D.failed folder.old)
+        (D.failed folder.new)) }
 {
     match folder.create_store(file.name(), store) {
         Ok(()) => Ok(()),
         Err(FolderFault::Memory) => Err(KeyFault::Memory),
         Err(FolderFault::Failed) => Err(KeyFault::File(file)),
     }
-}
-
-// What the file of a secret key holds: the key id at 0, the seed at 16.
-#[tactic(auto, using(wire::proofs::Numbers::filled))]
-fn seed_bytes(secret: &PrivateSeed) -> [u8; 48]
-    ensures { result ≡ secret.now.key_id ++ secret.now.seed }
-{
-    let mut bytes = [0; 48];
-    put(&mut bytes, 0, &secret.key_id);
-    put(&mut bytes, 16, &secret.seed);
-    bytes
 }

@@ -5,15 +5,13 @@
 mod fault;
 mod files;
 mod folder;
-mod key_number;
 mod keygen;
 mod memory_folder;
 mod system_folder;
 
 pub use fault::KeyFault;
 pub use files::KeyFile;
-pub use folder::{Folder, FolderFault, Readers, Store};
-pub use key_number::KeyNumber;
+pub use folder::{FolderFault, MakeFolder, Readers, Store};
 pub use keygen::make_key;
 pub use memory_folder::MemoryFolder;
 pub use system_folder::SystemFolder;

@@ -4,10 +4,10 @@ ghost use Rattle.std.specs.Prelude.{◌≡◌, ◌↔◌, [], None, Some, IfOk, 
 ghost use Rattle.key_files.specs.KeyFiles.{IsThere};
 ghost use Rattle.key_files.specs.MemoryFiles.{MemoryFiles};
 
-use crate::folder::{Folder, FolderFault, Readers, Store};
-use faults::Fuse;
+use crate::folder::{FolderFault, MakeFolder, Readers, Store};
 use std::alloc::{AllocError, Global};
 use std::marker::Model;
+use streams::Fuse;
 
 /// A journal with no entry.
 const EMPTY_JOURNAL: &[u8] = b"HSJ1\0\0\0\0\0";
@@ -25,7 +25,11 @@ impl Model for HeldFile {
 
     ghost Value = { FolderFile };
 
-    ghost view = { λ f. record { name = f.name.items; bytes = f.bytes.items; readers = f.readers } };
+    ghost view = { λ f. record {
+      name = f.name.items;
+      bytes = f.bytes.items;
+      readers = f.readers;
+    } };
 }
 
 impl HeldFile {
@@ -106,7 +110,11 @@ impl MemoryFolder {
 
 // A file of these bytes.
 fn held(alloc: Global, name: &str, bytes: &[u8], readers: Readers) -> Result<HeldFile, AllocError>
-    ensures { IfOk result (λ file. file ≡ record { name = name.now; bytes = bytes.now; readers = readers }) }
+    ensures { IfOk result (λ file. file ≡ record {
+      name = name.now;
+      bytes = bytes.now;
+      readers = readers;
+    }) }
 {
     Ok(HeldFile {
         name: name.as_bytes().to_vec(alloc)?,
@@ -115,7 +123,7 @@ fn held(alloc: Global, name: &str, bytes: &[u8], readers: Readers) -> Result<Hel
     })
 }
 
-impl Folder for MemoryFolder {
+impl MakeFolder for MemoryFolder {
     ghost files = { λ f. Some f.files };
 
     ghost failed = { λ f. f.failures };

@@ -1,9 +1,9 @@
 //! A folder of the system.
 
 ghost use Rattle.std.specs.Prelude.{None};
-ghost use Rattle.faults.specs.Counting.{Counts};
+ghost use Rattle.streams.specs.Counting.{Counts};
 
-use crate::folder::{Folder, FolderFault, Readers, Store};
+use crate::folder::{FolderFault, MakeFolder, Readers, Store};
 use key_index_store::IndexStore;
 use stable_log::{FileDisk, Journal};
 use std::alloc::{AllocError, Global};
@@ -94,7 +94,7 @@ impl<'a, F: Files<File = File>> SystemFolder<'a, F> {
     }
 }
 
-impl<F: Files<File = File>> Folder for SystemFolder<'_, F> {
+impl<F: Files<File = File>> MakeFolder for SystemFolder<'_, F> {
     ghost files = { λ _. None };
 
     ghost failed = { λ f. f.failed };

@@ -7,12 +7,11 @@ use Rattle.stable_log.specs.Image.{magic, payload_text, StandsFor}
 use Rattle.stable_log.specs.Refusals.{IsDamaged, IsJournalRecoverRefusal as IsJournalRefusal}
 use Rattle.stable_log.specs.declared.error.JournalError.{JournalError}
 use Rattle.stable_log.specs.declared.error.JournalError.TheVariants as journal
-use Rattle.key_index_store.specs.Boundary.{reservations, IsBoundedBy, IsStore, LeavesBoundary, taken_by}
+use Rattle.key_index_store.specs.Boundary.{IsKeyCount, reservations, IsBoundedBy, IsStore, LeavesBoundary, taken_by}
 use Rattle.key_index_store.specs.Indices.{limit_of}
 use Rattle.key_index_store.specs.Refusals.{HasNoBoundary, index_error, IsReservationsRefusal, IsIndexRecoverRefusal}
 use Rattle.key_index_store.specs.declared.error.IndexError.{IndexError}
 use Rattle.key_index_store.specs.declared.error.IndexError.TheVariants.{Memory, Device, Spent, Stopped, BadEntry}
-use Rattle.key_index_store.specs.declared.store.TheConstants.{MOST_KEYS}
 use Rattle.key_index_store.proofs.Bounds.{some_if, if_some, bounded_at}
 use Rattle.key_index_store.proofs.Reservations.{length-reservations}
 
@@ -72,13 +71,12 @@ module _ (keys : ℕ) (told now : Option (List ℕ)) (list : List (List ℕ)) (n
         let only : image ≡ bytes = if_some told (λ (b : List ℕ). Only b images) bytes durable is image (no_new image left) in
         subst (λ (b : List ℕ). IsBoundedBy (limit_of keys) (taken_by n) b) (sym only) (bounded_at (limit_of keys) n bytes few (is_reserved bytes is)))
 
-    pub store_read : (last : Option (List ℕ)) (later : List ℕ → Type 0) (new : List (List ℕ)) → last ≡ now → new ≡ list → length list ≡ n → 1 ≤ keys → keys ≤ MOST_KEYS → NoNew images later → IsStore last later new keys (taken_by n) n
-    store_read last later new same_bytes same_list counted some most no_new = record {
+    pub store_read : (last : Option (List ℕ)) (later : List ℕ → Type 0) (new : List (List ℕ)) → last ≡ now → new ≡ list → length list ≡ n → IsKeyCount keys → NoNew images later → IsStore last later new keys (taken_by n) n
+    store_read last later new same_bytes same_list counted keys_are no_new = record {
       within = omega arith;
       last = omega arith;
       few = few;
-      some = some;
-      most = most;
+      keys_are = keys_are;
       counted = ap length same_list ∙ counted;
       listed = some_if last (λ (x : List ℕ). new ≡ reservations n) (λ bytes is. same_list ∙ if_some now (λ (x : List ℕ). list ≡ reservations n) bytes listed (sym same_bytes ∙ is));
       bounded = some_if last (λ (x : List ℕ). LeavesBoundary later (limit_of keys) (taken_by n)) (λ bytes is. if_some told (λ (x : List ℕ). LeavesBoundary later (limit_of keys) (taken_by n)) bytes (leaves later no_new) (sym (same_bytes ∙ same) ∙ is));

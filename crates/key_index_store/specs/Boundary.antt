@@ -3,7 +3,13 @@ use Rattle.std.specs.Prelude.{ℕ, zero, suc, ◌≡◌, ◌≤◌, ◌<◌, ◌
 use Rattle.byteorder.specs.Endian.{big_bytes}
 use Rattle.stable_log.specs.Image.{StandsFor}
 use Rattle.key_index_store.specs.Indices.{limit_of}
-use Rattle.key_index_store.specs.declared.store.TheConstants.{INDICES_PER_RESERVATION, MOST_KEYS}
+use Rattle.key_index_store.specs.declared.store.TheConstants.{INDICES_PER_RESERVATION}
+use Rattle.wire.specs.declared.limits.TheConstants.{MOST_KEYS}
+
+-- a replica has one to four keys
+pub record IsKeyCount (keys : ℕ) : Type 0 where
+  pub some : 1 ≤ keys
+  pub most : keys ≤ MOST_KEYS
 
 -- all indices that so many reservations take lie below this
 abbrev pub taken_by : ℕ → ℕ
@@ -39,8 +45,7 @@ pub record IsStore (told : Option (List ℕ)) (images : List ℕ → Type 0) (li
   pub within : mark ≤ taken_by count
   pub last : taken_by count < mark + INDICES_PER_RESERVATION
   pub few : taken_by count ≤ limit_of keys
-  pub some : 1 ≤ keys
-  pub most : keys ≤ MOST_KEYS
+  pub keys_are : IsKeyCount keys
   pub counted : length list ≡ count
   pub listed : IfSome told (λ _. list ≡ reservations count)
   pub bounded : IfSome told (λ _. LeavesBoundary images (limit_of keys) (taken_by count))

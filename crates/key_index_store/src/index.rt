@@ -2,7 +2,8 @@
 
 ghost use Rattle.std.specs.Prelude.{◌≡◌, ◌<◌};
 ghost use Rattle.key_index_store.specs.Indices.{key_of as key, limit_of, q_of as q};
-ghost use Rattle.key_index_store.specs.declared.store.TheConstants.{INDICES, MOST_KEYS};
+ghost use Rattle.key_index_store.specs.declared.store.TheConstants.{INDICES};
+ghost use Rattle.wire.specs.declared.limits.TheConstants.{MOST_KEYS};
 
 use crate::store::INDICES;
 

@@ -8,6 +8,4 @@ mod store;
 
 pub use error::IndexError;
 pub use index::{key_of, q_of};
-pub use store::{
-    INDICES, INDICES_PER_RESERVATION, IndexStore, MOST_KEYS, indices_are_those_of_the_format,
-};
+pub use store::{INDICES, INDICES_PER_RESERVATION, IndexStore, indices_are_those_of_the_format};

@@ -1,13 +1,14 @@
 //! The indices of a replica's keys.
 ghost use Rattle.std.specs.Prelude.{◌≡◌, ◌≢◌, ◌<◌, ◌≤◌, ◌+◌, ◌-◌, ◌*◌, ◌%◌, ◌^◌, [], ℕ, List, IsTrue, true, false, if◌then◌else◌, IfSome, IsSome, ◌↔◌, option_map, length, IfOk, IfErr, OnErr, OnOk, IsErrOf};
-ghost use Rattle.faults.specs.Counting.{HasFailed};
+ghost use Rattle.streams.specs.Counting.{HasFailed};
 ghost use Rattle.stable_log.specs.Crash.{Torn, Follows};
 ghost use Rattle.stable_log.specs.Devices.{AtAnyMoment, Untouched};
 ghost use Rattle.stable_log.specs.Image.{empty_journal};
-ghost use Rattle.key_index_store.specs.Boundary.{reservation, reservations, IsBoundary, IsBoundedBy, LeavesBoundary, taken_by};
-ghost use Rattle.wire.specs.declared.limits.TheConstants.{MOST_ENTRIES};
-ghost use Rattle.key_index_store.specs.declared.store.TheConstants.{INDICES, INDICES_PER_RESERVATION, MOST_KEYS};
-ghost use Rattle.key_index_store.specs.Indices.{key_of, limit_of};
+ghost use Rattle.key_index_store.specs.Boundary.{reservation, reservations, IsBoundary, IsBoundedBy, IsKeyCount, LeavesBoundary, taken_by};
+ghost use Rattle.wire.specs.declared.limits.TheConstants.{MOST_ENTRIES, MOST_KEYS};
+ghost use Rattle.key_index_store.specs.declared.store.TheConstants.{INDICES, INDICES_PER_RESERVATION};
+ghost use Rattle.key_index_store.specs.Indices.{limit_of};
+ghost use Rattle.key_index_store.specs.State.{IsGiven};
 ghost use Rattle.key_index_store.specs.Refusals.{IsIndexCreateRefusal, IsIndexRecoverRefusal, MayGive, IsNextRefusal, IsReserveRefusal, IsReservationsRefusal};
 
 use crate::IndexError;
@@ -18,16 +19,12 @@ use std::marker::Model;
 /// How many indices a key has.
 pub const INDICES: u32 = 1024;
 
-/// How many keys a store has at most.
-pub const MOST_KEYS: u8 = 4;
-
 /// How many indices are taken at a time.
 pub const INDICES_PER_RESERVATION: u32 = 16;
 
 /// All are as docs/FORMATS.md says, "Index journal": the contract is the law, and nothing is computed.
 pub fn indices_are_those_of_the_format()
     ensures indices { INDICES ≡ 1024 }
-    ensures keys { MOST_KEYS ≡ 4 }
     ensures reservation { INDICES_PER_RESERVATION ≡ 16 }
 {}
 
@@ -63,9 +60,15 @@ impl<D: Disk> Model for IndexStore<D> {
 
     ghost Value = { IndexState D };
 
-    ghost view = { λ s. record { disk = s.journal.disk; keys = s.keys; mark = s.next; stopped = s.journal.stopped } };
+    ghost view = { λ s. record {
+      disk = s.journal.disk;
+      keys = s.keys;
+      mark = s.next;
+      stopped = s.journal.stopped;
+    } };
 
-    ghost invariant = { λ s. IsStore (D.bytes s.journal.disk) (D.images s.journal.disk) s.journal.payloads s.keys s.next s.count };
+    ghost invariant = { λ s. IsStore (D.bytes s.journal.disk)
+        (D.images s.journal.disk) s.journal.payloads s.keys s.next s.count };
 }
 
 // What entry k of the journal holds.
@@ -105,8 +108,8 @@ fn reserve<D: Disk>(journal: &mut Journal<D>, count: u32, keys: u8) -> Result<()
         AtAnyMoment D.Disk journal.old.disk journal.new.disk
         (IsBoundedBy (limit_of keys) (taken_by count))) }
     ensures first_refusal { IfErr result IsReserveRefusal }
-    ensures device { IsErrOf result IndexError.Device → (journal.new.payloads ≡ journal.old.payloads)
-        × (journal.new.stopped ≡ true) }
+    ensures device { IsErrOf result IndexError.Device
+        → (journal.new.payloads ≡ journal.old.payloads) × (journal.new.stopped ≡ true) }
     ensures err { IfErr result (λ e. e ≢ IndexError.Device → journal.new ≡ journal.old) }
     ensures cause { IsErrOf result IndexError.Device →
         HasFailed (D.failed journal.old.disk) (D.failed journal.new.disk) }
@@ -126,12 +129,13 @@ fn read_reservations<D: Disk>(
     requires most { keys ≤ MOST_KEYS }
     ensures ok { IfOk result (λ n. IfSome (D.bytes journal.old.disk) (λ _.
         journal.old.payloads ≡ reservations n)) }
-    ensures counted { IfOk result (λ n. (length journal.old.payloads ≡ n) × (taken_by n ≤ limit_of keys)) }
+    ensures counted { IfOk result (λ n. (length journal.old.payloads ≡ n)
+        × (taken_by n ≤ limit_of keys)) }
     ensures same { (journal.new.payloads ≡ journal.old.payloads) × (journal.new.stopped ≡ false)
         × Untouched D.Disk journal.old.disk journal.new.disk }
     ensures no_failure { OnOk result (D.failed journal.new.disk ≡ D.failed journal.old.disk) }
-    ensures first_refusal { IfErr result (IsReservationsRefusal (limit_of keys) (D.bytes journal.old.disk)
-        journal.old.payloads) }
+    ensures first_refusal { IfErr result
+        (IsReservationsRefusal (limit_of keys) (D.bytes journal.old.disk) journal.old.payloads) }
     ensures cause { IsErrOf result IndexError.Device →
         HasFailed (D.failed journal.old.disk) (D.failed journal.new.disk) }
     ensures kept { IfErr result (λ e. e ≢ IndexError.Device →
@@ -156,11 +160,11 @@ impl<D: Disk> IndexStore<D> {
     /// that was not empty is not written to, and after `Device` an empty one may hold any part of the 9 bytes of an
     /// empty journal. In this order: `Device`, `BadEntry`.
     pub fn create(alloc: Global, disk: D, keys: u8) -> Result<IndexStore<D>, (IndexError, D)>
-        requires some { 1 ≤ keys }
-        requires most { keys ≤ MOST_KEYS }
+        requires { IsKeyCount keys }
         ensures ok { IfOk result (λ s. (s.keys ≡ keys) × (s.mark ≡ 0) × (s.stopped ≡ false)) }
         ensures exact { OnOk result (IfSome (D.bytes disk) (λ bytes. bytes ≡ [])) }
-        ensures told { IfOk result (λ s. D.bytes s.disk ≡ option_map (λ _. empty_journal) (D.bytes disk)) }
+        ensures told { IfOk result (λ s.
+            D.bytes s.disk ≡ option_map (λ _. empty_journal) (D.bytes disk)) }
         ensures bounded { IfOk result (λ s. IfSome (D.bytes disk) (λ _.
             LeavesBoundary (D.images s.disk) (limit_of keys) s.mark)) }
         ensures no_failure { IfOk result (λ s. D.failed s.disk ≡ D.failed disk) }
@@ -189,9 +193,9 @@ impl<D: Disk> IndexStore<D> {
     /// the stored boundary, 0 where nothing is stored. It writes nothing. A refusal hands the disk back; a boundary beyond
     /// these keys is a `BadEntry`. In this order: `Memory`, `Device`, `BadEntry`.
     pub fn recover(alloc: Global, disk: D, keys: u8) -> Result<IndexStore<D>, (IndexError, D)>
-        requires some { 1 ≤ keys }
-        requires most { keys ≤ MOST_KEYS }
-        ensures ok { IfOk result (λ s. IfSome (D.bytes disk) (λ bytes. IsBoundary (limit_of keys) s.mark bytes)) }
+        requires { IsKeyCount keys }
+        ensures ok { IfOk result (λ s.
+            IfSome (D.bytes disk) (λ bytes. IsBoundary (limit_of keys) s.mark bytes)) }
         ensures keys { IfOk result (λ s. s.keys ≡ keys) }
 
         // No index is given again, however many keys there were: each mark that the image bounds is at most the new one.
@@ -204,7 +208,8 @@ impl<D: Disk> IndexStore<D> {
         ensures same { IfOk result (λ s. Untouched D.Disk disk s.disk) }
         ensures no_failure { IfOk result (λ s. D.failed s.disk ≡ D.failed disk) }
 
-        ensures first_refusal { IfErr result (λ e. IsIndexRecoverRefusal (limit_of keys) (D.bytes disk) e.0) }
+        ensures first_refusal { IfErr result (λ e.
+            IsIndexRecoverRefusal (limit_of keys) (D.bytes disk) e.0) }
         ensures err { IfErr result (λ e. Untouched D.Disk disk e.1) }
         ensures cause { IfErr result (λ e. e.0 ≡ IndexError.Device →
             HasFailed (D.failed disk) (D.failed e.1)) }
@@ -229,12 +234,9 @@ impl<D: Disk> IndexStore<D> {
     /// are given. After `Device` the store is stopped: take the disk out and recover it. No refusal uses up an index,
     /// and any but `Device` changes nothing. In this order: `Memory`, `Stopped`, `Spent`, `Device`.
     pub fn next(&mut self) -> Result<u32, IndexError>
-        ensures ok { IfOk result (λ n. (n ≡ self.old.mark) × (self.new.mark ≡ self.old.mark + 1)) }
-        ensures keys { self.new.keys ≡ self.old.keys }
-        ensures below { IfOk result (λ n. n < limit_of self.old.keys) }
-        ensures key { IfOk result (λ n. key_of n < self.old.keys) }
+        ensures ok { IfOk result (IsGiven self.old self.new) }
         ensures exact { OnOk result (MayGive self.old) }
-        ensures running { OnOk result (self.new.stopped ≡ false) }
+        ensures keys { self.new.keys ≡ self.old.keys }
         ensures bounded { IfSome (D.bytes self.old.disk) (λ _.
             LeavesBoundary (D.images self.new.disk) (limit_of self.old.keys) self.new.mark) }
         ensures no_failure { OnOk result (D.failed self.new.disk ≡ D.failed self.old.disk) }
@@ -279,7 +281,8 @@ impl<D: Disk> IndexStore<D> {
 
     /// How many indices `next` can still give, 0 where the store is stopped.
     pub fn left(&self) -> u32
-        ensures { result ≡ (if self.now.stopped then 0 else limit_of self.now.keys - self.now.mark) }
+        ensures { result ≡ (if self.now.stopped then 0 else limit_of self.now.keys -
+            self.now.mark) }
     {
         if self.journal.stopped() {
             0

@@ -4,6 +4,7 @@ use Rattle.std.specs.Prelude.{◌≡◌, ℕ, ◌+◌, ◌-◌, ◌*◌, List, �
 use Rattle.byteorder.specs.Endian.{big_bytes}
 use Rattle.sha2.specs.Sha256.{sha256}
 use Rattle.wire.specs.Pieces.{number_at, piece}
+use Rattle.lmots.specs.declared.signatures.TheConstants.{OTS_SIGNATURE_LEN}
 use Rattle.lmots.specs.Chains.{chain_steps, joined, key_of_ends, ots_private, prefix}
 
 -- Q, the hash of a message under the randomizer c; 0x8181 is D_MESG (section 4.5)
@@ -42,7 +43,7 @@ ots_signature id seed q message =
 
 -- the bytes have the length and the type of a signature
 pub record IsOtsSignature (signature : List ℕ) : Type 0 where
-  pub long : length signature ≡ 1124
+  pub long : length signature ≡ OTS_SIGNATURE_LEN
   pub ots_type : number_at 4 signature 0 ≡ 4
 
 -- what a signature shows of chain i

@@ -8,7 +8,9 @@ mod signatures;
 mod walks;
 
 pub use chains::prefix;
-pub use keys::{PrivateSeed, chain_end, key_of_ends, ots_public};
+pub use keys::{
+    HASH_LEN, KEY_ID_LEN, PRIVATE_SEED_LEN, PrivateSeed, chain_end, key_of_ends, ots_public,
+};
 pub use signatures::{
     OTS_SIGNATURE_LEN, OTS_TYPE, OtsRefusal, coefficients, ots_candidate, ots_sign,
 };

@@ -5,21 +5,22 @@ ghost use Rattle.lmots.specs.Chains.{ots_public_key};
 ghost use Rattle.lmots.specs.Refusals.{ots_refusal_number, IsOtsRefusal};
 ghost use Rattle.lmots.specs.Signatures.{message_hash, checksum, coefficients, randomizer, signed_value, ots_signature, IsOtsSignature, shown_value, continued, candidate_key};
 ghost use Rattle.lmots.specs.Walks.{AreFirst};
+ghost use Rattle.lmots.specs.declared.signatures.TheConstants.{OTS_SIGNATURE_LEN};
 
 use crate::chains::prefix;
-use crate::keys::{CHAINS, PrivateSeed, chain_starts, key_of_ends, ots_private};
+use crate::keys::{CHAINS, HASH_LEN, PrivateSeed, chain_starts, key_of_ends, ots_private};
 use crate::walks::Walks;
 use sha2::{Digest, Sha256};
 use wire::{array_at, put, u32_at};
 
-/// The length of a one-time signature, in bytes.
-pub const OTS_SIGNATURE_LEN: usize = 1124;
-
-/// Where the randomizer stands in a one-time signature.
+/// Where the randomizer stands in a one-time signature, behind its type.
 const RANDOMIZER_AT: usize = 4;
 
 /// Where the values of the chains begin.
-const VALUES_AT: usize = 36;
+const VALUES_AT: usize = RANDOMIZER_AT + HASH_LEN;
+
+/// The length of a one-time signature, in bytes.
+pub const OTS_SIGNATURE_LEN: usize = VALUES_AT + HASH_LEN * CHAINS as usize;
 
 /// The type LMOTS_SHA256_N32_W8 of RFC 8554.
 pub const OTS_TYPE: u32 = 4;
@@ -67,7 +68,8 @@ pub fn coefficients(hash: &[u8; 32]) -> [u8; 34]
 // What the signer shows of each chain.
 #[tactic(auto, unfolding(crate::specs::Signatures::signed_value))]
 fn signed_values(secret: &PrivateSeed, q: u32, coefficients: &[u8; 34]) -> [[u8; 32]; 34]
-    ensures { AreFirst 34 (signed_value secret.now.key_id secret.now.seed q coefficients.now) result }
+    ensures { AreFirst 34 (signed_value secret.now.key_id secret.now.seed q coefficients.now)
+        result }
 {
     let walks = Walks {
         key_id: secret.key_id,
@@ -103,7 +105,7 @@ pub fn ots_sign(secret: &PrivateSeed, q: u32, message: &[u8]) -> [u8; OTS_SIGNAT
 
 // What a signature shows of each chain.
 fn shown_values(signature: &[u8]) -> [[u8; 32]; 34]
-    requires { length signature.now ≡ 1124 }
+    requires { length signature.now ≡ OTS_SIGNATURE_LEN }
     ensures { AreFirst 34 (shown_value signature.now) result }
 {
     let mut values = [[0; 32]; 34];
@@ -115,7 +117,7 @@ fn shown_values(signature: &[u8]) -> [[u8; 32]; 34]
 
 // Where the signer ended each chain.
 fn continued(key_id: &[u8; 16], q: u32, coefficients: &[u8; 34], signature: &[u8]) -> [[u8; 32]; 34]
-    requires { length signature.now ≡ 1124 }
+    requires { length signature.now ≡ OTS_SIGNATURE_LEN }
     ensures { AreFirst 34 (continued key_id.now q coefficients.now signature.now) result }
 {
     let walks = Walks {
@@ -131,7 +133,7 @@ fn continued(key_id: &[u8; 16], q: u32, coefficients: &[u8; 34], signature: &[u8
 /// Why bytes are no one-time signature.
 #[derive(Clone, Copy, PartialEq, Eq, Debug)]
 pub enum OtsRefusal {
-    /// There are not 1,124 bytes.
+    /// There are not as many bytes as `OTS_SIGNATURE_LEN`.
     Length = 1,
     /// The type at 0 is not 4.
     OtsType = 2,

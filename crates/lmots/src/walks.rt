@@ -128,7 +128,8 @@ impl Walks {
 // ---- what eight chains have
 
 fn prefixes_of(key_id: &[u8; 16], q: u32, chains: &[u16; 8]) -> [[u8; 22]; 8]
-    ensures { (l : ℕ) → l < 8 → slice_index_or result l [] ≡ prefix key_id.now q (slice_index chains.now l) }
+    ensures { (l : ℕ) → l < 8
+        → slice_index_or result l [] ≡ prefix key_id.now q (slice_index chains.now l) }
 {
     let [a, b, c, d, e, f, g, h] = *chains;
     [
@@ -145,7 +146,8 @@ fn prefixes_of(key_id: &[u8; 16], q: u32, chains: &[u16; 8]) -> [[u8; 22]; 8]
 
 fn numbers_of(numbers: &[u8; 34], chains: &[u16; 8]) -> [u8; 8]
     requires { AreChains chains.now }
-    ensures { (l : ℕ) → l < 8 → slice_index result l ≡ slice_index numbers.now (slice_index chains.now l) }
+    ensures { (l : ℕ) → l < 8
+        → slice_index result l ≡ slice_index numbers.now (slice_index chains.now l) }
 {
     let [a, b, c, d, e, f, g, h] = *chains;
     [
@@ -162,7 +164,8 @@ fn numbers_of(numbers: &[u8; 34], chains: &[u16; 8]) -> [u8; 8]
 
 fn values_of(values: &[[u8; 32]; 34], chains: &[u16; 8]) -> [[u8; 32]; 8]
     requires { AreChains chains.now }
-    ensures { (l : ℕ) → l < 8 → slice_index_or result l [] ≡ slice_index_or values.now (slice_index chains.now l) [] }
+    ensures { (l : ℕ) → l < 8
+        → slice_index_or result l [] ≡ slice_index_or values.now (slice_index chains.now l) [] }
 {
     let [a, b, c, d, e, f, g, h] = *chains;
     [

@@ -4,7 +4,7 @@ use Rattle.wire.specs.Pieces.{number_at}
 use Rattle.lms_tree.specs.declared.verification.SigRefusal.{SigRefusal}
 use Rattle.lms_tree.specs.declared.verification.SigRefusal.TheVariants.{Length, Index, OtsType, TreeType, Root}
 use Rattle.lms_tree.specs.Tree.{root_from_path}
-use Rattle.lms_tree.specs.declared.TheConstants.{LEAVES, SIGNATURE_LEN}
+use Rattle.lms_tree.specs.declared.TheConstants.{LEAVES, SIGNATURE_LEN, TREE_TYPE_AT}
 
 -- the number of a refusal
 abbrev pub sig_refusal_number : SigRefusal → ℕ
@@ -22,7 +22,7 @@ IsSigRefusal OtsType id root message signature =
     (length signature ≡ SIGNATURE_LEN) × (number_at 4 signature 0 < LEAVES) × (number_at 4 signature 4 ≢ 4)
 IsSigRefusal TreeType id root message signature =
     (length signature ≡ SIGNATURE_LEN) × (number_at 4 signature 0 < LEAVES) × (number_at 4 signature 4 ≡ 4)
-    × (number_at 4 signature 1128 ≢ 6)
+    × (number_at 4 signature TREE_TYPE_AT ≢ 6)
 IsSigRefusal Root id root message signature =
     (length signature ≡ SIGNATURE_LEN) × (number_at 4 signature 0 < LEAVES) × (number_at 4 signature 4 ≡ 4)
-    × (number_at 4 signature 1128 ≡ 6) × (root_from_path id message signature ≢ root)
+    × (number_at 4 signature TREE_TYPE_AT ≡ 6) × (root_from_path id message signature ≢ root)

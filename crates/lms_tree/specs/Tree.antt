@@ -5,7 +5,8 @@ use Rattle.std.specs.Prelude.{◌≡◌, ℕ, zero, suc, ◌+◌, ◌-◌, ◌*�
 use Rattle.byteorder.specs.Endian.{big_bytes}
 use Rattle.sha2.specs.Sha256.{sha256}
 use Rattle.wire.specs.Pieces.{number_at, piece}
-use Rattle.lms_tree.specs.declared.TheConstants.{LEAVES, SIGNATURE_LEN}
+use Rattle.lmots.specs.declared.signatures.TheConstants.{OTS_SIGNATURE_LEN}
+use Rattle.lms_tree.specs.declared.TheConstants.{LEAVES, NODES, OTS_AT, PATH_AT, SIGNATURE_LEN, TREE_TYPE_AT}
 use Rattle.lmots.specs.Chains.{joined, ots_public_key, prefix}
 use Rattle.lmots.specs.Signatures.{candidate_key, ots_signature}
 
@@ -70,11 +71,11 @@ climbed id path r x (suc k) = parent_hash id (ancestor r k) (climbed id path r x
 
 -- the path in a signature's bytes
 abbrev pub path_in : List ℕ → ℕ → List ℕ
-path_in signature k = piece 32 signature (1132 + 32 * k)
+path_in signature k = piece 32 signature (PATH_AT + 32 * k)
 
 -- the one-time signature in a signature's bytes
 abbrev pub ots_in : List ℕ → List ℕ
-ots_in signature = piece 1124 signature 4
+ots_in signature = piece OTS_SIGNATURE_LEN signature OTS_AT
 
 -- Tc, the root that a signature of a message leads to
 unfoldable pub root_from_path : List ℕ → List ℕ → List ℕ → List ℕ
@@ -88,14 +89,14 @@ pub record Verifies (id root message signature : List ℕ) : Type 0 where
   pub long : length signature ≡ SIGNATURE_LEN
   pub index : number_at 4 signature 0 < LEAVES
   pub ots_type : number_at 4 signature 4 ≡ 4
-  pub tree_type : number_at 4 signature 1128 ≡ 6
+  pub tree_type : number_at 4 signature TREE_TYPE_AT ≡ 6
   pub same_root : root_from_path id message signature ≡ root
 
 -- ---- a tree in memory
 
 -- the list has T[r] at each place r from `low` on
 abbrev pub IsFilled : List ℕ → List ℕ → ℕ → List (List ℕ) → Type 0
-IsFilled id seed low nodes = (r : ℕ) (d : List ℕ) → low ≤ r → r < 2048 → slice_index_or nodes r d ≡ tree_node id seed r
+IsFilled id seed low nodes = (r : ℕ) (d : List ℕ) → low ≤ r → r < NODES → slice_index_or nodes r d ≡ tree_node id seed r
 
 -- the list has the hashes of the tree's leaves, T[1024 + q] at each place q
 abbrev pub AreLeaves : List ℕ → List ℕ → List (List ℕ) → Type 0
@@ -104,4 +105,4 @@ AreLeaves id seed leaves = (length leaves ≡ LEAVES)
 
 -- the list has T[r] at each place r of the tree
 abbrev pub IsTree : List ℕ → List ℕ → List (List ℕ) → Type 0
-IsTree id seed nodes = (length nodes ≡ 2048) × IsFilled id seed 1 nodes
+IsTree id seed nodes = (length nodes ≡ NODES) × IsFilled id seed 1 nodes

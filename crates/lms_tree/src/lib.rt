@@ -7,12 +7,13 @@ mod public_key;
 mod signing_tree;
 mod verification;
 
+use lmots::{HASH_LEN, OTS_SIGNATURE_LEN};
 pub use public_key::{KeyRefusal, PUBLIC_KEY_LEN, PublicKey};
 pub use signing_tree::{SigningTree, leaf};
 pub use verification::{SigRefusal, verify};
 
 /// The length of a signature, in bytes.
-pub const SIGNATURE_LEN: usize = 1452;
+pub const SIGNATURE_LEN: usize = PATH_AT + HASH_LEN * HEIGHT;
 
 /// The bytes of a signature.
 pub type Signature = [u8; SIGNATURE_LEN];
@@ -21,13 +22,16 @@ pub type Signature = [u8; SIGNATURE_LEN];
 pub(crate) const OTS_AT: usize = 4;
 
 /// Where the type of the tree stands in a signature.
-pub(crate) const TREE_TYPE_AT: usize = 1128;
+pub(crate) const TREE_TYPE_AT: usize = OTS_AT + OTS_SIGNATURE_LEN;
 
 /// Where the path begins in a signature.
-pub(crate) const PATH_AT: usize = 1132;
+pub(crate) const PATH_AT: usize = TREE_TYPE_AT + 4;
 
 /// The number of leaves, and so of one-time keys, of a tree.
 pub const LEAVES: u32 = 1024;
+
+/// The length of a list that has node `r` of a tree at place `r`: the root stands at 1, the leaves from `LEAVES` on.
+pub(crate) const NODES: usize = 2 * LEAVES as usize;
 
 /// The number of levels from the leaves to the root.
 pub(crate) const HEIGHT: usize = 10;

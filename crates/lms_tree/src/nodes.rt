@@ -2,6 +2,7 @@
 
 ghost use Rattle.std.specs.Prelude.{◌≡◌, ◌<◌};
 ghost use Rattle.lms_tree.specs.Tree.{leaf_hash, inner_hash, parent_hash, sibling};
+ghost use Rattle.lms_tree.specs.declared.TheConstants.{NODES};
 
 use lmots::prefix;
 use sha2::{Digest, Sha256};
@@ -50,7 +51,7 @@ pub(crate) fn parent_hash(key_id: &[u8; 16], r: u32, hash: &[u8; 32], other: &[u
 
 /// The other child of the parent of node `r`.
 pub(crate) fn sibling(r: usize) -> usize
-    requires { r < 2048 }
+    requires { r < NODES }
     ensures { result ≡ sibling r }
 {
     if r % 2 == 1 { r - 1 } else { r + 1 }

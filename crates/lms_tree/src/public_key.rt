@@ -43,8 +43,8 @@ impl PublicKey {
     /// The public key that the bytes are. Refused in this order: Length, TreeType, OtsType.
     pub fn parse(bytes: &[u8]) -> Result<PublicKey, KeyRefusal>
         ensures found { IfOk result (λ key. bytes.now ≡ key_text key.key_id key.root) }
-        ensures only { (id root : List ℕ) → length id ≡ 16 → length root ≡ 32 → bytes.now ≡ key_text id root
-            → result ≡ Ok (record { key_id = id; root = root }) }
+        ensures only { (id root : List ℕ) → length id ≡ 16 → length root ≡ 32
+            → bytes.now ≡ key_text id root → result ≡ Ok (record { key_id = id; root = root }) }
         ensures exact { IsOk result ↔ IsPublicKey bytes.now }
         ensures first_refusal { IfErr result (λ refusal. IsKeyRefusal refusal bytes.now) }
     {

@@ -3,17 +3,15 @@
 ghost use Rattle.std.specs.Prelude.{◌≡◌, ◌+◌, ◌<◌, length, IfOk};
 ghost use Rattle.wire.specs.Pieces.{number_at};
 ghost use Rattle.lms_tree.specs.Tree.{AreLeaves, IsFilled, lms_signature, path_node, tree_node, tree_root, Verifies};
-ghost use Rattle.lms_tree.specs.declared.TheConstants.{LEAVES};
+ghost use Rattle.lms_tree.specs.declared.TheConstants.{LEAVES, NODES};
 
 use crate::nodes::{inner_hash, leaf_hash, sibling};
 use crate::public_key::PublicKey;
-use crate::{HEIGHT, LEAVES, OTS_AT, PATH_AT, SIGNATURE_LEN, TREE_TYPE, TREE_TYPE_AT};
+use crate::{HEIGHT, LEAVES, NODES, OTS_AT, PATH_AT, SIGNATURE_LEN, TREE_TYPE, TREE_TYPE_AT};
 use lmots::{PrivateSeed, ots_public, ots_sign};
 use std::alloc::{AllocError, Global};
 use std::marker::Model;
 use wire::put;
-
-const NODES: usize = 2048;
 
 /// A private seed with the hashes of all nodes of its tree. A contract sees the seed: the hashes are
 /// always those of its tree.
@@ -84,14 +82,15 @@ impl SigningTree {
         self.nodes[sibling((LEAVES + q) as usize >> level)]
     }
 
-    /// The signature of a message with leaf `q`, which must be below 1,024. It has 1,452 bytes: `q` at 0, the
-    /// one-time signature at 4, the tree's type at 1128 and the path from 1132 on (RFC 8554, section 5.4.1). A leaf
+    /// The signature of a message with leaf `q`, which must be below 1,024. It has `q` at 0, the
+    /// one-time signature at 4, then the tree's type (4 bytes) and the path (RFC 8554, section 5.4.1). A leaf
     /// may sign one message only.
     #[tactic(auto, using(lmots::proofs::ChainLemmas::joined_none, lmots::proofs::ChainLemmas::joined_more))]
     pub fn sign_at(&self, q: u32, message: &[u8]) -> [u8; SIGNATURE_LEN]
         requires { q < LEAVES }
         ensures exact { result ≡ lms_signature self.now.key_id self.now.seed q message.now }
-        ensures verifies { Verifies self.now.key_id (tree_root self.now.key_id self.now.seed) message.now result }
+        ensures verifies { Verifies self.now.key_id
+            (tree_root self.now.key_id self.now.seed) message.now result }
         ensures index { number_at 4 result 0 ≡ q }
     {
         let mut signature = [0; SIGNATURE_LEN];
@@ -119,9 +118,8 @@ pub fn leaf(secret: &PrivateSeed, q: u32) -> [u8; 32]
     leaf_hash(&secret.key_id, LEAVES + q, &ots_public(secret, q))
 }
 
-// Fills in the leaves.
 fn fill_leaves(secret: &PrivateSeed, nodes: &mut [[u8; 32]])
-    requires { length nodes.old ≡ 2048 }
+    requires { length nodes.old ≡ NODES }
     ensures { IsFilled secret.now.key_id secret.now.seed LEAVES nodes.new }
 {
     for q in 0..LEAVES {
@@ -131,7 +129,7 @@ fn fill_leaves(secret: &PrivateSeed, nodes: &mut [[u8; 32]])
 
 // Fills in leaves that are computed already.
 fn copy_leaves(secret: &PrivateSeed, leaves: &[[u8; 32]], nodes: &mut [[u8; 32]])
-    requires long { length nodes.old ≡ 2048 }
+    requires long { length nodes.old ≡ NODES }
     requires leaves { AreLeaves secret.now.key_id secret.now.seed leaves.now }
     ensures { IsFilled secret.now.key_id secret.now.seed LEAVES nodes.new }
 {
@@ -140,7 +138,7 @@ fn copy_leaves(secret: &PrivateSeed, leaves: &[[u8; 32]], nodes: &mut [[u8; 32]]
 
 // Fills in the nodes above the leaves, each after its children.
 fn fill_inner(secret: &PrivateSeed, nodes: &mut [[u8; 32]])
-    requires long { length nodes.old ≡ 2048 }
+    requires long { length nodes.old ≡ NODES }
     requires leaves { IsFilled secret.now.key_id secret.now.seed LEAVES nodes.old }
     ensures { IsFilled secret.now.key_id secret.now.seed 1 nodes.new }
 {

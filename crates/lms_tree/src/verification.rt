@@ -16,13 +16,13 @@ use wire::{array_at, u32_at};
 /// Why a signature is refused.
 #[derive(Clone, Copy, PartialEq, Eq, Debug)]
 pub enum SigRefusal {
-    /// There are not 1,452 bytes.
+    /// There are not as many bytes as `SIGNATURE_LEN`.
     Length = 1,
     /// The leaf at 0 is 1,024 or more.
     Index = 2,
     /// The type at 4 is not 4.
     OtsType = 3,
-    /// The type at 1128 is not 6.
+    /// The type behind the one-time signature is not 6.
     TreeType = 4,
     /// The root to which the signature leads is not the key's.
     Root = 5,

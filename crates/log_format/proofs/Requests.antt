@@ -4,10 +4,10 @@ use Rattle.std.specs.Prelude.{codes}
 use Rattle.wire.specs.Pieces.{number_at, AreBytes}
 use Rattle.wire.proofs.Numbers.{taken, cut_last, piece-number_at, number_again, number_below}
 use Rattle.log_format.specs.Requests.{IsRequest, request_text}
-use Rattle.log_format.specs.declared.request.Request.{Request}
+use Rattle.log_format.specs.declared.request.FrameRequest.{FrameRequest}
 
 -- the request whose numbers stand there
-abbrev pub request_at : List ℕ → Request
+abbrev pub request_at : List ℕ → FrameRequest
 request_at bytes = record { first = number_at 4 bytes 4; most = number_at 4 bytes 8 }
 
 pub request_found : (bytes : List ℕ) → AreBytes bytes → length bytes ≡ 12 → take 4 bytes ≡ codes "HSL1" → IsRequest (request_at bytes) × (bytes ≡ request_text (request_at bytes))
@@ -19,10 +19,10 @@ request_found bytes fit long magic = (
       (cut_last bytes 8 4 long ∙ piece-number_at 4 bytes 8 fit (omega arith))),
 )
 
-abbrev made : ℕ → ℕ → Request
+abbrev made : ℕ → ℕ → FrameRequest
 made first most = record { first = first; most = most }
 
-pub request_again : (r : Request) → IsRequest r → request_at (request_text r) ≡ r
+pub request_again : (r : FrameRequest) → IsRequest r → request_at (request_text r) ≡ r
 unfolding request_text
 request_again r is =
     let first : number_at 4 (request_text r) 4 ≡ r.first = number_again 4 (request_text r) 4 r.first is.first refl in
@@ -30,7 +30,7 @@ request_again r is =
     ap (λ (n : ℕ). made n (number_at 4 (request_text r) 8)) first ∙ ap (λ (n : ℕ). made r.first n) most
 
 -- a request has 12 bytes, and begins with the magic
-pub request_head : (r : Request) → (length (request_text r) ≡ 12) × (take 4 (request_text r) ≡ codes "HSL1")
+pub request_head : (r : FrameRequest) → (length (request_text r) ≡ 12) × (take 4 (request_text r) ≡ codes "HSL1")
 unfolding request_text
 request_head r = (refl, refl)
 

@@ -6,6 +6,7 @@ use Rattle.blocks.specs.Headers.{Header as BlockHeader, NamesParent, header_id}
 use Rattle.blocks.specs.HeaderReading.{header_at, header_in}
 use Rattle.certificates.specs.Certificates.{Certificate as ParentCertificate}
 use Rattle.certificates.specs.CertificateReading.{certificate_at, certificate_in, is_whole_certificate}
+use Rattle.log_format.specs.declared.entry.TheConstants.{BEHIND_VOTE, VOTE_AT}
 use Rattle.log_format.specs.declared.entry.KeyedSignature.{KeyedSignature}
 use Rattle.log_format.specs.declared.entry.EntryRefusal.{EntryRefusal}
 use Rattle.log_format.specs.declared.entry.EntryRefusal.TheVariants.{Memory, Length, Kind, Header, Parent, OwnVote, Certificate}
@@ -34,7 +35,7 @@ own_in voted bytes = if voted then Some (record { key = slice_index bytes 169; s
 
 -- the certificate is the rest, behind the own vote or in its place
 abbrev pub certificate_place : Bool → ℕ
-certificate_place voted = if voted then 1662 else 169
+certificate_place voted = if voted then BEHIND_VOTE else VOTE_AT
 
 abbrev pub rest_in : Bool → List ℕ → List ℕ
 rest_in voted bytes = drop (certificate_place voted) bytes

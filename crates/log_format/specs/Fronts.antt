@@ -5,8 +5,8 @@ use Rattle.wire.specs.Payloads.{IsPayload}
 use Rattle.log_format.specs.Exports.{frame_text}
 use Rattle.log_format.specs.Readings.{Ends}
 use Rattle.log_format.specs.declared.status.Status.{Status}
-use Rattle.log_format.specs.declared.frames.Front.{Front}
-use Rattle.log_format.specs.declared.frames.Front.TheVariants.{Frame, End}
+use Rattle.log_format.specs.declared.frames.StreamFront.{StreamFront}
+use Rattle.log_format.specs.declared.frames.StreamFront.TheVariants.{Frame, End}
 
 -- the rest begins with a whole frame, and this stands behind it
 pub record IsFrame (rest payload behind : List ℕ) : Type 0 where
@@ -14,7 +14,7 @@ pub record IsFrame (rest payload behind : List ℕ) : Type 0 where
   pub size : IsPayload payload
 
 -- behind so many frames of a stream, with room for so many more: one more, or how it ends
-abbrev pub IsFront : Bool → ℕ → ℕ → List ℕ → Front → Type 0
+abbrev pub IsFront : Bool → ℕ → ℕ → List ℕ → StreamFront → Type 0
 IsFront failed count room rest (Frame payload behind) = (0 < room) × IsFrame rest payload.now behind.now
 IsFront failed count room rest (End status) = Ends failed count room rest status
 

@@ -6,12 +6,14 @@ ghost use Rattle.wire.specs.Pieces.{piece};
 ghost use Rattle.blocks.specs.Headers.{Header as HeaderValue, IsHeader, NamesParent, header_id};
 ghost use Rattle.certificates.specs.Assembling.{IsVoteFor};
 ghost use Rattle.certificates.specs.CertificateReading.{is_whole_certificate};
+ghost use Rattle.log_format.specs.declared.entry.TheConstants.{BEHIND_VOTE, LONGEST_ENTRY, VOTE_AT};
 ghost use Rattle.log_format.specs.EntryReading.{AreReadable, IsEntryRefusal, IsOwnVoteOn, IsReadableEntry, IsReadableOn, IsCertificateRefusal, block_in, certificate_in_rest, certificate_place, entry_in, entry_refusal_number, is_voted_in, entry_kind_in, own_in, parent_in};
 ghost use Rattle.log_format.specs.EntryText.{Entry as EntryValue, EntriesHaveOneSpelling, IsEntry, IsEntryOf, IsOn, entry_text, entry_kind, is_signed, own_of, own_vote_text, stored_in, own_vote_of};
 
-use blocks::{Header, Id};
+use blocks::{HEADER_LEN, Header, Id, NamedHeader};
 use certificates::{
-    Certificate, CertificateRefusal, CheckedBlock, SignedVote, is_whole_certificate,
+    BOUND_VOTE_LEN, Certificate, CertificateRefusal, CheckedBlock, LONGEST_CERTIFICATE, SignedVote,
+    is_whole_certificate,
 };
 use lms_tree::Signature;
 use replica_core::Stored;
@@ -26,13 +28,16 @@ const VOTED: u8 = 3;
 const RAISED: u8 = 4;
 
 /// Where the parent's header begins, in bytes.
-const PARENT_AT: usize = 85;
+const PARENT_AT: usize = 1 + HEADER_LEN;
 
 /// Where the own vote begins, and where the certificate does in an entry without one.
-const VOTE_AT: usize = 169;
+pub(crate) const VOTE_AT: usize = PARENT_AT + HEADER_LEN;
 
 /// Where the certificate begins behind an own vote.
-const BEHIND_VOTE: usize = 1662;
+pub(crate) const BEHIND_VOTE: usize = VOTE_AT + BOUND_VOTE_LEN;
+
+/// The greatest length of an entry in bytes.
+pub const LONGEST_ENTRY: usize = BEHIND_VOTE + LONGEST_CERTIFICATE;
 
 /// The signature of a replica's own vote, and the number of the key that signed it.
 #[derive(Clone, Copy)]
@@ -47,7 +52,7 @@ struct KeyedSignature {
 /// `Entry::read` and `Entry::of` alone. No signature is checked, and no number of a key is looked at.
 #[derive(Drop)]
 pub struct Entry {
-    block: Header,
+    block: NamedHeader,
     parent: Header,
     own: Option<KeyedSignature>,
     certificate: Certificate,
@@ -58,9 +63,19 @@ impl Model for Entry {
 
     ghost Value = { EntryValue };
 
-    ghost view = { λ e. record { block = e.block; parent = e.parent; own = e.own; certificate = e.certificate } };
+    ghost view = { λ e. record {
+      block = e.block;
+      parent = e.parent;
+      own = e.own;
+      certificate = e.certificate;
+    } };
 
-    ghost invariant = { λ e. IsEntry (record { block = e.block; parent = e.parent; own = e.own; certificate = e.certificate }) };
+    ghost invariant = { λ e. IsEntry (record {
+      block = e.block;
+      parent = e.parent;
+      own = e.own;
+      certificate = e.certificate;
+    }) };
 }
 
 /// Why bytes are no entry.
@@ -105,7 +120,6 @@ fn is_voted(bytes: &[u8]) -> Result<bool, EntryRefusal>
     }
 }
 
-// Where the certificate begins.
 fn certificate_place(voted: bool) -> usize
     ensures { result ≡ certificate_place voted }
 {
@@ -123,9 +137,9 @@ fn has_whole_certificate(bytes: &[u8], at: usize) -> bool
     is_whole_certificate(&bytes[at..])
 }
 
-// The two headers, if both can be read.
-fn headers_in(bytes: &[u8]) -> Option<(Header, Header)>
-    requires { 169 ≤ length bytes.now }
+// The two headers, the first beside its id, if both can be read.
+fn headers_in(bytes: &[u8]) -> Option<(NamedHeader, Header)>
+    requires { VOTE_AT ≤ length bytes.now }
     ensures some { IfSome result (λ h. (h.0 ≡ block_in bytes.now) × (h.1 ≡ parent_in bytes.now)) }
     ensures exact { IsSome result ↔ AreReadable (piece 84 bytes.now 1) (piece 84 bytes.now 85) }
 {
@@ -135,23 +149,15 @@ fn headers_in(bytes: &[u8]) -> Option<(Header, Header)>
     let Ok(parent) = Header::from_bytes(&bytes[PARENT_AT..VOTE_AT]) else {
         return None;
     };
-    Some((block, parent))
+    Some((NamedHeader::of(block), parent))
 }
 
-// Whether the block names this parent.
-fn names_parent(block: &Header, parent: &Header) -> bool
-    ensures { IsTrue result ↔ NamesParent block.now parent.now }
-{
-    block.parent_view == parent.view && block.parent == parent.id()
-}
-
-// Whether the own vote is on this block.
-fn is_own_vote_on(block: &Header, bytes: &[u8]) -> bool
-    requires { 1662 ≤ length bytes.now }
+fn is_own_vote_on(block: &NamedHeader, bytes: &[u8]) -> bool
+    requires { BEHIND_VOTE ≤ length bytes.now }
     ensures { IsTrue result ↔ IsOwnVoteOn block.now bytes.now }
 {
     let id: Id = array_at(bytes, VOTE_AT + 9);
-    u64_at(bytes, VOTE_AT + 1) == block.view && id == block.id()
+    u64_at(bytes, VOTE_AT + 1) == block.header().view && id == *block.id()
 }
 
 // The signature in the own vote and the number of its key, if there is one.
@@ -219,25 +225,23 @@ fn entry_kind(own: &Option<KeyedSignature>) -> u8
     }
 }
 
-// Whether there is a signature.
 fn is_signed(own: &Option<KeyedSignature>) -> bool
     ensures { result ≡ is_signed own.now }
 {
     own.is_some()
 }
 
-// Adds the own vote, if there is one.
 fn put_own_vote(
     text: &mut Vec<u8>,
-    block: &Header,
+    block: &NamedHeader,
     own: &Option<KeyedSignature>,
 ) -> Result<(), AllocError>
     ensures { OnOk result (text.new.items ≡ text.old.items ++ own_vote_text block.now own.now) }
 {
     if let Some(own) = own {
         append(text, &[own.key])?;
-        append(text, &block.view.to_be_bytes())?;
-        append(text, &block.id())?;
+        append(text, &block.header().view.to_be_bytes())?;
+        append(text, block.id())?;
         append(text, &own.signature)?;
     }
     Ok(())
@@ -245,9 +249,9 @@ fn put_own_vote(
 
 impl Entry {
     /// The entry that the bytes spell: the kind (1 byte at 0, 3 with the replica's own vote and 4 without),
-    /// the block's header (84 at 1), its parent's (84 at 85), with kind 3 the own vote (1,493 at 169: the
-    /// number of the key, 1, the view, 8 at 170, the id, 32 at 178, and the signature, 1,452 at 210), and the
-    /// parent's certificate (at 1,662, with kind 4 at 169), 42 and 1,455 for each of its votes. Any number
+    /// the block's header (84 at 1), its parent's (84 at 85), with kind 3 the own vote (`BOUND_VOTE_LEN` at
+    /// 169: the number of the key, 1, the view, 8 at 170, the id, 32 at 178, and the signature, from 210 on), and
+    /// the parent's certificate (behind the vote, with kind 4 at 169). Any number
     /// of a key is read. Refused in this order: Memory, where memory was refused, Kind, Length, Header,
     /// Parent, OwnVote, Certificate; no bytes are refused as Length, and the kinds 1 and 2, of logs from
     /// before there were numbers of keys, as Kind. Memory is asked for once all but the certificate is good.
@@ -256,7 +260,8 @@ impl Entry {
         ensures found { IfOk result (IsEntryOf bytes.now) }
 
         // What is spelled so is read, unless memory is refused.
-        ensures only { (e : EntryValue) → IsEntryOf bytes.now e → result ≢ Err EntryRefusal.Memory → result ≡ Ok e }
+        ensures only { (e : EntryValue) → IsEntryOf bytes.now e → result ≢ Err EntryRefusal.Memory
+            → result ≡ Ok e }
 
         // The first test that fails refuses, unless memory is refused.
         ensures first_refusal { IfErr result (IsEntryRefusal bytes.now) }
@@ -276,13 +281,13 @@ impl Entry {
         let Some((block, parent)) = headers_in(bytes) else {
             return Err(EntryRefusal::Header);
         };
-        if !names_parent(&block, &parent) {
+        if !block.header().names(&parent) {
             return Err(EntryRefusal::Parent);
         }
         if voted && !is_own_vote_on(&block, bytes) {
             return Err(EntryRefusal::OwnVote);
         }
-        let certificate = certificate_in(alloc, &bytes[at..], &block, &parent)?;
+        let certificate = certificate_in(alloc, &bytes[at..], block.header(), &parent)?;
         Ok(Entry {
             block,
             parent,
@@ -291,19 +296,19 @@ impl Entry {
         })
     }
 
-    /// The bytes of the entry: 169, 1,493 for an own vote, 42 for the certificate, and 1,455 for each of its
-    /// votes. There are at most 46,809.
+    /// The bytes of the entry: 169, `BOUND_VOTE_LEN` for an own vote, and the certificate.
     pub fn write(&self, alloc: Global) -> Result<Vec<u8>, AllocError>
         ensures text { IfOk result (λ text. text.items ≡ entry_text self.now) }
 
         // So what is written is read, with the same parts.
         ensures spells { IfOk result (λ text. IsEntryOf text.items self.now) }
-        ensures size { IfOk result (λ text. (0 < length text.items) × (length text.items ≤ 46809)) }
+        ensures size { IfOk result (λ text. (0 < length text.items)
+            × (length text.items ≤ LONGEST_ENTRY)) }
     {
         let certificate = self.certificate.write(alloc)?;
         let mut text = Vec::new(alloc);
         append(&mut text, &[entry_kind(&self.own)])?;
-        append(&mut text, &self.block.to_bytes())?;
+        append(&mut text, &self.block.header().to_bytes())?;
         append(&mut text, &self.parent.to_bytes())?;
         put_own_vote(&mut text, &self.block, &self.own)?;
         append(&mut text, &certificate)?;
@@ -316,11 +321,16 @@ impl Entry {
     pub fn of(block: CheckedBlock, parent: Header, vote: Option<SignedVote>) -> Entry
         requires names { NamesParent block.header parent }
         requires on_block { ForSome vote (IsVoteFor block.header.view (header_id block.header)) }
-        ensures { result ≡ record { block = block.entry.header; parent = parent; own = own_of vote; certificate = block.entry.certificate } }
+        ensures { result ≡ record {
+          block = block.entry.header;
+          parent = parent;
+          own = own_of vote;
+          certificate = block.entry.certificate;
+        } }
     {
-        let (header, certificate) = block.into_parts();
+        let (block, certificate) = block.into_parts();
         Entry {
-            block: header,
+            block,
             parent,
             own: own_of(vote),
             certificate,
@@ -332,7 +342,7 @@ impl Entry {
         ensures value { result.now ≡ self.now.block }
         ensures is_entry { IsEntry self.now }
     {
-        &self.block
+        self.block.header()
     }
 
     /// The header of its parent.
@@ -357,7 +367,7 @@ impl Entry {
     {
         Stored {
             voted: is_signed(&self.own),
-            block: self.block,
+            block: *self.block.header(),
             parent: self.parent,
         }
     }
@@ -370,8 +380,8 @@ impl Entry {
         let KeyedSignature { key, signature } = self.own?;
         Some(SignedVote {
             replica,
-            view: self.block.view,
-            id: self.block.id(),
+            view: self.block.header().view,
+            id: *self.block.id(),
             key,
             signature,
         })

@@ -29,7 +29,7 @@ impl<'a> Model for Frames<'a> {
 }
 
 // What stands at the front of the rest of a stream.
-enum Front<'a> {
+enum StreamFront<'a> {
     // A whole frame: its payload, and what stands behind it.
     Frame(&'a [u8], &'a [u8]),
     // Nothing that is taken.
@@ -53,28 +53,28 @@ fn end_of(rest: &[u8], count: usize) -> Status
 }
 
 // What stands at the front of the rest, behind `count` frames.
-fn front_of<'a>(rest: &'a [u8], count: usize) -> Front<'a>
+fn front_of<'a>(rest: &'a [u8], count: usize) -> StreamFront<'a>
     requires { count ≤ MOST_ENTRIES }
     ensures { IsFront false count (MOST_ENTRIES - count) rest.now result }
 {
     if rest.len() < 4 {
-        return Front::End(Status::Cut);
+        return StreamFront::End(Status::Cut);
     }
     let len = u32_at(rest, 0);
     if len == 0 {
-        return Front::End(end_of(rest, count));
+        return StreamFront::End(end_of(rest, count));
     }
     if len as usize > LONGEST_PAYLOAD {
-        return Front::End(Status::Broken);
+        return StreamFront::End(Status::Broken);
     }
     if count == MOST_ENTRIES {
-        return Front::End(Status::TooLong);
+        return StreamFront::End(Status::TooLong);
     }
     let len = len as usize;
     if rest.len() - 4 < len {
-        return Front::End(Status::Cut);
+        return StreamFront::End(Status::Cut);
     }
-    Front::Frame(&rest[4..4 + len], &rest[4 + len..])
+    StreamFront::Frame(&rest[4..4 + len], &rest[4 + len..])
 }
 
 // The frames at the front of what stands behind the magic, and how it ends.
@@ -85,11 +85,11 @@ fn read_frames<'a>(alloc: Global, text: &'a [u8]) -> Result<Frames<'a>, AllocErr
     let mut rest = text;
     loop {
         match front_of(rest, frames.len()) {
-            Front::Frame(payload, behind) => {
+            StreamFront::Frame(payload, behind) => {
                 frames.push(payload)?;
                 rest = behind;
             }
-            Front::End(status) => return Ok(Frames { frames, status }),
+            StreamFront::End(status) => return Ok(Frames { frames, status }),
         }
     }
 }

@@ -2,7 +2,7 @@
 
 ghost use Rattle.std.specs.Prelude.{◌≡◌, ◌↔◌, Some, IfSome, IsTrue, codes, length, take};
 ghost use Rattle.log_format.specs.Requests.{IsRequest, request_text};
-ghost use Rattle.log_format.specs.declared.request.Request.{Request as RequestValue};
+ghost use Rattle.log_format.specs.declared.request.FrameRequest.{FrameRequest as RequestValue};
 
 use wire::{put, u32_at};
 
@@ -11,7 +11,7 @@ pub const REQUEST_LEN: usize = 12;
 
 /// A request for the payloads from one on, so many at most.
 #[derive(Clone, Copy, Debug, PartialEq, Eq)]
-pub struct Request {
+pub struct FrameRequest {
     /// The number of the first payload, from 0.
     pub first: u32,
     /// How many payloads at most.
@@ -25,21 +25,22 @@ fn has_request_form(bytes: &[u8]) -> bool
     bytes.len() == REQUEST_LEN && bytes.starts_with(b"HSL1")
 }
 
-impl Request {
+impl FrameRequest {
     /// The request that the 12 bytes spell: `HSL1`, the first payload (4 bytes at 4) and how many at most (4
     /// at 8), numbers with the highest byte first. None where there are not 12 bytes, or they do not begin
     /// with `HSL1`.
-    pub fn from_bytes(bytes: &[u8]) -> Option<Request>
+    pub fn from_bytes(bytes: &[u8]) -> Option<FrameRequest>
         // What is read is spelled so.
         ensures found { IfSome result (λ r. IsRequest r × (bytes.now ≡ request_text r)) }
 
         // What is spelled so is read.
-        ensures only { (r : RequestValue) → IsRequest r → bytes.now ≡ request_text r → result ≡ Some r }
+        ensures only { (r : RequestValue) → IsRequest r → bytes.now ≡ request_text r
+            → result ≡ Some r }
     {
         if !has_request_form(bytes) {
             return None;
         }
-        Some(Request {
+        Some(FrameRequest {
             first: u32_at(bytes, 4),
             most: u32_at(bytes, 8),
         })

@@ -1,3 +1,4 @@
+pub mod Serving
 pub mod Answers
 pub mod Blame
 pub mod ServedLines

@@ -1,8 +1,8 @@
 -- What is printed of requests that were answered.
 use Rattle.std.specs.Prelude.{ℕ, List, ◌++◌, codes, decimal, Result, Ok, Err}
 use Rattle.std.specs.List.{flat_map}
-use Rattle.log_serving.specs.Serving.{serve_error_number}
-use Rattle.log_serving.specs.declared.error.ServeError.{ServeError}
+use Rattle.log_server.specs.Serving.{serve_error_number}
+use Rattle.log_server.specs.declared.error.ServeError.{ServeError}
 
 -- "served FRAMES", or "serve fault N" with the number of the refusal
 abbrev pub served_line : Result ℕ ServeError → List ℕ

@@ -1,16 +1,16 @@
 //! One request that is answered, and its line.
 
 ghost use Rattle.std.specs.Prelude.{◌≡◌, ◌≤◌, ◌++◌, ℕ, OnOk, Result as ResultValue, codes, decimal, length};
-ghost use Rattle.faults.specs.Counting.{Counts};
+ghost use Rattle.streams.specs.Counting.{Counts};
 ghost use Rattle.stable_log.specs.Devices.{Untouched};
 ghost use Rattle.streams.specs.Streams.{Wrote};
-ghost use Rattle.log_serving.specs.Serving.{BlamesOne};
-ghost use Rattle.log_serving.specs.declared.error.ServeError.{ServeError as ServeErrorValue};
+ghost use Rattle.log_server.specs.Serving.{BlamesOne};
+ghost use Rattle.log_server.specs.declared.error.ServeError.{ServeError as ServeErrorValue};
 ghost use Rattle.log_server.specs.Answers.{IsAnswer};
 ghost use Rattle.log_server.specs.ServedLines.{served_line};
 
+use crate::{ServeError, serve};
 use itoa::Buffer;
-use log_serving::{ServeError, serve};
 use printed_lines::Line;
 use stable_log::Disk;
 use streams::{Fault, Feed, Sink, write_all};
@@ -27,10 +27,12 @@ pub fn answer<D: Disk, R: Feed, W: Sink, O: Sink>(
     sink: &mut W,
     out: &mut O,
 ) -> Result<(), Fault>
-    ensures told { OnOk result ((served : ResultValue ℕ ServeErrorValue) × Wrote (O.text out.old) (O.text out.new) (served_line served)
-        × IsAnswer log.old (R.rest feed.old) (D.bytes log.old.disk) (W.text sink.old) (W.text sink.new) served
-        × BlamesOne (R.failed feed.old) (R.failed feed.new) (D.failed log.old.disk) (D.failed log.new.disk)
-        (W.failed sink.old) (W.failed sink.new) served) }
+    ensures told { OnOk result ((served : ResultValue ℕ ServeErrorValue)
+        × Wrote (O.text out.old) (O.text out.new) (served_line served)
+        × IsAnswer log.old (R.rest feed.old) (D.bytes log.old.disk) (W.text sink.old)
+        (W.text sink.new) served × BlamesOne (R.failed feed.old) (R.failed feed.new)
+        (D.failed log.old.disk) (D.failed log.new.disk) (W.failed sink.old)
+        (W.failed sink.new) served) }
     ensures same { (log.new.entries ≡ log.old.entries) × (log.new.steps ≡ log.old.steps)
         × (log.new.stopped ≡ log.old.stopped) × (log.new.genesis ≡ log.old.genesis)
         × Untouched D.Disk log.old.disk log.new.disk }
@@ -57,7 +59,8 @@ pub(crate) fn print_answer<O: Sink>(
 // Prints a text and a number in a line.
 fn print_number<O: Sink>(text: &[u8], number: u32, out: &mut O) -> Result<(), Fault>
     requires { length text.now ≤ 12 }
-    ensures printed { OnOk result (Wrote (O.text out.old) (O.text out.new) (text.now ++ decimal number ++ codes "\n")) }
+    ensures printed { OnOk result (Wrote (O.text out.old) (O.text out.new) (text.now
+        ++ decimal number ++ codes "\n")) }
     ensures counted { Counts (O.failed out.old) (O.failed out.new) result }
 {
     let mut line = Line::new();

@@ -1,18 +1,18 @@
 //! Requests that come over TCP, one after the other.
 
 ghost use Rattle.std.specs.Prelude.{◌≡◌, ℕ, IsErrOf, OnOk, Result as ResultValue, length};
-ghost use Rattle.faults.specs.Counting.{Counts};
+ghost use Rattle.streams.specs.Counting.{Counts};
 ghost use Rattle.stable_log.specs.Devices.{Untouched};
 ghost use Rattle.streams.specs.Streams.{Wrote};
-ghost use Rattle.log_serving.specs.declared.error.ServeError.{ServeError as ServeErrorValue};
+ghost use Rattle.log_server.specs.declared.error.ServeError.{ServeError as ServeErrorValue};
 ghost use Rattle.log_server.specs.Answers.{IsServed, MayAnswer};
 ghost use Rattle.log_server.specs.Blame.{BlamesOutput};
 ghost use Rattle.log_server.specs.ServedLines.{served_line};
 
+use crate::ServeError;
 use crate::answering::{answer, print_answer};
 use crate::connection::Connection;
 use crate::fault::ServiceFault;
-use log_serving::ServeError;
 use stable_log::Disk;
 use std::net::{Net, TcpListener, TcpStream};
 use std::time::Clock;
@@ -33,11 +33,13 @@ pub fn serve_requests<R: Net<Listener = TcpListener, Stream = TcpStream> + Clock
     log: &mut VoteLog<D>,
     out: &mut W,
 ) -> Result<(), ServiceFault>
-    ensures served { OnOk result (IsServed log.old.stopped (length log.old.steps) requests (W.text out.old) (W.text out.new)) }
+    ensures served { OnOk result (IsServed log.old.stopped (length log.old.steps) requests
+        (W.text out.old) (W.text out.new)) }
     ensures same { (log.new.entries ≡ log.old.entries) × (log.new.steps ≡ log.old.steps)
         × (log.new.stopped ≡ log.old.stopped) × (log.new.genesis ≡ log.old.genesis)
         × Untouched D.Disk log.old.disk log.new.disk }
-    ensures unheard { IsErrOf result ServiceFault.Listen → (out.new ≡ out.old) × (log.new ≡ log.old) }
+    ensures unheard { IsErrOf result ServiceFault.Listen → (out.new ≡ out.old)
+        × (log.new ≡ log.old) }
     ensures blame { BlamesOutput result (W.failed out.old) (W.failed out.new) }
 {
     let Ok(listener) = TcpListener::bind(rt, address) else {
@@ -57,7 +59,8 @@ fn answer_all<R: Clock, D: Disk, W: Sink>(
     log: &mut VoteLog<D>,
     out: &mut W,
 ) -> Result<(), Fault>
-    ensures served { OnOk result (IsServed log.old.stopped (length log.old.steps) requests (W.text out.old) (W.text out.new)) }
+    ensures served { OnOk result (IsServed log.old.stopped (length log.old.steps) requests
+        (W.text out.old) (W.text out.new)) }
     ensures same { (log.new.entries ≡ log.old.entries) × (log.new.steps ≡ log.old.steps)
         × (log.new.stopped ≡ log.old.stopped) × (log.new.genesis ≡ log.old.genesis)
         × Untouched D.Disk log.old.disk log.new.disk }
@@ -76,7 +79,8 @@ fn answer_next<R: Clock, D: Disk, W: Sink>(
     log: &mut VoteLog<D>,
     out: &mut W,
 ) -> Result<(), Fault>
-    ensures served { OnOk result ((served : ResultValue ℕ ServeErrorValue) × MayAnswer log.old.stopped (length log.old.steps) served
+    ensures served { OnOk result ((served : ResultValue ℕ ServeErrorValue)
+        × MayAnswer log.old.stopped (length log.old.steps) served
         × Wrote (W.text out.old) (W.text out.new) (served_line served)) }
     ensures same { (log.new.entries ≡ log.old.entries) × (log.new.steps ≡ log.old.steps)
         × (log.new.stopped ≡ log.old.stopped) × (log.new.genesis ≡ log.old.genesis)

@@ -2,7 +2,7 @@
 use Rattle.std.specs.Prelude.{ℕ, ◌≡◌, ◌<◌, ◌≤◌, ◌+◌, ◌*◌, ◌-◌, ◌^◌, ◌++◌, min, List, [], ◌∷◌, length, Bool, true, false, cond}
 use Rattle.std.specs.Bool.{MatchBool}
 use Rattle.wire.specs.declared.limits.TheConstants.{MOST_ENTRIES}
-use Rattle.faults.specs.Counting.{HasFailed}
+use Rattle.streams.specs.Counting.{HasFailed}
 use Rattle.log_format.specs.Readings.{IsReading, room_beside}
 use Rattle.log_format.specs.declared.status.Status.{Status}
 use Rattle.log_format.specs.declared.status.Status.TheVariants.{Whole, Cut, Broken, TooLong, Failed}

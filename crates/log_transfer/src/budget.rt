@@ -48,7 +48,8 @@ impl Budget {
         ensures most { self.new ≤ MOST_OF_A_STREAM }
         ensures err { OnErr result (self.new ≡ self.old) }
         ensures some { OnOk result ((self.old < MOST_OF_A_STREAM) ⊎ (length buffer.new ≡ 0)) }
-        ensures bytes { ReadConsumes (S.remaining stream.old) (S.remaining stream.new) result buffer.new }
+        ensures bytes { ReadConsumes (S.remaining stream.old)
+            (S.remaining stream.new) result buffer.new }
     {
         let room = buffer.len().min(MOST_OF_A_STREAM - self.taken);
         if room == 0 && !buffer.is_empty() {

@@ -1,10 +1,10 @@
 //! Connections to a source.
 
 ghost use Rattle.std.specs.Prelude.{◌≡◌, ◌≤◌, ◌<◌, ◌+◌, ℕ, IfOk, OnOk, OnErr, length, take};
-ghost use Rattle.faults.specs.Counting.{Counts};
+ghost use Rattle.streams.specs.Counting.{Counts};
 ghost use Rattle.log_transfer.specs.Connections.{Connection, GivesSome, behind, ended, failing};
 
-use faults::Fault;
+use streams::Fault;
 
 /// A source of a log, over one connection at a time. Each is asked for a part of the log, and gives bytes up to an
 /// end or a failure.
@@ -27,19 +27,23 @@ pub trait Connector: Drop {
     /// Opens the next connection in place of the one before, and asks for the frames from `first` on, at most `most`
     /// of them.
     fn connect(&mut self, first: u32, most: u32) -> Result<(), Fault>
-        ensures ok { OnOk result ((c : Connection) → left self.new c → gives self.old 0 first most c) }
+        ensures ok { OnOk result ((c : Connection) → left self.new c
+            → gives self.old 0 first most c) }
         ensures err { OnErr result (gives self.old 0 first most failing) }
-        ensures later { (k f m : ℕ) (c : Connection) → gives self.new k f m c → gives self.old (k + 1) f m c }
+        ensures later { (k f m : ℕ) (c : Connection) → gives self.new k f m c
+            → gives self.old (k + 1) f m c }
         ensures counted { Counts (failed self.old) (failed self.new) result };
 
     /// Fills the front of the buffer from the open connection, and answers how many bytes it gave. It gives none only
     /// at the end, or where the buffer is empty.
     fn read(&mut self, buffer: &mut [u8]) -> Result<usize, Fault>
         ensures within { IfOk result (λ n. n ≤ length buffer.new) }
-        ensures ok { IfOk result (λ n. (c : Connection) → left self.new c → left self.old (behind (take n buffer.new) c)) }
+        ensures ok { IfOk result (λ n. (c : Connection) → left self.new c
+            → left self.old (behind (take n buffer.new) c)) }
         ensures at_end { IfOk result (λ n. n ≡ 0 → 0 < length buffer.new → left self.old ended) }
         ensures err { OnErr result (left self.old failing) }
-        ensures later { (k f m : ℕ) (c : Connection) → gives self.new k f m c → gives self.old k f m c }
+        ensures later { (k f m : ℕ) (c : Connection) → gives self.new k f m c
+            → gives self.old k f m c }
         ensures counted { Counts (failed self.old) (failed self.new) result };
 
     /// How many connections a reader may make.

@@ -32,8 +32,10 @@ pub fn fetch<C: Connector>(
     tries: u8,
 ) -> Result<Fetched, FetchError>
     requires { MayTry (C.allowed connector.old) tries }
-    ensures ok { IfOk result (λ f. IsFetched (C.gives connector.old) tries f.frames.items f.status) }
-    ensures cause { IfOk result (λ f. HasCause (C.failed connector.old) (C.failed connector.new) f.status) }
+    ensures ok { IfOk result (λ f.
+        IsFetched (C.gives connector.old) tries f.frames.items f.status) }
+    ensures cause { IfOk result (λ f.
+        HasCause (C.failed connector.old) (C.failed connector.new) f.status) }
 {
     let mut place = Place::first(tries);
     let mut frames = Vec::new(alloc);

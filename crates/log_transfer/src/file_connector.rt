@@ -6,9 +6,9 @@ ghost use Rattle.log_transfer.specs.Connections.{ended};
 use crate::budget::Budget;
 use crate::connector::Connector;
 use crate::tries::{counted, no_connection};
-use faults::Fault;
 use std::fs::{File, Files};
 use std::io;
+use streams::Fault;
 
 // An open file, and what it may still be read for.
 #[derive(Drop)]

@@ -17,9 +17,11 @@ pub(crate) enum Filled {
 
 // Reads until the buffer is full, or the connection ends or fails.
 pub(crate) fn fill<C: Connector>(connector: &mut C, buffer: &mut [u8]) -> Filled
-    ensures filled { IsBufferFilled (C.left connector.old) (C.left connector.new) buffer.new result }
+    ensures filled { IsBufferFilled (C.left connector.old)
+        (C.left connector.new) buffer.new result }
     ensures length { length buffer.new ≡ length buffer.old }
-    ensures later { (k f m : ℕ) (c : Connection) → C.gives connector.new k f m c → C.gives connector.old k f m c }
+    ensures later { (k f m : ℕ) (c : Connection) → C.gives connector.new k f m c
+        → C.gives connector.old k f m c }
     ensures counted { IsFillCounted (C.failed connector.old) (C.failed connector.new) result }
 {
     let mut done = 0;

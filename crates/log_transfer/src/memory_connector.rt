@@ -2,19 +2,19 @@
 
 ghost use Rattle.std.specs.Prelude.{◌≡◌, ◌≤◌, ◌<◌, ◌++◌, ◌∷◌, List, [], None, Some, length, take, IfOk, OnOk, OnErr};
 ghost use Rattle.wire.specs.Pieces.{AreBytes};
-ghost use Rattle.faults.specs.Counting.{one_more};
-ghost use Rattle.faults.specs.Fuse.{after_call, is_burning};
+ghost use Rattle.streams.specs.Counting.{one_more};
+ghost use Rattle.streams.specs.Fuse.{after_call, is_burning};
 ghost use Rattle.log_transfer.specs.Connections.{ended, failing};
 ghost use Rattle.log_transfer.specs.Scripts.{GivesOf, gives_all, stream_at};
 ghost use Rattle.log_transfer.specs.declared.place.TheConstants.{MOST_TRIES};
 
 use crate::connector::Connector;
 use crate::place::MOST_TRIES;
-use faults::{Fault, Fuse};
-use log_format::{REQUEST_LEN, Request};
+use log_format::{FrameRequest, REQUEST_LEN};
 use std::alloc::{AllocError, Global};
 use std::collections::VecDeque;
 use std::marker::Model;
+use streams::{Fault, Fuse};
 
 // What one connection gives, and whether a read behind it fails.
 #[derive(Drop)]
@@ -51,7 +51,8 @@ impl MemoryStream {
 
     // Gives the front.
     fn give(&mut self, buffer: &mut [u8]) -> Result<usize, Fault>
-        ensures ok { IfOk result (λ n. (n ≤ length buffer.new) × (self.old.text ≡ take n buffer.new ++ self.new.text)) }
+        ensures ok { IfOk result (λ n. (n ≤ length buffer.new)
+            × (self.old.text ≡ take n buffer.new ++ self.new.text)) }
         ensures at_end { IfOk result (λ n. n ≡ 0 → 0 < length buffer.new → self.old ≡ ended) }
         ensures err { OnErr result ((self.old ≡ failing) × (self.new ≡ self.old)) }
         ensures fails { self.new.fails ≡ self.old.fails }
@@ -90,15 +91,28 @@ impl Model for MemoryConnector {
 
     ghost Value = { Script };
 
-    ghost view = { λ s. record { later = s.later.items; current = s.current; requests = s.requests.items; failures = s.failures; fuse = s.fuse } };
+    ghost view = { λ s. record {
+      later = s.later.items;
+      current = s.current;
+      requests = s.requests.items;
+      failures = s.failures;
+      fuse = s.fuse;
+    } };
 
-    ghost invariant = { λ s. IsScript s.later.items s.current × (length s.requests.items + length s.later.items ≤ vec_capacity s.requests) };
+    ghost invariant = { λ s. IsScript s.later.items s.current
+        × (length s.requests.items + length s.later.items ≤ vec_capacity s.requests) };
 }
 
 impl MemoryConnector {
     /// A source of no streams, with no failure and no fuse.
     pub fn new(alloc: Global) -> MemoryConnector
-        ensures { result ≡ record { later = []; current = failing; requests = []; failures = 0; fuse = None } }
+        ensures { result ≡ record {
+          later = [];
+          current = failing;
+          requests = [];
+          failures = 0;
+          fuse = None;
+        } }
     {
         MemoryConnector {
             later: VecDeque::new(alloc),
@@ -112,9 +126,14 @@ impl MemoryConnector {
     /// Gives these bytes behind the streams that it holds, and then the end, or with `fails` a failing read. Where
     /// memory is refused nothing changes.
     pub fn add(&mut self, bytes: Vec<u8>, fails: bool) -> Result<(), AllocError>
-        ensures ok { OnOk result (self.new.later ≡ self.old.later ++ record { text = bytes.items; fails = fails } ∷ []) }
+        ensures ok { OnOk result (self.new.later ≡ self.old.later ++ record {
+          text = bytes.items;
+          fails = fails;
+        } ∷ []) }
         ensures err { OnErr result (self.new.later ≡ self.old.later) }
-        ensures same { (self.new.current ≡ self.old.current) × (self.new.requests ≡ self.old.requests) × (self.new.failures ≡ self.old.failures) × (self.new.fuse ≡ self.old.fuse) }
+        ensures same { (self.new.current ≡ self.old.current)
+            × (self.new.requests ≡ self.old.requests) × (self.new.failures ≡ self.old.failures)
+            × (self.new.fuse ≡ self.old.fuse) }
     {
         self.requests.reserve(self.later.len() + 1)?;
         self.later.push_back(MemoryStream::new(bytes, fails))?;
@@ -132,7 +151,8 @@ impl MemoryConnector {
     /// `forever`. It replaces an earlier fuse.
     pub fn fuse(&mut self, pass: u32, forever: bool)
         ensures fuse { self.new.fuse ≡ Some (pass, forever) }
-        ensures same { (self.new.later ≡ self.old.later) × (self.new.current ≡ self.old.current) × (self.new.requests ≡ self.old.requests) × (self.new.failures ≡ self.old.failures) }
+        ensures same { (self.new.later ≡ self.old.later) × (self.new.current ≡ self.old.current)
+            × (self.new.requests ≡ self.old.requests) × (self.new.failures ≡ self.old.failures) }
     {
         self.fuse = Fuse::set(pass, forever);
     }
@@ -153,7 +173,7 @@ impl Connector for MemoryConnector {
         if let Some(stream) = next {
             if !burns {
                 self.current = stream;
-                let request = Request { first, most };
+                let request = FrameRequest { first, most };
                 self.requests.push_reserved(request.to_bytes());
                 return Ok(());
             }

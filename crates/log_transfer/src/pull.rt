@@ -29,11 +29,15 @@ pub(crate) fn next_frame<C: Connector>(
     out: &mut Vec<u8>,
 ) -> Result<Step, FetchError>
     requires place { IsPlace place.old }
-    ensures ok { IfOk result (IsStep (C.gives connector.old) (C.gives connector.new) (C.left connector.old) (C.left connector.new) place.old place.new out.new.items) }
-    ensures ended { IsEnd place.old → (result ≡ Ok (Step.End place.old.last)) × (connector.new ≡ connector.old) × (place.new ≡ place.old) × (out.new.items ≡ []) }
-    ensures cause { (before : ℕ) → IsCaused before (C.failed connector.old) place.old → IsCaused before (C.failed connector.new) place.new }
+    ensures ok { IfOk result (IsStep (C.gives connector.old) (C.gives connector.new)
+        (C.left connector.old) (C.left connector.new) place.old place.new out.new.items) }
+    ensures ended { IsEnd place.old → (result ≡ Ok (Step.End place.old.last))
+        × (connector.new ≡ connector.old) × (place.new ≡ place.old) × (out.new.items ≡ []) }
+    ensures cause { (before : ℕ) → IsCaused before (C.failed connector.old) place.old
+        → IsCaused before (C.failed connector.new) place.new }
     ensures place { IsPlace place.new }
-    ensures err { OnErr result ((connector.new ≡ connector.old) × (place.new ≡ place.old) × (out.new.items ≡ out.old.items)) }
+    ensures err { OnErr result ((connector.new ≡ connector.old) × (place.new ≡ place.old)
+        × (out.new.items ≡ out.old.items)) }
 {
     if place.is_end() {
         out.clear();
@@ -96,9 +100,13 @@ impl<C: Connector> Pull<C> {
     ///
     /// Where memory is refused nothing changed, and the next call goes on with the same frame.
     pub fn next(&mut self, out: &mut Vec<u8>) -> Result<Step, FetchError>
-        ensures ok { IfOk result (IsStep (C.gives self.old.connector) (C.gives self.new.connector) (C.left self.old.connector) (C.left self.new.connector) self.old.place self.new.place out.new.items) }
-        ensures ended { IsEnd self.old.place → (result ≡ Ok (Step.End self.old.place.last)) × (self.new ≡ self.old) × (out.new.items ≡ []) }
-        ensures cause { (before : ℕ) → IsCaused before (C.failed self.old.connector) self.old.place → IsCaused before (C.failed self.new.connector) self.new.place }
+        ensures ok { IfOk result (IsStep (C.gives self.old.connector) (C.gives self.new.connector)
+            (C.left self.old.connector) (C.left self.new.connector) self.old.place self.new.place
+            out.new.items) }
+        ensures ended { IsEnd self.old.place → (result ≡ Ok (Step.End self.old.place.last))
+            × (self.new ≡ self.old) × (out.new.items ≡ []) }
+        ensures cause { (before : ℕ) → IsCaused before (C.failed self.old.connector) self.old.place
+            → IsCaused before (C.failed self.new.connector) self.new.place }
         ensures place { IsPlace self.new.place }
         ensures err { OnErr result ((self.new ≡ self.old) × (out.new.items ≡ out.old.items)) }
     {

@@ -26,7 +26,13 @@ impl Model for Puller {
 
     ghost Value = { Pulled };
 
-    ghost view = { λ p. record { held = p.held; begun = p.begun; frames = p.frames.items; rest = p.rest.items; ended = p.ended } };
+    ghost view = { λ p. record {
+      held = p.held;
+      begun = p.begun;
+      frames = p.frames.items;
+      rest = p.rest.items;
+      ended = p.ended;
+    } };
 }
 
 impl Puller {
@@ -47,7 +53,8 @@ impl Puller {
 
     /// Takes a piece. Where memory is refused nothing changes. What comes behind the end is ignored.
     pub fn feed(&mut self, piece: &[u8]) -> Result<(), AllocError>
-        ensures ok { OnOk result ((stream : List ℕ) → IsPulledOf stream self.old → IsPulledOf (stream ++ piece.now) self.new) }
+        ensures ok { OnOk result ((stream : List ℕ) → IsPulledOf stream self.old
+            → IsPulledOf (stream ++ piece.now) self.new) }
         ensures held { self.new.held ≡ self.old.held }
         ensures err { OnErr result (self.new ≡ self.old) }
     {
@@ -60,7 +67,8 @@ impl Puller {
     // The same, where nothing is decided.
     fn feed_on(&mut self, piece: &[u8]) -> Result<(), AllocError>
         requires { self.old.ended ≡ None }
-        ensures ok { OnOk result ((stream : List ℕ) → IsPulledOf stream self.old → IsPulledOf (stream ++ piece.now) self.new) }
+        ensures ok { OnOk result ((stream : List ℕ) → IsPulledOf stream self.old
+            → IsPulledOf (stream ++ piece.now) self.new) }
         ensures held { self.new.held ≡ self.old.held }
         ensures err { OnErr result (self.new ≡ self.old) }
     {
@@ -98,7 +106,8 @@ impl Puller {
     /// How the stream ends, if no more comes.
     pub fn status(&self) -> Status
         ensures value { result ≡ status_of self.now.ended }
-        ensures reading { (stream : List ℕ) → IsPulledOf stream self.now → IsReading self.now.held stream false self.now.frames result }
+        ensures reading { (stream : List ℕ) → IsPulledOf stream self.now
+            → IsReading self.now.held stream false self.now.frames result }
     {
         match self.ended {
             Some(status) => status,

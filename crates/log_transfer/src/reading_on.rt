@@ -52,10 +52,12 @@ pub(crate) fn read_on(
     frames: &mut Vec<Payload>,
     text: &[u8],
 ) -> Result<Found, AllocError>
-    ensures ok { IfOk result (λ f. (stream : List ℕ) → IsArrived held stream begun frames.old.items text.now
+    ensures ok { IfOk result (λ f. (stream : List ℕ)
+        → IsArrived held stream begun frames.old.items text.now
         → IsPulled held stream f.begun frames.new.items (drop f.used text.now) f.ended) }
     ensures within { IfOk result (λ f. f.used ≤ length text.now) }
-    ensures err { OnErr result (take (length frames.old.items) frames.new.items ≡ frames.old.items) }
+    ensures err { OnErr result (take (length frames.old.items) frames.new.items
+        ≡ frames.old.items) }
 {
     match start_of(begun, text) {
         Start::Wait => Ok(Found {

@@ -7,10 +7,10 @@ ghost use Rattle.log_transfer.specs.Sources.{allowed_of, failures_of};
 use crate::connector::Connector;
 use crate::file_connector::FileConnector;
 use crate::tcp_connector::TcpConnector;
-use faults::Fault;
 use std::fs::{File, Files};
 use std::net::{Net, TcpStream};
 use std::time::Clock;
+use streams::Fault;
 
 /// A server, or a file. It tells nothing of what it gives.
 ///

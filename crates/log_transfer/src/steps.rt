@@ -29,8 +29,10 @@ pub(crate) fn is_magic(bytes: &[u8]) -> bool
 
 // Reads the magic, and answers the status where it is not there.
 fn read_magic<C: Connector>(connector: &mut C) -> Option<Status>
-    ensures magic { MatchOption result (GaveAll (C.left connector.old) (C.left connector.new) (codes "HSL1")) (EndsAtMagic (C.left connector.old)) }
-    ensures later { (k f m : ℕ) (c : Connection) → C.gives connector.new k f m c → C.gives connector.old k f m c }
+    ensures magic { MatchOption result (GaveAll (C.left connector.old) (C.left connector.new)
+        (codes "HSL1")) (EndsAtMagic (C.left connector.old)) }
+    ensures later { (k f m : ℕ) (c : Connection) → C.gives connector.new k f m c
+        → C.gives connector.old k f m c }
     ensures counted { IsMagicCounted (C.failed connector.old) (C.failed connector.new) result }
 {
     let mut bytes = [0; 4];
@@ -49,11 +51,14 @@ fn read_magic<C: Connector>(connector: &mut C) -> Option<Status>
 // Reads the magic of a connection that was opened.
 fn enter<C: Connector>(connector: &mut C, place: &mut Place)
     requires closed { place.old.is_open ≡ false }
-    ensures entered { IsEntered (C.left connector.old) (C.left connector.new) place.new.is_open place.new.count place.new.last }
+    ensures entered { IsEntered (C.left connector.old)
+        (C.left connector.new) place.new.is_open place.new.count place.new.last }
     ensures same { (place.new.held ≡ place.old.held) × (place.new.tries ≡ place.old.tries) }
     ensures few { (place.new.count ≡ 0) ⊎ (place.new.count ≡ place.old.count) }
-    ensures counted { IsEnterCounted (C.failed connector.old) (C.failed connector.new) place.new.is_open place.new.last }
-    ensures later { (k f m : ℕ) (c : Connection) → C.gives connector.new k f m c → C.gives connector.old k f m c }
+    ensures counted { IsEnterCounted (C.failed connector.old)
+        (C.failed connector.new) place.new.is_open place.new.last }
+    ensures later { (k f m : ℕ) (c : Connection) → C.gives connector.new k f m c
+        → C.gives connector.old k f m c }
 {
     match read_magic(connector) {
         None => {
@@ -70,9 +75,11 @@ fn open_next<C: Connector>(connector: &mut C, place: &mut Place)
     requires may { may_go_on place.old.last ≡ true }
     requires some { 0 < place.old.tries }
     requires place { IsPlace place.old }
-    ensures leads { Leads (C.gives connector.old) (C.gives connector.new) (C.left connector.old) (C.left connector.new) place.old place.new [] }
+    ensures leads { Leads (C.gives connector.old) (C.gives connector.new) (C.left connector.old)
+        (C.left connector.new) place.old place.new [] }
     ensures place { IsPlace place.new }
-    ensures cause { (before : ℕ) → IsCaused before (C.failed connector.old) place.old → IsCaused before (C.failed connector.new) place.new }
+    ensures cause { (before : ℕ) → IsCaused before (C.failed connector.old) place.old
+        → IsCaused before (C.failed connector.new) place.new }
     ensures tries { place.new.tries + 1 ≡ place.old.tries }
     ensures held { place.new.held ≡ place.old.held }
 {
@@ -83,7 +90,6 @@ fn open_next<C: Connector>(connector: &mut C, place: &mut Place)
     }
 }
 
-// What a turn gives.
 enum Turn {
     // A frame of so many bytes, in the buffer.
     Frame(usize),
@@ -98,8 +104,10 @@ fn step<C: Connector>(connector: &mut C, place: &mut Place, buffer: &mut [u8]) -
     requires shown { place.old.is_open ≡ true }
     requires buffer { length buffer.old ≡ LONGEST_PAYLOAD }
     requires place { IsPlace place.old }
-    ensures turn { IsTurn (C.gives connector.old) (C.gives connector.new) (C.left connector.old) (C.left connector.new) place.old place.new buffer.new result }
-    ensures cause { (before : ℕ) → IsCaused before (C.failed connector.old) place.old → IsCaused before (C.failed connector.new) place.new }
+    ensures turn { IsTurn (C.gives connector.old) (C.gives connector.new) (C.left connector.old)
+        (C.left connector.new) place.old place.new buffer.new result }
+    ensures cause { (before : ℕ) → IsCaused before (C.failed connector.old) place.old
+        → IsCaused before (C.failed connector.new) place.new }
     ensures buffer { length buffer.new ≡ LONGEST_PAYLOAD }
     ensures place { IsPlace place.new }
 {
@@ -121,8 +129,10 @@ fn step<C: Connector>(connector: &mut C, place: &mut Place, buffer: &mut [u8]) -
 fn go_on<C: Connector>(connector: &mut C, place: &mut Place, buffer: &mut [u8]) -> Turn
     requires buffer { length buffer.old ≡ LONGEST_PAYLOAD }
     requires place { IsPlace place.old }
-    ensures turn { IsTurn (C.gives connector.old) (C.gives connector.new) (C.left connector.old) (C.left connector.new) place.old place.new buffer.new result }
-    ensures cause { (before : ℕ) → IsCaused before (C.failed connector.old) place.old → IsCaused before (C.failed connector.new) place.new }
+    ensures turn { IsTurn (C.gives connector.old) (C.gives connector.new) (C.left connector.old)
+        (C.left connector.new) place.old place.new buffer.new result }
+    ensures cause { (before : ℕ) → IsCaused before (C.failed connector.old) place.old
+        → IsCaused before (C.failed connector.new) place.new }
     ensures buffer { length buffer.new ≡ LONGEST_PAYLOAD }
     ensures place { IsPlace place.new }
 {
@@ -146,8 +156,10 @@ pub(crate) fn advance<C: Connector>(
 ) -> Option<usize>
     requires buffer { length buffer.old ≡ LONGEST_PAYLOAD }
     requires place { IsPlace place.old }
-    ensures advanced { IsAdvanced (C.gives connector.old) (C.gives connector.new) (C.left connector.old) (C.left connector.new) place.old place.new buffer.new result }
-    ensures cause { (before : ℕ) → IsCaused before (C.failed connector.old) place.old → IsCaused before (C.failed connector.new) place.new }
+    ensures advanced { IsAdvanced (C.gives connector.old) (C.gives connector.new)
+        (C.left connector.old) (C.left connector.new) place.old place.new buffer.new result }
+    ensures cause { (before : ℕ) → IsCaused before (C.failed connector.old) place.old
+        → IsCaused before (C.failed connector.new) place.new }
     ensures buffer { length buffer.new ≡ LONGEST_PAYLOAD }
     ensures place { IsPlace place.new }
 {

@@ -19,7 +19,6 @@ enum Head {
     Short(bool),
 }
 
-// What came.
 pub(crate) enum Came {
     // A frame, whose payload of so many bytes stands in the buffer.
     Frame(usize),
@@ -43,10 +42,10 @@ pub(crate) fn unfinished(failed: bool) -> Status
     if failed { Status::Failed } else { Status::Cut }
 }
 
-// Reads the length of a frame.
 fn read_length<C: Connector>(connector: &mut C) -> Head
     ensures head { IsHead (C.left connector.old) (C.left connector.new) result }
-    ensures later { (k f m : ℕ) (c : Connection) → C.gives connector.new k f m c → C.gives connector.old k f m c }
+    ensures later { (k f m : ℕ) (c : Connection) → C.gives connector.new k f m c
+        → C.gives connector.old k f m c }
     ensures counted { IsHeadCounted (C.failed connector.old) (C.failed connector.new) result }
 {
     let mut bytes = [0; 4];
@@ -58,8 +57,10 @@ fn read_length<C: Connector>(connector: &mut C) -> Head
 
 // Reads the rest of an end mark, behind so many frames.
 fn read_mark<C: Connector>(connector: &mut C, count: u32) -> Status
-    ensures ends { (room : ℕ) → EndsBehind (C.left connector.old) (length_text 0) count room result }
-    ensures later { (k f m : ℕ) (c : Connection) → C.gives connector.new k f m c → C.gives connector.old k f m c }
+    ensures ends { (room : ℕ)
+        → EndsBehind (C.left connector.old) (length_text 0) count room result }
+    ensures later { (k f m : ℕ) (c : Connection) → C.gives connector.new k f m c
+        → C.gives connector.old k f m c }
     ensures counted { IsStatusCounted (C.failed connector.old) (C.failed connector.new) result }
 {
     let mut bytes = [0; 4];
@@ -85,9 +86,11 @@ fn read_payload<C: Connector>(
 ) -> Came
     requires some { 0 < len }
     requires buffer { length buffer.old ≡ LONGEST_PAYLOAD }
-    ensures came { IsCameBehind (C.left connector.old) (C.left connector.new) len count room buffer.new result }
+    ensures came { IsCameBehind (C.left connector.old)
+        (C.left connector.new) len count room buffer.new result }
     ensures buffer { length buffer.new ≡ LONGEST_PAYLOAD }
-    ensures later { (k f m : ℕ) (c : Connection) → C.gives connector.new k f m c → C.gives connector.old k f m c }
+    ensures later { (k f m : ℕ) (c : Connection) → C.gives connector.new k f m c
+        → C.gives connector.old k f m c }
     ensures counted { IsCameCounted (C.failed connector.old) (C.failed connector.new) result }
 {
     let len = len as usize;
@@ -111,9 +114,11 @@ pub(crate) fn read_frame<C: Connector>(
     room: u32,
 ) -> Came
     requires buffer { length buffer.old ≡ LONGEST_PAYLOAD }
-    ensures came { IsCame (C.left connector.old) (C.left connector.new) count room buffer.new result }
+    ensures came { IsCame (C.left connector.old)
+        (C.left connector.new) count room buffer.new result }
     ensures buffer { length buffer.new ≡ LONGEST_PAYLOAD }
-    ensures later { (k f m : ℕ) (c : Connection) → C.gives connector.new k f m c → C.gives connector.old k f m c }
+    ensures later { (k f m : ℕ) (c : Connection) → C.gives connector.new k f m c
+        → C.gives connector.old k f m c }
     ensures counted { IsCameCounted (C.failed connector.old) (C.failed connector.new) result }
 {
     match read_length(connector) {

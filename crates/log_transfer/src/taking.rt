@@ -31,9 +31,12 @@ pub(crate) fn take_frames(
     held: usize,
     frames: &mut Vec<Payload>,
 ) -> Result<Taken, AllocError>
-    ensures ok { IfOk result (λ t. IsTaken held text.now frames.old.items frames.new.items (drop (length text.now - t.left) text.now) t.ended) }
+    ensures ok { IfOk result (λ t.
+        IsTaken held text.now frames.old.items frames.new.items
+        (drop (length text.now - t.left) text.now) t.ended) }
     ensures within { IfOk result (λ t. t.left ≤ length text.now) }
-    ensures err { OnErr result (take (length frames.old.items) frames.new.items ≡ frames.old.items) }
+    ensures err { OnErr result (take (length frames.old.items) frames.new.items
+        ≡ frames.old.items) }
 {
     let mut rest = text;
     loop {

@@ -8,12 +8,12 @@ use crate::budget::Budget;
 use crate::connector::Connector;
 use crate::place::MOST_TRIES;
 use crate::tries::{counted, no_connection};
-use faults::Fault;
-use log_format::Request;
+use log_format::FrameRequest;
 use std::io;
 use std::io::{ErrorKind, Write};
 use std::net::{Net, SocketAddr, TcpStream, ToSocketAddrs};
 use std::time::{Clock, Duration, Instant};
+use streams::Fault;
 
 /// How many seconds a connect to one address may take.
 pub const CONNECT_SECONDS: u64 = 10;
@@ -53,7 +53,7 @@ pub struct TcpConnector<'a, R> {
 
 impl Open {
     // Sends the request over a new connection.
-    fn ask(stream: TcpStream, request: Request) -> io::Result<Open>
+    fn ask(stream: TcpStream, request: FrameRequest) -> io::Result<Open>
         ensures fresh { IfOk result (λ o. o.budget ≡ 0) }
     {
         let mut stream = stream;
@@ -110,7 +110,7 @@ impl<'a, R: Net<Stream = TcpStream> + Clock> TcpConnector<'a, R> {
     }
 
     // Connects, and sends the request.
-    fn ask(&self, request: Request) -> io::Result<Open>
+    fn ask(&self, request: FrameRequest) -> io::Result<Open>
         ensures fresh { IfOk result (λ o. o.budget ≡ 0) }
     {
         let stream = self.connect_to_one()?;
@@ -129,7 +129,7 @@ impl<'a, R: Net<Stream = TcpStream> + Clock> Connector for TcpConnector<'a, R> {
 
     fn connect(&mut self, first: u32, most: u32) -> Result<(), Fault> {
         self.open = None;
-        let opened = self.ask(Request { first, most });
+        let opened = self.ask(FrameRequest { first, most });
         self.open = Some(counted(&mut self.failures, opened)?);
         Ok(())
     }

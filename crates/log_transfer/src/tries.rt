@@ -2,11 +2,11 @@
 
 ghost use Rattle.std.specs.Prelude.{◌≡◌, ◌≤◌, IfOk, Ok, length};
 ghost use Rattle.std.specs.Io.KnownBytes.{ReadConsumes};
-ghost use Rattle.faults.specs.Counting.{Counts};
+ghost use Rattle.streams.specs.Counting.{Counts};
 
-use faults::Fault;
 use std::io;
 use std::io::{ErrorKind, Read};
+use streams::Fault;
 
 // How often a read is tried that signals interrupt.
 const MOST_INTERRUPTIONS: u32 = 100;
@@ -20,7 +20,8 @@ pub(crate) fn no_connection() -> io::Error {
 pub(crate) fn read_some<R: Read>(stream: &mut R, buffer: &mut [u8]) -> io::Result<usize>
     ensures within { IfOk result (λ n. n ≤ length buffer.new) }
     ensures length { length buffer.new ≡ length buffer.old }
-    ensures bytes { ReadConsumes (R.remaining stream.old) (R.remaining stream.new) result buffer.new }
+    ensures bytes { ReadConsumes (R.remaining stream.old)
+        (R.remaining stream.new) result buffer.new }
 {
     for _ in 0..MOST_INTERRUPTIONS {
         match stream.read(buffer) {

@@ -3,7 +3,7 @@
 ghost use Rattle.std.specs.Prelude.{◌≡◌};
 
 use crate::connector::Connector;
-use faults::Fault;
+use streams::Fault;
 
 /// Is told how far a source has come.
 pub trait Watch {

@@ -38,7 +38,8 @@ fn fill_leaves<R: Threads + Sync>(rt: &R, secret: &PrivateSeed, leaves: &mut [[u
         leaves,
         |q: usize, hash: &mut [u8; 32]|
             requires { q < LEAVES }
-            ensures { hash.new ≡ tree_node secret.entry.now.key_id secret.entry.now.seed (LEAVES + q) }
+            ensures { hash.new ≡ tree_node secret.entry.now.key_id secret.entry.now.seed (LEAVES
+                + q) }
         {
             *hash = leaf(secret, q as u32);
         },

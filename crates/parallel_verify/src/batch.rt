@@ -11,7 +11,7 @@ use shared_values::Shared;
 use std::alloc::{AllocError, Global};
 use std::sync::Wait;
 use std::thread::Threads;
-use vote_board::{Board, Naming};
+use vote_board::{Board, BoardNaming};
 
 // Nearly each check costs more than a thread, so that no list of votes is too short to be split.
 const LEAST_PIECE: usize = 1;
@@ -41,7 +41,7 @@ pub fn verify_all<R: Threads + Sync>(
 
 // Whether each of the votes is good under the committee of the board, in their order. Each is checked by the verifier
 // where the board has no answer to it.
-pub(crate) fn check_all<N: Naming + Send + Sync, R: Threads + Wait + Sync, V: Verifier + Sync>(
+pub(crate) fn check_all<N: BoardNaming + Send + Sync, R: Threads + Wait + Sync, V: Verifier + Sync>(
     rt: &R,
     alloc: Global,
     board: &Board<N>,

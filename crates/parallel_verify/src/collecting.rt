@@ -21,10 +21,10 @@ use std::marker::Brand;
 use std::sync::{Mutex, Wait};
 use std::thread;
 use std::thread::Threads;
-use vote_board::{Board, Naming};
+use vote_board::{Board, BoardNaming};
 
 // What each source names, each read in a thread of its own.
-fn gather_all<N: Naming + Send + Sync, R: Threads + Wait + Sync, C: Connector + Send>(
+fn gather_all<N: BoardNaming + Send + Sync, R: Threads + Wait + Sync, C: Connector + Send>(
     rt: &R,
     alloc: Global,
     committee: &CommitteeView,
@@ -34,7 +34,9 @@ fn gather_all<N: Naming + Send + Sync, R: Threads + Wait + Sync, C: Connector + 
     requires tries { All (MayBeTried C.allowed) sources.items }
     ensures len { IfOk result (λ parts. length parts.items ≡ length sources.items) }
     ensures each { IfOk result (λ parts. (i : ℕ) (s : _) (d : _) → i < length sources.items
-        → IsGathered C.gives C.failed (slice_index_or sources.items i s).connector (slice_index_or sources.items i s).tries (slice_index_or sources.items i s).replica committee.now (slice_index_or parts.items i d)) }
+        → IsGathered C.gives C.failed (slice_index_or sources.items i s).connector
+        (slice_index_or sources.items i s).tries
+        (slice_index_or sources.items i s).replica committee.now (slice_index_or parts.items i d)) }
 {
     let shelf = Mutex::new(Shelf::new(alloc));
     let keeping = Keeping {
@@ -47,7 +49,8 @@ fn gather_all<N: Naming + Send + Sync, R: Threads + Wait + Sync, C: Connector + 
         sources,
         &|source: Source<C>| -> Result<Part, EvidenceRefusal>
             requires { MayTry (C.allowed source.connector) source.tries }
-            ensures { IsGathered C.gives C.failed source.connector source.tries source.replica committee.entry.now result }
+            ensures { IsGathered C.gives C.failed source.connector source.tries source.replica
+                committee.entry.now result }
         { gather(alloc, committee, &keeping, source) },
     )
 }
@@ -55,7 +58,7 @@ fn gather_all<N: Naming + Send + Sync, R: Threads + Wait + Sync, C: Connector + 
 // The evidence, over a board of that name.
 fn collect_on<
     'a,
-    N: Naming + Send + Sync,
+    N: BoardNaming + Send + Sync,
     R: Threads + Wait + Sync,
     C: Connector + Send,
     V: Verifier + Sync,
@@ -70,7 +73,8 @@ fn collect_on<
     requires tries { All (MayBeTried C.allowed) sources.items }
     ensures ok { IfOk result (IsEvidenceOfSources (MayGive C.gives) committee.now sources.items) }
     ensures cause { IfOk result (λ e. AllZip (IsStatusCaused C.failed) sources.items e.sources) }
-    ensures refused { IfErr result (IsRefusalOfSources (MayGive C.gives) committee.now sources.items) }
+    ensures refused { IfErr result
+        (IsRefusalOfSources (MayGive C.gives) committee.now sources.items) }
 {
     let board = Board::<N>::new(alloc, committee.again());
     let parts = gather_all(rt, alloc, committee, &board, sources)?;
@@ -101,7 +105,8 @@ pub fn collect<'a, R: Threads + Wait + Sync, C: Connector + Send>(
     requires tries { All (MayBeTried C.allowed) sources.items }
     ensures ok { IfOk result (IsEvidenceOfSources (MayGive C.gives) committee.now sources.items) }
     ensures cause { IfOk result (λ e. AllZip (IsStatusCaused C.failed) sources.items e.sources) }
-    ensures refused { IfErr result (IsRefusalOfSources (MayGive C.gives) committee.now sources.items) }
+    ensures refused { IfErr result
+        (IsRefusalOfSources (MayGive C.gives) committee.now sources.items) }
 {
     collect_by(rt, alloc, committee, &LmsVerifier, sources)
 }
@@ -117,7 +122,8 @@ pub fn collect_by<'a, R: Threads + Wait + Sync, C: Connector + Send, V: Verifier
     requires tries { All (MayBeTried C.allowed) sources.items }
     ensures ok { IfOk result (IsEvidenceOfSources (MayGive C.gives) committee.now sources.items) }
     ensures cause { IfOk result (λ e. AllZip (IsStatusCaused C.failed) sources.items e.sources) }
-    ensures refused { IfErr result (IsRefusalOfSources (MayGive C.gives) committee.now sources.items) }
+    ensures refused { IfErr result
+        (IsRefusalOfSources (MayGive C.gives) committee.now sources.items) }
 {
     collect_on::<Brand, R, C, V>(rt, alloc, committee, verifier, sources)
 }

@@ -14,7 +14,8 @@ use std::alloc::{AllocError, Global};
 
 // Adds what one source names.
 fn add_part(gathered: &mut Gathered, part: &Part) -> Result<SourceReport, EvidenceRefusal>
-    ensures ok { OnOk result (Grows gathered.old gathered.new (Contains part.now.headers.items) (Contains part.now.votes.items)) }
+    ensures ok { OnOk result (Grows gathered.old gathered.new (Contains part.now.headers.items)
+        (Contains part.now.votes.items)) }
     ensures report { IfOk result (λ r. r ≡ part.now.report) }
     ensures err { IfErr result (IsGatheringRefusal gathered.old (Contains part.now.headers.items)) }
 {
@@ -27,9 +28,12 @@ fn add_result(
     gathered: &mut Gathered,
     part: &Result<Part, EvidenceRefusal>,
 ) -> Result<SourceReport, EvidenceRefusal>
-    ensures ok { IfOk result (λ r. (l : ReceivedLog) → IsResultOn gathered.old.committee l part.now → IsJoined gathered.old gathered.new l r) }
+    ensures ok { IfOk result (λ r. (l : ReceivedLog) → IsResultOn gathered.old.committee l part.now
+        → IsJoined gathered.old gathered.new l r) }
     ensures report { IfOk result (HasReport part.now) }
-    ensures err { IfErr result (λ e. (l : ReceivedLog) → IsResultOn gathered.old.committee l part.now → IsGatheringRefusal gathered.old (PartHasHeader gathered.old.committee l) e) }
+    ensures err { IfErr result (λ e. (l : ReceivedLog)
+        → IsResultOn gathered.old.committee l part.now
+        → IsGatheringRefusal gathered.old (PartHasHeader gathered.old.committee l) e) }
 {
     match part {
         Ok(part) => add_part(gathered, part),
@@ -51,10 +55,15 @@ pub(crate) fn join<'a>(
     committee: &CommitteeView<'a>,
     parts: &[Result<Part, EvidenceRefusal>],
 ) -> Result<(Listing<'a>, Vec<SourceReport>), EvidenceRefusal>
-    ensures union { IfOk result (λ joined. (logs : List ReceivedLog) → AllZip (IsResultOn committee.now) logs parts.now → IsUnion committee.now logs joined.0) }
-    ensures told { IfOk result (λ joined. (logs : List ReceivedLog) → AllZip (IsResultOn committee.now) logs parts.now → AllZip IsReportOf logs joined.1.items) }
+    ensures union { IfOk result (λ joined. (logs : List ReceivedLog)
+        → AllZip (IsResultOn committee.now) logs parts.now → IsUnion committee.now logs joined.0) }
+    ensures told { IfOk result (λ joined. (logs : List ReceivedLog)
+        → AllZip (IsResultOn committee.now) logs parts.now
+        → AllZip IsReportOf logs joined.1.items) }
     ensures reports { IfOk result (λ joined. AllZip HasReport parts.now joined.1.items) }
-    ensures refused { IfErr result (λ e. (logs : List ReceivedLog) → AllZip (IsResultOn committee.now) logs parts.now → IsEvidenceRefusal (IsHeaderInEvidence committee.now logs) e) }
+    ensures refused { IfErr result (λ e. (logs : List ReceivedLog)
+        → AllZip (IsResultOn committee.now) logs parts.now
+        → IsEvidenceRefusal (IsHeaderInEvidence committee.now logs) e) }
 {
     let mut gathered = Gathered::new(alloc, committee)?;
     let mut reports = Vec::new(alloc);

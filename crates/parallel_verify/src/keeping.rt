@@ -9,7 +9,7 @@ use shared_values::Shared;
 use std::alloc::{AllocError, Global};
 use std::collections::BTreeMap;
 use std::sync::{Mutex, Wait};
-use vote_board::{Board, Naming};
+use vote_board::{Board, BoardNaming};
 
 /// Headers that stand in memory once. Of two different headers of one id the first stays here.
 #[derive(Drop)]
@@ -44,13 +44,13 @@ impl Shelf {
 
 /// A board for votes and a shelf for headers, both shared by the threads.
 #[derive(Drop)]
-pub(crate) struct Keeping<'k, 'c, N: Naming, R: Wait> {
+pub(crate) struct Keeping<'k, 'c, N: BoardNaming, R: Wait> {
     pub(crate) rt: &'k R,
     pub(crate) board: &'k Board<'c, N>,
     pub(crate) shelf: &'k Mutex<Shelf>,
 }
 
-impl<'k, 'c, N: Naming, R: Wait> Keeper for Keeping<'k, 'c, N, R> {
+impl<'k, 'c, N: BoardNaming, R: Wait> Keeper for Keeping<'k, 'c, N, R> {
     fn vote(&self, vote: &SignedVote) -> Result<Shared<SignedVote>, AllocError> {
         self.board.post(self.rt, vote)
     }

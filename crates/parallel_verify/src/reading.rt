@@ -26,11 +26,15 @@ fn gather_frames<K: Keeper, C: Connector>(
     requires closed { pull.old.place.is_open ≡ false }
     requires first { pull.old.place.held ≡ 0 }
     requires tries { 0 < pull.old.place.tries }
-    requires some { (l : ReceivedLog) × IsLogFrom (C.gives pull.old.connector) pull.old.place replica l }
-    ensures ok { IfOk result (λ r. (l : ReceivedLog) × IsLogFrom (C.gives pull.old.connector) pull.old.place replica l
+    requires some { (l : ReceivedLog)
+        × IsLogFrom (C.gives pull.old.connector) pull.old.place replica l }
+    ensures ok { IfOk result (λ r. (l : ReceivedLog)
+        × IsLogFrom (C.gives pull.old.connector) pull.old.place replica l
         × Grows gathered.old gathered.new (LogHasHeader l) (LogNamesVote l) × IsReportOf l r) }
-    ensures cause { IfOk result (λ r. HasCause (C.failed pull.old.connector) (C.failed pull.new.connector) r.status) }
-    ensures err { IfErr result (λ e. (l : ReceivedLog) × IsLogFrom (C.gives pull.old.connector) pull.old.place replica l
+    ensures cause { IfOk result (λ r.
+        HasCause (C.failed pull.old.connector) (C.failed pull.new.connector) r.status) }
+    ensures err { IfErr result (λ e. (l : ReceivedLog)
+        × IsLogFrom (C.gives pull.old.connector) pull.old.place replica l
         × IsGatheringRefusal gathered.old (LogHasHeader l) e) }
 {
     let mut frame = Vec::new(alloc);
@@ -39,7 +43,7 @@ fn gather_frames<K: Keeper, C: Connector>(
     loop {
         match pull.next(&mut frame) {
             Ok(Step::Frame) => {
-                // Behind what came, more may come.
+                // For the proof: behind what came, more may come.
                 let _ = pull.failures();
                 if gathered.add_frame(alloc, keeper, replica, &frame)? {
                     entries += 1;
@@ -67,7 +71,8 @@ pub(crate) fn gather<K: Keeper, C: Connector>(
     source: Source<C>,
 ) -> Result<Part, EvidenceRefusal>
     requires { MayTry (C.allowed source.connector) source.tries }
-    ensures { IsGathered C.gives C.failed source.connector source.tries source.replica committee.now result }
+    ensures { IsGathered C.gives C.failed source.connector source.tries source.replica committee.now
+        result }
 {
     let Source {
         replica,
@@ -75,7 +80,7 @@ pub(crate) fn gather<K: Keeper, C: Connector>(
         tries,
     } = source;
     let mut pull = Pull::new(connector, tries);
-    // Something may come of every source.
+    // For the proof: something may come of every source.
     let _ = pull.failures();
     let mut gathered = Gathered::new(alloc, committee)?;
     let report = gather_frames(alloc, keeper, &mut pull, replica, &mut gathered)?;

@@ -2,7 +2,7 @@
 use Rattle.std.specs.Prelude.{◌≡◌, ◌==◌, ◌&&◌, ◌⊎◌, ◌++◌, ◌∷◌, [], ℕ, Bool, not, nat_le, List, Option, codes, decimal, if◌then◌else◌}
 use Rattle.std.specs.List.{flat_map}
 use Rattle.hex.specs.Hex.{encode_lower}
-use Rattle.faults.specs.Counting.{one_more}
+use Rattle.streams.specs.Counting.{one_more}
 use Rattle.streams.specs.Streams.{Wrote, WrotePart}
 use Rattle.blocks.specs.declared.committee.CommitteeRefusal.{CommitteeRefusal}
 use Rattle.blocks.specs.declared.committee.CommitteeRefusal.TheVariants.{Length, Magic, Size, KeyCount, Key, SameKey, Weight}

@@ -1,7 +1,7 @@
 //! Paths, printed in one line.
 
 ghost use Rattle.std.specs.Prelude.{◌≡◌, ◌≤◌, ◌<◌, length, slice_index, take, false, OnOk, OnErr};
-ghost use Rattle.faults.specs.Counting.{Counts};
+ghost use Rattle.streams.specs.Counting.{Counts};
 ghost use Rattle.streams.specs.Streams.{Wrote, WrotePart};
 ghost use Rattle.printed_lines.specs.Printed.{is_plain, escape, printed, file_line};
 
@@ -10,8 +10,10 @@ use streams::{Fault, Sink, write_all};
 /// Writes `fault file `, the path, the text behind it as it is, and a line feed. In the path each byte below 0x20, 0x7f
 /// and the backslash go out as `\x` and two hex digits, so a line stays one. After a fault a first part was written.
 pub fn write_file_fault<W: Sink>(out: &mut W, path: &str, behind: &[u8]) -> Result<(), Fault>
-    ensures ok { OnOk result (Wrote (W.text out.old) (W.text out.new) (file_line path.now behind.now)) }
-    ensures err { OnErr result (WrotePart (W.text out.old) (W.text out.new) (file_line path.now behind.now)) }
+    ensures ok { OnOk result (Wrote (W.text out.old) (W.text out.new)
+        (file_line path.now behind.now)) }
+    ensures err { OnErr result (WrotePart (W.text out.old) (W.text out.new)
+        (file_line path.now behind.now)) }
     ensures counted { Counts (W.failed out.old) (W.failed out.new) result }
 {
     write_all(out, b"fault file ")?;

@@ -7,15 +7,16 @@ ghost use Rattle.replica_command.specs.Dealing.{IsOutcomeAt, IsRequestIn};
 use crate::worker::{Asked, Done, Work};
 use replica_lines::{Outcome, Request};
 use std::alloc::{AllocError, Global};
-use vote_desk::{Naming, Session};
+use vote_desk::{DeskNaming, Session};
 
 /// Deals requests to the sessions in turn: the first one to the first session.
-pub(crate) fn deal<N: Naming>(
+pub(crate) fn deal<N: DeskNaming>(
     alloc: Global,
     sessions: Vec<Session<N>>,
     requests: Vec<Request>,
 ) -> Result<Vec<Work<N>>, AllocError>
-    ensures { IfOk result (λ all. All (λ work. All (IsRequestIn requests.items) work.requests.items) all.items) }
+    ensures { IfOk result (λ all.
+        All (λ work. All (IsRequestIn requests.items) work.requests.items) all.items) }
 {
     let mut all = Vec::new(alloc);
     for session in sessions {
@@ -31,8 +32,9 @@ pub(crate) fn deal<N: Naming>(
 }
 
 /// What came of the request of this number, where it was dealt to a worker in turn.
-pub(crate) fn outcome_at<N: Naming>(all: &[Done<N>], number: usize) -> Option<&Outcome>
-    ensures { IfSome result (λ outcome. IsOutcomeAt (map (λ done. done.outcomes.items) all.now) number outcome.now) }
+pub(crate) fn outcome_at<N: DeskNaming>(all: &[Done<N>], number: usize) -> Option<&Outcome>
+    ensures { IfSome result (λ outcome.
+        IsOutcomeAt (map (λ done. done.outcomes.items) all.now) number outcome.now) }
 {
     let turn = number.checked_rem(all.len())?;
     let round = number.checked_div(all.len())?;

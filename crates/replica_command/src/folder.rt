@@ -2,14 +2,14 @@
 
 ghost use Rattle.std.specs.Prelude.{◌≢◌, ◌≤◌, IfErr};
 ghost use Rattle.blocks.specs.Headers.{IsGenesis};
-ghost use Rattle.key_index_store.specs.declared.store.TheConstants.{MOST_KEYS};
+ghost use Rattle.wire.specs.declared.limits.TheConstants.{MOST_KEYS};
 
 use crate::fault::{ReplicaFault, ReplicaFile};
 use blocks::{CommitteeView, Header};
 use file_input::{InputFault, read_at_most};
-use key_files::{KeyFile, KeyNumber};
+use key_files::KeyFile;
 use key_index_store::{IndexError, IndexStore};
-use lmots::PrivateSeed;
+use lmots::{PRIVATE_SEED_LEN, PrivateSeed};
 use lms_tree::SigningTree;
 use stable_log::FileDisk;
 use std::alloc::Global;
@@ -18,20 +18,17 @@ use std::io;
 use std::io::ErrorKind;
 use vote_desk::Parts;
 use vote_log::{LogError, VoteLog};
-use wire::array_at;
-
-/// How long a key's seed file is, in bytes: the key id, then the seed.
-const SEED_LEN: usize = 48;
+use wire::KeyNumber;
 
 /// A replica's folder.
 #[derive(Drop)]
-pub(crate) struct Folder<'a, F: Files<File = File>> {
+pub(crate) struct ReplicaFolder<'a, F: Files<File = File>> {
     pub files: &'a F,
     pub alloc: Global,
     pub path: &'a str,
 }
 
-impl<F: Files<File = File>> Folder<'_, F> {
+impl<F: Files<File = File>> ReplicaFolder<'_, F> {
     /// Asks for the folder's lock, and makes its file where there is none. The lock is given up when the file that is
     /// answered is dropped, or the process ends.
     pub fn lock(&self) -> Result<File, ReplicaFault>
@@ -100,18 +97,16 @@ impl<F: Files<File = File>> Folder<'_, F> {
         let mut how = OpenOptions::new();
         how.read(true);
         let file = ReplicaFile::Key(KeyFile::Seed(number));
-        let bytes = match read_at_most(self.alloc, self.open(&how, file)?, SEED_LEN as u64 + 1) {
+        let most = PRIVATE_SEED_LEN as u64 + 1;
+        let bytes = match read_at_most(self.alloc, self.open(&how, file)?, most) {
             Ok(bytes) => bytes,
             Err(InputFault::Memory) => return Err(ReplicaFault::Memory),
             Err(InputFault::Unreadable) => return Err(ReplicaFault::File(file)),
         };
-        if bytes.len() != SEED_LEN {
-            return Err(ReplicaFault::File(file));
+        match bytes.as_slice().as_array() {
+            Some(bytes) => Ok(PrivateSeed::from_bytes(bytes)),
+            None => Err(ReplicaFault::File(file)),
         }
-        Ok(PrivateSeed {
-            key_id: array_at(&bytes, 0),
-            seed: array_at(&bytes, 16),
-        })
     }
 
     fn recover_indices(&self, keys: u8) -> Result<IndexStore<FileDisk>, ReplicaFault>

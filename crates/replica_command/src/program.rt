@@ -7,7 +7,7 @@ ghost use Rattle.replica_command.specs.Blame.{BlamesOutput};
 ghost use Rattle.replica_command.specs.StayText.{AreRequestsRead, IsStayPrinted};
 
 use crate::fault::ReplicaFault;
-use crate::folder::Folder;
+use crate::folder::ReplicaFolder;
 use crate::staying::{StayEnd, stay};
 use blocks::CommitteeView;
 use replica_lines::{Request, read_requests};
@@ -46,16 +46,17 @@ pub fn run_replica<F: Files<File = File>, T: Threads + Wait + Sync, R: Feed, W: 
 
     // What came of the lines was printed, one outcome of each, in order.
     ensures printed { IfOk result (λ r. (requests : List RequestValue)
-        × AreRequestsRead (R.rest lines.old) (R.rest lines.new) (R.failed lines.old) (R.failed lines.new) requests
-        × IsStayPrinted (W.text out.old) (W.text out.new) committee.now replica
-        requests r.end.closed.receipts.items (length r.end.closed.parts.log.steps) r.end.ending) }
+        × AreRequestsRead (R.rest lines.old) (R.rest lines.new) (R.failed lines.old)
+        (R.failed lines.new) requests
+        × IsStayPrinted (W.text out.old) (W.text out.new) committee.now replica requests
+        r.end.closed.receipts.items (length r.end.closed.parts.log.steps) r.end.ending) }
 
     // The receipts are those of the votes behind the list that the log had when it was opened.
     ensures receipts { IfOk result (λ r. (opened : ℕ)
         × AreReceipts opened r.end.closed.parts.log.steps r.end.closed.receipts.items) }
     ensures blame { BlamesOutput result (W.failed out.old) (W.failed out.new) }
 {
-    let folder = Folder { files, alloc, path };
+    let folder = ReplicaFolder { files, alloc, path };
     let lock = folder.lock()?;
     let parts = folder.open_parts(committee, replica)?;
     let requests = read_requests(alloc, lines)?;
@@ -75,8 +76,9 @@ fn stay_once<T: Threads + Wait + Sync, W: Sink>(
     out: &mut W,
 ) -> Result<StayEnd<FileDisk>, ReplicaFault>
     requires { (1 ≤ workers) × (workers ≤ 64) }
-    ensures printed { IfOk result (λ end. IsStayPrinted (W.text out.old) (W.text out.new) committee.now replica
-        requests.items end.closed.receipts.items (length end.closed.parts.log.steps) end.ending) }
+    ensures printed { IfOk result (λ end.
+        IsStayPrinted (W.text out.old) (W.text out.new) committee.now replica requests.items
+        end.closed.receipts.items (length end.closed.parts.log.steps) end.ending) }
     ensures receipts { IfOk result (λ end.
         AreReceipts (length parts.log.steps) end.closed.parts.log.steps end.closed.receipts.items) }
     ensures blame { BlamesOutput result (W.failed out.old) (W.failed out.new) }

@@ -26,7 +26,7 @@ use std::sync::ledger::Blank;
 use std::thread;
 use std::thread::Threads;
 use streams::{Sink, write_all};
-use vote_desk::{Closed, Desk, DeskError, Naming, Parts, Session, StartError};
+use vote_desk::{Closed, Desk, DeskError, DeskNaming, Parts, Session, StartError};
 
 /// What a stay leaves.
 #[derive(Drop)]
@@ -69,7 +69,7 @@ impl Ending {
 /// Opens a desk on these parts with as many sessions as workers, deals the requests to them in turn, and prints what came
 /// of each, in the order of the requests. Then the desk is closed, and `closed` and the number of the log's entries are
 /// printed.
-pub fn stay<N: Naming + Send + Sync, T: Threads + Wait + Sync, D: Disk + Send, W: Sink>(
+pub fn stay<N: DeskNaming + Send + Sync, T: Threads + Wait + Sync, D: Disk + Send, W: Sink>(
     rt: &T,
     alloc: Global,
     blank: Blank,
@@ -86,8 +86,9 @@ pub fn stay<N: Naming + Send + Sync, T: Threads + Wait + Sync, D: Disk + Send, W
     requires committee { committee.now ≡ N.committee }
     requires replica { replica ≡ N.replica }
     requires opening { parts.log.steps ≡ N.opening }
-    ensures printed { IfOk result (λ end. IsStayPrinted (W.text out.old) (W.text out.new) N.committee N.replica
-        requests.items end.closed.receipts.items (length end.closed.parts.log.steps) end.ending) }
+    ensures printed { IfOk result (λ end.
+        IsStayPrinted (W.text out.old) (W.text out.new) N.committee N.replica requests.items
+        end.closed.receipts.items (length end.closed.parts.log.steps) end.ending) }
     ensures receipts { IfOk result (λ end.
         AreReceipts (length N.opening) end.closed.parts.log.steps end.closed.receipts.items) }
     ensures blame { BlamesOutput result (W.failed out.old) (W.failed out.new) }
@@ -109,7 +110,7 @@ pub fn stay<N: Naming + Send + Sync, T: Threads + Wait + Sync, D: Disk + Send, W
 }
 
 // Each worker's requests in a thread of its own, where one can be made. Where memory is refused the sessions are gone.
-fn work_all<N: Naming + Send + Sync, T: Threads + Wait + Sync, D: Disk + Send>(
+fn work_all<N: DeskNaming + Send + Sync, T: Threads + Wait + Sync, D: Disk + Send>(
     rt: &T,
     alloc: Global,
     desk: &Desk<N, D>,
@@ -117,8 +118,9 @@ fn work_all<N: Naming + Send + Sync, T: Threads + Wait + Sync, D: Disk + Send>(
     work: Vec<Work<N>>,
 ) -> Result<Vec<Done<N>>, AllocError>
     requires { committee.now ≡ N.committee }
-    ensures { IfOk result (λ all. AllZip (λ w d.
-        AreWorked N.committee N.replica w.requests.items d.session.receipts.items d.outcomes.items) work.items all.items) }
+    ensures { IfOk result (λ all.
+        AllZip (λ w d. AreWorked N.committee N.replica w.requests.items d.session.receipts.items
+        d.outcomes.items) work.items all.items) }
 {
     let done = thread::map_vec(
         rt,
@@ -133,12 +135,13 @@ fn work_all<N: Naming + Send + Sync, T: Threads + Wait + Sync, D: Disk + Send>(
 }
 
 // Prints what came of each request, and answers how the stay ends.
-fn print_outcomes<N: Naming, W: Sink>(
+fn print_outcomes<N: DeskNaming, W: Sink>(
     done: &[Done<N>],
     count: usize,
     out: &mut W,
 ) -> Result<Ending, ReplicaFault>
-    ensures printed { IfOk result (IsPrinted (W.text out.old) (W.text out.new) (map (λ d. d.outcomes.items) done.now) count) }
+    ensures printed { IfOk result (IsPrinted (W.text out.old) (W.text out.new) (map (λ d.
+        d.outcomes.items) done.now) count) }
     ensures blame { BlamesOutput result (W.failed out.old) (W.failed out.new) }
 {
     let mut ending = Ending::Done;
@@ -150,13 +153,15 @@ fn print_outcomes<N: Naming, W: Sink>(
 
 // Prints what came of the request of this number, and answers how a stay ends in which that came. It is a bug of this
 // program where nothing did.
-fn print_turn<N: Naming, W: Sink>(
+fn print_turn<N: DeskNaming, W: Sink>(
     done: &[Done<N>],
     number: usize,
     out: &mut W,
 ) -> Result<Ending, ReplicaFault>
-    ensures printed { IfOk result (λ ending. (outcome : OutcomeValue) × IsOutcomeAt (map (λ d. d.outcomes.items) done.now) number outcome
-        × (ending ≡ ending_of outcome) × Wrote (W.text out.old) (W.text out.new) (outcome_line outcome)) }
+    ensures printed { IfOk result (λ ending. (outcome : OutcomeValue)
+        × IsOutcomeAt (map (λ d. d.outcomes.items) done.now) number outcome
+        × (ending ≡ ending_of outcome)
+        × Wrote (W.text out.old) (W.text out.new) (outcome_line outcome)) }
     ensures blame { BlamesOutput result (W.failed out.old) (W.failed out.new) }
 {
     let Some(outcome) = outcome_at(done, number) else {
@@ -167,7 +172,8 @@ fn print_turn<N: Naming, W: Sink>(
 }
 
 fn print_outcome<W: Sink>(outcome: &Outcome, out: &mut W) -> Result<(), ReplicaFault>
-    ensures printed { OnOk result (Wrote (W.text out.old) (W.text out.new) (outcome_line outcome.now)) }
+    ensures printed { OnOk result (Wrote (W.text out.old) (W.text out.new)
+        (outcome_line outcome.now)) }
     ensures blame { BlamesOutput result (W.failed out.old) (W.failed out.new) }
 {
     match write_outcome(out, outcome) {
@@ -177,14 +183,15 @@ fn print_outcome<W: Sink>(outcome: &Outcome, out: &mut W) -> Result<(), ReplicaF
 }
 
 // Hands all sessions back to the desk.
-fn close<N: Naming, D: Disk>(
+fn close<N: DeskNaming, D: Disk>(
     alloc: Global,
     desk: Desk<N, D>,
     done: Vec<Done<N>>,
 ) -> Result<Closed<D>, ReplicaFault>
     ensures receipts { IfOk result (λ closed. IsPermutation
         (receipts_of (map (λ d. d.session.receipts.items) done.items)) closed.receipts.items) }
-    ensures ok { IfOk result (λ closed. AreReceipts (length N.opening) closed.parts.log.steps closed.receipts.items) }
+    ensures ok { IfOk result (λ closed.
+        AreReceipts (length N.opening) closed.parts.log.steps closed.receipts.items) }
     ensures fault { IfErr result (λ fault. fault ≢ ReplicaFault.Output) }
 {
     let mut sessions = Vec::with_capacity(alloc, done.len())?;

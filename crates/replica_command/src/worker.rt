@@ -10,7 +10,7 @@ use replica_lines::{Outcome, Request};
 use stable_log::Disk;
 use std::alloc::{AllocError, Global};
 use std::sync::Wait;
-use vote_desk::{Desk, DeskError, Naming, Session};
+use vote_desk::{Desk, DeskError, DeskNaming, Session};
 
 /// A request, and its number from 0 in the order of the lines.
 #[derive(Drop)]
@@ -28,19 +28,19 @@ pub(crate) struct Answered {
 
 /// A worker's session, and the requests that were dealt to it.
 #[derive(Drop)]
-pub(crate) struct Work<N: Naming> {
+pub(crate) struct Work<N: DeskNaming> {
     pub session: Session<N>,
     pub requests: Vec<Asked>,
 }
 
 /// A worker's session after its work, and what came of its requests, in their order.
 #[derive(Drop)]
-pub(crate) struct Done<N: Naming> {
+pub(crate) struct Done<N: DeskNaming> {
     pub session: Session<N>,
     pub outcomes: Vec<Answered>,
 }
 
-impl<N: Naming> Work<N> {
+impl<N: DeskNaming> Work<N> {
     /// No requests yet.
     pub fn new(alloc: Global, session: Session<N>) -> Work<N>
         ensures { result.requests.items ≡ [] }
@@ -62,7 +62,8 @@ impl<N: Naming> Work<N> {
     ) -> Result<Done<N>, AllocError>
         requires { committee.now ≡ N.committee }
         ensures { IfOk result (λ done.
-            AreWorked N.committee N.replica self.requests.items done.session.receipts.items done.outcomes.items) }
+            AreWorked N.committee N.replica self.requests.items done.session.receipts.items
+            done.outcomes.items) }
     {
         let Work {
             mut session,
@@ -78,7 +79,7 @@ impl<N: Naming> Work<N> {
 }
 
 // What comes of a request.
-fn answer<N: Naming, T: Wait, D: Disk>(
+fn answer<N: DeskNaming, T: Wait, D: Disk>(
     rt: &T,
     desk: &Desk<N, D>,
     committee: &CommitteeView,
@@ -105,7 +106,7 @@ fn answer<N: Naming, T: Wait, D: Disk>(
 }
 
 // Checks a block, before the desk's lock is taken, and delivers it.
-fn deliver<N: Naming, T: Wait, D: Disk>(
+fn deliver<N: DeskNaming, T: Wait, D: Disk>(
     rt: &T,
     desk: &Desk<N, D>,
     committee: &CommitteeView,

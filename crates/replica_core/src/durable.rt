@@ -30,9 +30,17 @@ impl Model for Durable {
 
     ghost Value = { DurableValue };
 
-    ghost view = { λ d. record { stored_vote_view = d.stored_vote_view; lock_id = d.lock_id; lock_view = d.lock_view } };
+    ghost view = { λ d. record {
+      stored_vote_view = d.stored_vote_view;
+      lock_id = d.lock_id;
+      lock_view = d.lock_view;
+    } };
 
-    ghost inverse = { λ d. record { stored_vote_view = d.stored_vote_view; lock_id = d.lock_id; lock_view = d.lock_view } };
+    ghost inverse = { λ d. record {
+      stored_vote_view = d.stored_vote_view;
+      lock_id = d.lock_id;
+      lock_view = d.lock_view;
+    } };
 }
 
 impl Durable {
@@ -51,7 +59,8 @@ impl Durable {
     /// lock or younger than it, or a lock raised without a vote, which rises. Nothing else is judged:
     /// whether the block names this parent is not.
     pub fn allows(&self, entry: &Stored) -> bool
-        ensures { IsTrue result ↔ IsLegalEntry self.now entry.now.voted entry.now.block entry.now.parent }
+        ensures { IsTrue result ↔ IsLegalEntry self.now entry.now.voted entry.now.block
+            entry.now.parent }
     {
         if entry.voted {
             self.stored_vote_view < entry.block.view
@@ -66,7 +75,8 @@ impl Durable {
     /// Goes on by an entry, whether `allows` or not: a vote becomes the stored one, and the lock moves to
     /// the parent's parent where that is younger.
     pub fn take(&mut self, entry: &Stored)
-        ensures { self.new ≡ replay_entry self.old entry.now.voted entry.now.block entry.now.parent }
+        ensures { self.new ≡ replay_entry self.old entry.now.voted entry.now.block
+            entry.now.parent }
     {
         if entry.voted {
             self.stored_vote_view = entry.block.view;

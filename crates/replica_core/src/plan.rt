@@ -1,6 +1,6 @@
 //! What a core does with a block.
 
-use blocks::{Header, Id};
+use blocks::{Header, Id, NamedHeader};
 
 /// What a replica does with a block.
 #[derive(Clone, Copy, Debug, PartialEq, Eq)]
@@ -18,8 +18,8 @@ pub enum Act {
 pub struct Plan {
     /// What it does.
     pub act: Act,
-    /// The block.
-    pub block: Header,
+    /// The block, beside its id.
+    pub block: NamedHeader,
     /// The block's parent.
     pub parent: Header,
     /// The id of the block that the certificate on the parent commits.

@@ -43,7 +43,12 @@ impl Model for Core {
 
     ghost Value = { CoreValue };
 
-    ghost view = { λ c. record { genesis = c.genesis; state = state_of c.vote_view c.durable; headers = c.held.headers; room = c.held.room } };
+    ghost view = { λ c. record {
+      genesis = c.genesis;
+      state = state_of c.vote_view c.durable;
+      headers = c.held.headers;
+      room = c.held.room;
+    } };
 
     ghost invariant = { λ c. IsHeaderTree c.genesis c.held.headers };
 }
@@ -141,7 +146,8 @@ impl Core {
 
     // The held header of this id.
     fn find(&self, id: &Id) -> Option<&Header>
-        ensures found { MatchOption result (HasNone self.now.headers id.now) (λ h. HasId self.now.headers id.now h.now) }
+        ensures found { MatchOption result (HasNone self.now.headers id.now) (λ h.
+            HasId self.now.headers id.now h.now) }
         ensures tree { IsHeaderTree self.now.genesis self.now.headers }
     {
         self.held.get(id)
@@ -150,7 +156,8 @@ impl Core {
     // The parent of a held header, or none of genesis.
     fn parent_of(&self, header: &Header) -> Option<&Header>
         requires { Contains self.now.headers header.now }
-        ensures parent { MatchOption result (header.now ≡ self.now.genesis) (λ p. IsHeldParent self.now header.now p.now) }
+        ensures parent { MatchOption result (header.now ≡ self.now.genesis) (λ p.
+            IsHeldParent self.now header.now p.now) }
         ensures tree { IsHeaderTree self.now.genesis self.now.headers }
     {
         if *header == *self.genesis() {
@@ -177,7 +184,9 @@ impl Core {
     // Whether the rule of voting holds for a block: its view is above the vote view, and its parent is the
     // lock or younger than it.
     fn may_vote(&self, block: &Header) -> bool
-        ensures { IsTrue result ↔ ((self.now.state.vote_view < block.now.view) × ((self.now.state.lock_view < block.now.parent_view) ⊎ IsOnLock self.now.state block.now)) }
+        ensures { IsTrue result ↔ ((self.now.state.vote_view < block.now.view)
+            × ((self.now.state.lock_view < block.now.parent_view)
+            ⊎ IsOnLock self.now.state block.now)) }
     {
         let lock = self.durable.lock();
         self.vote_view < block.view
@@ -187,8 +196,10 @@ impl Core {
 
     // What the replica does with a block on this parent.
     fn act_for(&self, block: &Header, parent: &Header) -> Act
-        ensures { (ps : List HeaderValue) → IsChain self.now.genesis block.now (parent.now ∷ ps) → IsActOn self.now.genesis self.now.state block.now (parent.now ∷ ps) result }
+        ensures { (ps : List HeaderValue) → IsChain self.now.genesis block.now (parent.now ∷ ps)
+            → IsActOn self.now.genesis self.now.state block.now (parent.now ∷ ps) result }
     {
+        // For the proof: the rules need no header behind the parent.
         rules_look_at_the_parent();
         if self.may_vote(block) {
             Act::Vote
@@ -210,7 +221,8 @@ impl Core {
     #[tactic(auto, using(crate::proofs::Trees::one_of_id))]
     fn judge(&self, block: &NamedHeader) -> Result<&Header, CoreRefusal>
         ensures ok { OnOk result (IsAdmissible self.now block.now) }
-        ensures parent { IfOk result (λ p. HasId self.now.headers block.now.parent p.now × (p.now.view ≡ block.now.parent_view)) }
+        ensures parent { IfOk result (λ p. HasId self.now.headers block.now.parent p.now
+            × (p.now.view ≡ block.now.parent_view)) }
         ensures err { IfErr result (λ refusal. IsCoreRefusal refusal self.now block.now) }
     {
         let header = block.header();
@@ -232,8 +244,10 @@ impl Core {
     // Makes room for the block, unless it is held.
     fn make_room(&mut self, block: &NamedHeader) -> Result<(), AllocError>
         ensures same { IsSameCore self.old self.new }
-        ensures ok { OnOk result (Contains self.new.headers block.now ⊎ ((Contains self.new.headers block.now → ⊥) × (0 < self.new.room))) }
-        ensures err { OnErr result ((Contains self.old.headers block.now → ⊥) × (self.old.room ≡ 0)) }
+        ensures ok { OnOk result (Contains self.new.headers block.now
+            ⊎ ((Contains self.new.headers block.now → ⊥) × (0 < self.new.room))) }
+        ensures err { OnErr result ((Contains self.old.headers block.now → ⊥)
+            × (self.old.room ≡ 0)) }
     {
         if self.held.holds(block) {
             return Ok(());
@@ -242,10 +256,10 @@ impl Core {
     }
 
     // The plan for a block that passes the tests, on this parent.
-    #[tactic(auto, using(crate::proofs::Planned::plan_from, crate::proofs::Planned::place_from))]
-    fn plan(&self, block: &Header, parent: &Header) -> Plan
+    fn plan(&self, block: &NamedHeader, parent: &Header) -> Plan
         requires admissible { IsAdmissible self.now block.now }
-        requires room { Contains self.now.headers block.now ⊎ ((Contains self.now.headers block.now → ⊥) × (0 < self.now.room)) }
+        requires room { Contains self.now.headers block.now
+            ⊎ ((Contains self.now.headers block.now → ⊥) × (0 < self.now.room)) }
         requires held { Contains self.now.headers parent.now }
         requires names { NamesParent block.now parent.now }
         requires older { parent.now.view < block.now.view }
@@ -253,7 +267,7 @@ impl Core {
         ensures block { result.block ≡ block.now }
     {
         Plan {
-            act: self.act_for(block, parent),
+            act: self.act_for(block.header(), parent),
             block: *block,
             parent: *parent,
             committed: self.committed_by(parent),
@@ -271,15 +285,18 @@ impl Core {
 
         // The first test that fails refuses.
         ensures passes { OnOk result (IsAdmissible self.old block.now.header) }
-        ensures first_refusal { IfErr result (λ refusal. IsCoreRefusal refusal self.old block.now.header) }
+        ensures first_refusal { IfErr result (λ refusal.
+            IsCoreRefusal refusal self.old block.now.header) }
 
         // The state and the headers are as before.
         ensures same { IsSameCore self.old self.new }
     {
-        let named = NamedHeader::of(*block.header());
-        let parent = *self.judge(&named)?;
-        self.make_room(&named)?;
-        Ok(self.plan(named.header(), &parent))
+        // For the proof: the views of a header are in order.
+        let _view = block.header().view;
+        let block = block.named();
+        let parent = *self.judge(block)?;
+        self.make_room(block)?;
+        Ok(self.plan(block, &parent))
     }
 
     // Holds the block as well.
@@ -300,8 +317,11 @@ impl Core {
     fn vote(&mut self, block: &Header, parent: &Header)
         ensures headers { self.new.headers ≡ self.old.headers }
         ensures genesis { self.new.genesis ≡ self.old.genesis }
-        ensures state { (ps : List HeaderValue) → IsChain self.old.genesis block.now (parent.now ∷ ps) → self.new.state ≡ after self.old.state (Vote block.now (parent.now ∷ ps)) }
+        ensures state { (ps : List HeaderValue)
+            → IsChain self.old.genesis block.now (parent.now ∷ ps)
+            → self.new.state ≡ after self.old.state (Vote block.now (parent.now ∷ ps)) }
     {
+        // For the proof: the rules need no header behind the parent.
         rules_look_at_the_parent();
         self.vote_view = block.view;
         self.durable.take(&Stored {
@@ -315,8 +335,11 @@ impl Core {
     fn raise(&mut self, block: &Header, parent: &Header)
         ensures headers { self.new.headers ≡ self.old.headers }
         ensures genesis { self.new.genesis ≡ self.old.genesis }
-        ensures state { (ps : List HeaderValue) → IsChain self.old.genesis block.now (parent.now ∷ ps) → self.new.state ≡ after self.old.state (Raise block.now (parent.now ∷ ps)) }
+        ensures state { (ps : List HeaderValue)
+            → IsChain self.old.genesis block.now (parent.now ∷ ps)
+            → self.new.state ≡ after self.old.state (Raise block.now (parent.now ∷ ps)) }
     {
+        // For the proof: the rules need no header behind the parent.
         rules_look_at_the_parent();
         self.durable.take(&Stored {
             voted: false,
@@ -329,7 +352,9 @@ impl Core {
     fn act(&mut self, act: Act, block: &Header, parent: &Header)
         ensures headers { self.new.headers ≡ self.old.headers }
         ensures genesis { self.new.genesis ≡ self.old.genesis }
-        ensures state { (ps : List HeaderValue) → IsChain self.old.genesis block.now (parent.now ∷ ps) → self.new.state ≡ after self.old.state (event_of act block.now (parent.now ∷ ps)) }
+        ensures state { (ps : List HeaderValue)
+            → IsChain self.old.genesis block.now (parent.now ∷ ps)
+            → self.new.state ≡ after self.old.state (event_of act block.now (parent.now ∷ ps)) }
     {
         match act {
             Act::Vote => self.vote(block, parent),
@@ -349,8 +374,8 @@ impl Core {
         // The state is that after the vote, the raised lock, or the block that is passed by.
         ensures state { TakesEvent self.old plan self.new.state }
     {
-        self.hold(&NamedHeader::of(plan.block));
-        self.act(plan.act, &plan.block, &plan.parent);
+        self.hold(&plan.block);
+        self.act(plan.act, plan.block.header(), &plan.parent);
     }
 
     /// Gives up on all views up to this one: the vote view rises to it where it is lower. A restart forgets

@@ -44,7 +44,8 @@ fn known_headers(
     genesis: &NamedHeader,
     entries: &[Stored],
 ) -> Result<HeaderTable, AllocError>
-    ensures firsts { IfOk result (λ t. (h : HeaderValue) → Contains t.headers h ↔ IsFirstOfId (known_headers genesis.now entries.now) h) }
+    ensures firsts { IfOk result (λ t. (h : HeaderValue) → Contains t.headers h
+        ↔ IsFirstOfId (known_headers genesis.now entries.now) h) }
     ensures most { IfOk result (λ t. length t.headers ≤ 2 * length entries.now + 1) }
 {
     let mut known = HeaderTable::new(alloc);
@@ -69,7 +70,8 @@ fn by_view(table: HeaderTable) -> Vec<Header>
 // Whether the header is genesis, or its parent is there.
 #[tactic(auto, using(crate::proofs::Trees::one_of_id))]
 fn has_parent(held: &HeaderTable, genesis: &NamedHeader, header: &Header) -> bool
-    ensures { IsTrue result ↔ ((header.now ≡ genesis.now) ⊎ HasParentIn held.now.headers header.now) }
+    ensures { IsTrue result ↔ ((header.now ≡ genesis.now)
+        ⊎ HasParentIn held.now.headers header.now) }
 {
     if *header == *genesis.header() {
         return true;

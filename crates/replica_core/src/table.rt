@@ -28,7 +28,10 @@ impl Model for HeaderTable {
 
     ghost Value = { HeaderTableValue };
 
-    ghost view = { λ t. record { headers = t.headers.items; room = min (spare t.places) (vec_capacity t.headers - vec_len t.headers) } };
+    ghost view = { λ t. record {
+      headers = t.headers.items;
+      room = min (spare t.places) (vec_capacity t.headers - vec_len t.headers);
+    } };
 
     ghost invariant = { λ t. ArePlacesById t.headers.items (get bytes_eq t.places) };
 }
@@ -53,7 +56,8 @@ impl HeaderTable {
 
     /// The header of this id.
     pub fn get(&self, id: &Id) -> Option<&Header>
-        ensures found { MatchOption result (HasNone self.now.headers id.now) (λ h. HasId self.now.headers id.now h.now) }
+        ensures found { MatchOption result (HasNone self.now.headers id.now) (λ h.
+            HasId self.now.headers id.now h.now) }
         ensures apart { NoCollision self.now.headers }
         ensures once { AllDiffer self.now.headers }
     {

@@ -2,7 +2,7 @@
 use Rattle.std.proofs.Common.{◌≡◌, ◌+◌, ◌-◌, ◌<◌, ◌≤◌, ◌^◌, ℕ, List, [], ◌++◌, Option, Some, None, IfSome, length, take, drop, refl, sym, ap, ◌∙◌, subst, inl, inr, append_assoc, arith}
 use Rattle.std.proofs.lemmas.List.{append-nil, length-append, length-take, take-append-drop}
 use Rattle.std.specs.Io.KnownBytes.{Keeps}
-use Rattle.faults.specs.Counting.{one_more}
+use Rattle.streams.specs.Counting.{one_more}
 use Rattle.streams.specs.Streams.{Read}
 use Rattle.replica_lines.specs.Intakes.{HeldLine, IsTakenIn, held}
 use Rattle.replica_lines.specs.LineReading.{AreOfText, IsWhatWasRead}

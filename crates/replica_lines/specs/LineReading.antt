@@ -1,7 +1,7 @@
 -- The lines of a text, and the requests that are read of them.
 use Rattle.std.specs.Prelude.{◌≡◌, ◌≢◌, ◌<◌, ◌⊎◌, ◌++◌, ◌∷◌, [], ℕ, List, Option, Some, length, take}
 use Rattle.std.specs.List.{All, AllZip, Contains, flat_map}
-use Rattle.faults.specs.Counting.{one_more}
+use Rattle.streams.specs.Counting.{one_more}
 use Rattle.replica_lines.specs.Requests.{IsRequestOf}
 use Rattle.replica_lines.specs.declared.reading.TheConstants.{MOST_LINES}
 use Rattle.replica_lines.specs.declared.request.Request.{Request}

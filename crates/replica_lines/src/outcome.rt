@@ -2,7 +2,7 @@
 
 ghost use Rattle.std.specs.Prelude.{◌≡◌, ◌≤◌, ◌++◌, Some, OnErr, OnOk, codes, length};
 ghost use Rattle.hex.specs.Hex.{encode_lower};
-ghost use Rattle.faults.specs.Counting.{Counts};
+ghost use Rattle.streams.specs.Counting.{Counts};
 ghost use Rattle.streams.specs.Streams.{Wrote, WrotePart};
 ghost use Rattle.certificates.specs.Votes.{vote_text};
 ghost use Rattle.vote_desk.specs.declared.reply.Answer.TheVariants.{Voted};
@@ -38,7 +38,8 @@ pub enum Outcome {
 /// line was written.
 pub fn write_outcome<W: Sink>(out: &mut W, outcome: &Outcome) -> Result<(), Fault>
     ensures ok { OnOk result (Wrote (W.text out.old) (W.text out.new) (outcome_line outcome.now)) }
-    ensures err { OnErr result (WrotePart (W.text out.old) (W.text out.new) (outcome_line outcome.now)) }
+    ensures err { OnErr result (WrotePart (W.text out.old) (W.text out.new)
+        (outcome_line outcome.now)) }
     ensures counted { Counts (W.failed out.old) (W.failed out.new) result }
 {
     match outcome {
@@ -71,8 +72,10 @@ fn write_desk_error<W: Sink>(out: &mut W, error: DeskError) -> Result<(), Fault>
 
 fn write_numbered<W: Sink, I: Integer>(out: &mut W, words: &[u8], number: I) -> Result<(), Fault>
     requires { length words.now ≤ 20 }
-    ensures ok { OnOk result (Wrote (W.text out.old) (W.text out.new) (words.now ++ I.text number ++ codes "\n")) }
-    ensures err { OnErr result (WrotePart (W.text out.old) (W.text out.new) (words.now ++ I.text number ++ codes "\n")) }
+    ensures ok { OnOk result (Wrote (W.text out.old) (W.text out.new) (words.now ++ I.text number
+        ++ codes "\n")) }
+    ensures err { OnErr result (WrotePart (W.text out.old) (W.text out.new) (words.now
+        ++ I.text number ++ codes "\n")) }
     ensures counted { Counts (W.failed out.old) (W.failed out.new) result }
 {
     let mut line = Line::new();
@@ -83,8 +86,10 @@ fn write_numbered<W: Sink, I: Integer>(out: &mut W, words: &[u8], number: I) -> 
 }
 
 fn write_reply<W: Sink>(out: &mut W, reply: &Reply) -> Result<(), Fault>
-    ensures ok { OnOk result (Wrote (W.text out.old) (W.text out.new) (answer_text reply.now.act ++ commit_text reply.now.committed ++ codes "\n")) }
-    ensures err { OnErr result (WrotePart (W.text out.old) (W.text out.new) (answer_text reply.now.act ++ commit_text reply.now.committed ++ codes "\n")) }
+    ensures ok { OnOk result (Wrote (W.text out.old) (W.text out.new) (answer_text reply.now.act
+        ++ commit_text reply.now.committed ++ codes "\n")) }
+    ensures err { OnErr result (WrotePart (W.text out.old) (W.text out.new)
+        (answer_text reply.now.act ++ commit_text reply.now.committed ++ codes "\n")) }
     ensures counted { Counts (W.failed out.old) (W.failed out.new) result }
 {
     write_answer(out, &reply.act)?;
@@ -94,7 +99,8 @@ fn write_reply<W: Sink>(out: &mut W, reply: &Reply) -> Result<(), Fault>
 
 fn write_answer<W: Sink>(out: &mut W, answer: &Answer) -> Result<(), Fault>
     ensures ok { OnOk result (Wrote (W.text out.old) (W.text out.new) (answer_text answer.now)) }
-    ensures err { OnErr result (WrotePart (W.text out.old) (W.text out.new) (answer_text answer.now)) }
+    ensures err { OnErr result (WrotePart (W.text out.old) (W.text out.new)
+        (answer_text answer.now)) }
     ensures counted { Counts (W.failed out.old) (W.failed out.new) result }
 {
     match answer {
@@ -105,8 +111,10 @@ fn write_answer<W: Sink>(out: &mut W, answer: &Answer) -> Result<(), Fault>
 }
 
 fn write_receipt<W: Sink>(out: &mut W, receipt: &Receipt) -> Result<(), Fault>
-    ensures ok { OnOk result (Wrote (W.text out.old) (W.text out.new) (answer_text (Voted receipt.now))) }
-    ensures err { OnErr result (WrotePart (W.text out.old) (W.text out.new) (answer_text (Voted receipt.now))) }
+    ensures ok { OnOk result (Wrote (W.text out.old) (W.text out.new)
+        (answer_text (Voted receipt.now))) }
+    ensures err { OnErr result (WrotePart (W.text out.old) (W.text out.new)
+        (answer_text (Voted receipt.now))) }
     ensures counted { Counts (W.failed out.old) (W.failed out.new) result }
 {
     let mut front = Line::new();
@@ -127,7 +135,8 @@ fn vote_digits(vote: &SignedVote) -> [u8; 2 * VOTE_LEN]
 
 fn write_commit<W: Sink>(out: &mut W, committed: &Option<Id>) -> Result<(), Fault>
     ensures ok { OnOk result (Wrote (W.text out.old) (W.text out.new) (commit_text committed.now)) }
-    ensures err { OnErr result (WrotePart (W.text out.old) (W.text out.new) (commit_text committed.now)) }
+    ensures err { OnErr result (WrotePart (W.text out.old) (W.text out.new)
+        (commit_text committed.now)) }
     ensures counted { Counts (W.failed out.old) (W.failed out.new) result }
 {
     match committed {
@@ -138,7 +147,8 @@ fn write_commit<W: Sink>(out: &mut W, committed: &Option<Id>) -> Result<(), Faul
 
 fn write_committed_id<W: Sink>(out: &mut W, id: &Id) -> Result<(), Fault>
     ensures ok { OnOk result (Wrote (W.text out.old) (W.text out.new) (commit_text (Some id.now))) }
-    ensures err { OnErr result (WrotePart (W.text out.old) (W.text out.new) (commit_text (Some id.now))) }
+    ensures err { OnErr result (WrotePart (W.text out.old) (W.text out.new)
+        (commit_text (Some id.now))) }
     ensures counted { Counts (W.failed out.old) (W.failed out.new) result }
 {
     write_all(out, b" committed ")?;

@@ -2,7 +2,7 @@
 
 ghost use Rattle.std.specs.Prelude.{◌≡◌, ◌<◌, ◌≤◌, ◌+◌, ◌-◌, ◌^◌, ◌⊎◌, ◌↔◌, ◌++◌, ◌∷◌, [], ℕ, List, IfNone, IfOk, IfSome, IsTrue, OnErr, OnOk, length};
 ghost use Rattle.std.specs.List.{Contains};
-ghost use Rattle.faults.specs.Counting.{one_more};
+ghost use Rattle.streams.specs.Counting.{one_more};
 ghost use Rattle.replica_lines.specs.Intakes.{AddsRequestOf, IsTakenIn, held};
 ghost use Rattle.replica_lines.specs.LineReading.{AreOfText, IsLine, IsWhatWasRead};
 ghost use Rattle.replica_lines.specs.Requests.{IsRequestOf};
@@ -27,12 +27,15 @@ const PIECE_LEN: usize = 4096;
 /// that has none is dropped, since the failure may have cut it. An error is want of memory.
 pub fn read_requests<R: Feed>(alloc: Global, lines: &mut R) -> Result<Vec<Request>, AllocError>
     // Of a feed that tells what it has left, if that is not more than can be counted.
-    ensures ok { IfOk result (λ requests. IfSome (R.rest lines.old) (λ text. length text < 2 ^ 64 - 1 →
-        IsWhatWasRead text (R.rest lines.new) (R.failed lines.old) (R.failed lines.new) requests.items)) }
+    ensures ok { IfOk result (λ requests.
+        IfSome (R.rest lines.old) (λ text. length text < 2 ^ 64 - 1
+        → IsWhatWasRead text (R.rest lines.new) (R.failed lines.old)
+        (R.failed lines.new) requests.items)) }
 
     // Of any feed.
     ensures most { IfOk result (λ requests. length requests.items ≤ MOST_LINES) }
-    ensures counted { OnOk result ((R.failed lines.new ≡ R.failed lines.old) ⊎ (R.failed lines.new ≡ one_more (R.failed lines.old))) }
+    ensures counted { OnOk result ((R.failed lines.new ≡ R.failed lines.old)
+        ⊎ (R.failed lines.new ≡ one_more (R.failed lines.old))) }
     ensures err { OnErr result (R.failed lines.new ≡ R.failed lines.old) }
 {
     let mut intake = Intake::new(alloc);
@@ -79,8 +82,9 @@ impl Intake {
     // Takes in what was read next, up to the last line.
     fn take(&mut self, alloc: Global, piece: &[u8]) -> Result<(), AllocError>
         requires { length self.old.requests.items < MOST_LINES }
-        ensures ok { OnOk result ((text : List ℕ) → IsTakenIn text self.old.requests.items self.old.line →
-            IsTakenIn (text ++ piece.now) self.new.requests.items self.new.line) }
+        ensures ok { OnOk result ((text : List ℕ)
+            → IsTakenIn text self.old.requests.items self.old.line
+            → IsTakenIn (text ++ piece.now) self.new.requests.items self.new.line) }
         ensures most { length self.new.requests.items ≤ MOST_LINES }
     {
         let mut rest = piece;
@@ -98,8 +102,8 @@ impl Intake {
     // The requests of the whole text, of which the last line may lack its line feed.
     fn finish(self, alloc: Global) -> Result<Vec<Request>, AllocError>
         requires { length self.requests.items < MOST_LINES }
-        ensures ok { IfOk result (λ requests. (text : List ℕ) → IsTakenIn text self.requests.items self.line →
-            AreOfText text requests.items) }
+        ensures ok { IfOk result (λ requests. (text : List ℕ)
+            → IsTakenIn text self.requests.items self.line → AreOfText text requests.items) }
         ensures most { IfOk result (λ requests. length requests.items ≤ MOST_LINES) }
     {
         let mut intake = self;
@@ -113,7 +117,8 @@ impl Intake {
     fn end_line(&mut self, alloc: Global) -> Result<(), AllocError>
         ensures added { OnOk result ((line : List ℕ) → self.old.line ≡ held line →
             AddsRequestOf line self.old.requests.items self.new.requests.items) }
-        ensures count { OnOk result (length self.new.requests.items ≡ length self.old.requests.items + 1) }
+        ensures count { OnOk result (length self.new.requests.items ≡ length self.old.requests.items
+            + 1) }
         ensures kept { OnErr result (self.new.requests.items ≡ self.old.requests.items) }
         ensures next { OnOk result (self.new.line ≡ held []) }
     {
@@ -127,7 +132,8 @@ impl Intake {
 // What stands before the first line feed, and what stands behind it.
 fn cut(text: &[u8]) -> Option<(&[u8], &[u8])>
     ensures none { IfNone result (IsLine text.now) }
-    ensures some { IfSome result (λ parts. (text.now ≡ parts.0.now ++ 10 ∷ parts.1.now) × IsLine parts.0.now) }
+    ensures some { IfSome result (λ parts. (text.now ≡ parts.0.now ++ 10 ∷ parts.1.now)
+        × IsLine parts.0.now) }
 {
     let at = text.iter().position(|byte| *byte == b'\n')?;
     Some((&text[..at], &text[at + 1..]))
@@ -171,7 +177,8 @@ impl OpenLine {
 
     // Adds bytes at the end of the line, and holds those for which there is room.
     fn add(&mut self, piece: &[u8]) -> Result<(), AllocError>
-        ensures { OnOk result ((line : List ℕ) → self.old ≡ held line → self.new ≡ held (line ++ piece.now)) }
+        ensures { OnOk result ((line : List ℕ) → self.old ≡ held line
+            → self.new ≡ held (line ++ piece.now)) }
     {
         let n = (LONGEST_LINE - self.bytes.len()).min(piece.len());
         self.bytes.extend_from_slice(&piece[..n])?;
@@ -182,7 +189,8 @@ impl OpenLine {
     }
 
     fn request(&self, alloc: Global) -> Result<Request, AllocError>
-        ensures { IfOk result (λ request. (line : List ℕ) → self.now ≡ held line → IsRequestOf line request) }
+        ensures { IfOk result (λ request. (line : List ℕ) → self.now ≡ held line
+            → IsRequestOf line request) }
     {
         if self.is_too_long {
             return Ok(Request::BadLine);

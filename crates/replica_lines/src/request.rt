@@ -43,7 +43,8 @@ pub(crate) fn request_of(alloc: Global, line: &[u8]) -> Result<Request, AllocErr
 
 // What stands behind the word that the line begins with.
 fn behind<'a>(line: &'a [u8], word: &[u8]) -> Option<&'a [u8]>
-    ensures { MatchOption result ((rest : List ℕ) → line.now ≢ word.now ++ rest) (λ rest. line.now ≡ word.now ++ rest.now) }
+    ensures { MatchOption result ((rest : List ℕ) → line.now ≢ word.now ++ rest) (λ rest.
+        line.now ≡ word.now ++ rest.now) }
 {
     line.strip_prefix(word)
 }
@@ -75,7 +76,8 @@ fn block_in(alloc: Global, bytes: &[u8]) -> Result<Request, AllocError>
 
 // The refusal, unless it is for want of memory.
 fn refused_certificate(refusal: CertificateRefusal) -> Result<Request, AllocError>
-    ensures { IfOk result (λ request. (request ≡ Request.RefusedCertificate refusal) × (refusal ≢ CertificateRefusal.Memory)) }
+    ensures { IfOk result (λ request. (request ≡ Request.RefusedCertificate refusal)
+        × (refusal ≢ CertificateRefusal.Memory)) }
 {
     match refusal {
         CertificateRefusal::Memory => Err(AllocError),
@@ -86,7 +88,8 @@ fn refused_certificate(refusal: CertificateRefusal) -> Result<Request, AllocErro
 // The number of 64 bits that is printed so.
 fn number_in(digits: &[u8]) -> Option<u64>
     ensures some { IfSome result (λ number. digits.now ≡ decimal number) }
-    ensures none { IfNone result ((number : ℕ) → number < 2 ^ 64 → digits.now ≡ decimal number → ⊥) }
+    ensures none { IfNone result ((number : ℕ) → number < 2 ^ 64 → digits.now ≡ decimal number
+        → ⊥) }
 {
     let Ok(text) = from_utf8(digits) else {
         return None;

@@ -13,7 +13,8 @@ use std::simd::u32x8;
 fn next_word(ring: &mut [u32x8; 16], place: usize) -> u32x8
     requires { place < 16 }
     ensures value { (l : ℕ) → l < 8 → slice_index result l ≡ window_word (lane l ring.old) place }
-    ensures ring { (l : ℕ) → l < 8 → lane l ring.new ≡ slice_set (lane l ring.old) place (slice_index result l) }
+    ensures ring { (l : ℕ) → l < 8
+        → lane l ring.new ≡ slice_set (lane l ring.old) place (slice_index result l) }
 {
     let late = small_sigma1(ring[(place + 14) % 16]);
     let early = small_sigma0(ring[(place + 1) % 16]);
@@ -40,8 +41,8 @@ fn round(v: [u32x8; 8], constant: u32, word: u32x8) -> [u32x8; 8]
 #[inline(always)]
 fn first_round(v: [u32x8; 8], t: usize, word: u32x8) -> [u32x8; 8]
     requires { t < 16 }
-    ensures { (l : ℕ) → l < 8 → (b h : List ℕ) → slice_index word l ≡ word_at b (4 * t) → lane l v ≡ rounds h (schedule b 48) t
-        → lane l result ≡ rounds h (schedule b 48) (t + 1) }
+    ensures { (l : ℕ) → l < 8 → (b h : List ℕ) → slice_index word l ≡ word_at b (4 * t)
+        → lane l v ≡ rounds h (schedule b 48) t → lane l result ≡ rounds h (schedule b 48) (t + 1) }
 {
     round(v, ROUND_CONSTANTS[t], word)
 }
@@ -49,8 +50,8 @@ fn first_round(v: [u32x8; 8], t: usize, word: u32x8) -> [u32x8; 8]
 #[inline(always)]
 fn four_first_rounds(words: &[u32x8; 16], v: [u32x8; 8], t: usize) -> [u32x8; 8]
     requires { t + 4 ≤ 16 }
-    ensures { (l : ℕ) → l < 8 → (b h : List ℕ) → AreWordsOf (lane l words.now) b → lane l v ≡ rounds h (schedule b 48) t
-        → lane l result ≡ rounds h (schedule b 48) (t + 4) }
+    ensures { (l : ℕ) → l < 8 → (b h : List ℕ) → AreWordsOf (lane l words.now) b
+        → lane l v ≡ rounds h (schedule b 48) t → lane l result ≡ rounds h (schedule b 48) (t + 4) }
 {
     let v = first_round(v, t, words[t]);
     let v = first_round(v, t + 1, words[t + 1]);
@@ -64,7 +65,8 @@ fn later_round(ring: &mut [u32x8; 16], v: [u32x8; 8], turn: usize, place: usize)
     requires low { 1 ≤ turn }
     requires high { turn < 4 }
     requires place { place < 16 }
-    ensures { (l : ℕ) → l < 8 → (b h : List ℕ) → IsRoundsAt b h (lane l ring.old) (lane l v) (16 * turn + place)
+    ensures { (l : ℕ) → l < 8 → (b h : List ℕ)
+        → IsRoundsAt b h (lane l ring.old) (lane l v) (16 * turn + place)
         → IsRoundsAt b h (lane l ring.new) (lane l result) (16 * turn + (place + 1)) }
 {
     let word = next_word(ring, place);
@@ -76,7 +78,8 @@ fn four_later_rounds(ring: &mut [u32x8; 16], v: [u32x8; 8], turn: usize, place: 
     requires low { 1 ≤ turn }
     requires high { turn < 4 }
     requires place { place + 4 ≤ 16 }
-    ensures { (l : ℕ) → l < 8 → (b h : List ℕ) → IsRoundsAt b h (lane l ring.old) (lane l v) (16 * turn + place)
+    ensures { (l : ℕ) → l < 8 → (b h : List ℕ)
+        → IsRoundsAt b h (lane l ring.old) (lane l v) (16 * turn + place)
         → IsRoundsAt b h (lane l ring.new) (lane l result) (16 * turn + (place + 4)) }
 {
     let v = later_round(ring, v, turn, place);
@@ -119,7 +122,8 @@ fn add_states(h: [u32x8; 8], v: [u32x8; 8]) -> [u32x8; 8]
 
 /// The working variables after the first five rounds of blocks whose first five words are these.
 pub(crate) fn five_rounds(words: &[u32x8; 6]) -> [u32x8; 8]
-    ensures { (l : ℕ) → l < 8 → (b : List ℕ) → BeginsSo b (lane l words.now) → lane l result ≡ rounds initial_hash_256 (schedule b 48) 5 }
+    ensures { (l : ℕ) → l < 8 → (b : List ℕ) → BeginsSo b (lane l words.now)
+        → lane l result ≡ rounds initial_hash_256 (schedule b 48) 5 }
 {
     let v = first_round(initial_hashes(), 0, words[0]);
     let v = first_round(v, 1, words[1]);
@@ -131,7 +135,8 @@ pub(crate) fn five_rounds(words: &[u32x8; 6]) -> [u32x8; 8]
 /// The hash value after one block, from the working variables after its first five rounds.
 pub(crate) fn compress(words: &[u32x8; 16], after_five: &[u32x8; 8]) -> [u32x8; 8]
     ensures { (l : ℕ) → l < 8 → (b : List ℕ) → AreWordsOf (lane l words.now) b
-        → lane l after_five.now ≡ rounds initial_hash_256 (schedule b 48) 5 → lane l result ≡ compress initial_hash_256 b }
+        → lane l after_five.now ≡ rounds initial_hash_256 (schedule b 48) 5
+        → lane l result ≡ compress initial_hash_256 b }
 {
     let mut ring = *words;
     let v = first_round(*after_five, 5, words[5]);

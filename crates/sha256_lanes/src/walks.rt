@@ -26,7 +26,8 @@ fn word(bytes: &[u8], at: usize) -> u32
 #[inline(always)]
 fn prefix_words(prefixes: &[[u8; 22]; 8], k: usize) -> u32x8
     requires { k < 5 }
-    ensures { (l : ℕ) → l < 8 → slice_index result l ≡ word_at (slice_index_or prefixes.now l []) (4 * k) }
+    ensures { (l : ℕ) → l < 8
+        → slice_index result l ≡ word_at (slice_index_or prefixes.now l []) (4 * k) }
 {
     u32x8::from_array([
         word(&prefixes[0], 4 * k),
@@ -81,7 +82,8 @@ fn fronts(prefixes: &[[u8; 22]; 8]) -> [u32x8; 6]
 #[inline(always)]
 fn value_words(values: &[[u8; 32]; 8], k: usize) -> u32x8
     requires { k < 8 }
-    ensures { (l : ℕ) → l < 8 → slice_index result l ≡ word_at (slice_index_or values.now l []) (4 * k) }
+    ensures { (l : ℕ) → l < 8
+        → slice_index result l ≡ word_at (slice_index_or values.now l []) (4 * k) }
 {
     u32x8::from_array([
         word(&values[0], 4 * k),
@@ -98,6 +100,7 @@ fn value_words(values: &[[u8; 32]; 8], k: usize) -> u32x8
 fn are_bytes(bytes: &[u8])
     ensures { (i : ℕ) → slice_index bytes.now i < 256 }
 {
+    // For the proof: each item of a text is a byte.
     let _length = bytes.len();
 }
 
@@ -110,7 +113,8 @@ fn is_value(value: &[u8; 32])
 
 fn are_values(values: &[[u8; 32]; 8])
     ensures long { (l : ℕ) → l < 8 → length (slice_index_or values.now l []) ≡ 32 }
-    ensures bytes { (l : ℕ) → l < 8 → (i : ℕ) → slice_index (slice_index_or values.now l []) i < 256 }
+    ensures bytes { (l : ℕ) → l < 8 → (i : ℕ) → slice_index (slice_index_or values.now l []) i
+        < 256 }
 {
     is_value(&values[0]);
     is_value(&values[1]);
@@ -159,22 +163,25 @@ fn store(v: &[u32x8; 8], l: usize) -> [u8; 32]
 // A value stands behind 23 bytes, so each of its words lies in two words of the block.
 #[inline(always)]
 fn straddling(high: u32x8, low: u32x8) -> u32x8
-    ensures { (l : ℕ) → l < 8 → slice_index result l ≡ straddling_word (slice_index high l) (slice_index low l) }
+    ensures { (l : ℕ) → l < 8
+        → slice_index result l ≡ straddling_word (slice_index high l) (slice_index low l) }
 {
     add(last_bytes(high), first_byte(low))
 }
 
 #[inline(always)]
 fn behind_prefix(rest: u32x8, j: u32x8, value: u32x8) -> u32x8
-    ensures { (l : ℕ) → l < 8 → slice_index result l
-        ≡ add32 (add32 (slice_index rest l) (slice_index j l * 256 % 2 ^ 32)) (byte_at 3 (slice_index value l)) }
+    ensures { (l : ℕ) → l < 8
+        → slice_index result l ≡ add32 (add32 (slice_index rest l) (slice_index j l * 256 % 2 ^ 32))
+        (byte_at 3 (slice_index value l)) }
 {
     add(add(rest, last_bytes(j)), first_byte(value))
 }
 
 #[inline(always)]
 fn before_padding(value: u32x8) -> u32x8
-    ensures { (l : ℕ) → l < 8 → slice_index result l ≡ add32 (slice_index value l * 256 % 2 ^ 32) 0x80 }
+    ensures { (l : ℕ) → l < 8
+        → slice_index result l ≡ add32 (slice_index value l * 256 % 2 ^ 32) 0x80 }
 {
     add(last_bytes(value), u32x8::splat(0x80))
 }
@@ -182,8 +189,9 @@ fn before_padding(value: u32x8) -> u32x8
 // What step `j` of each chain hashes, with its padding.
 #[inline(always)]
 fn block(front: &[u32x8; 6], j: u32x8, v: &[u32x8; 8]) -> [u32x8; 16]
-    ensures { (l : ℕ) → l < 8 → (prefix : List ℕ) → IsFront (lane l front.now) prefix → slice_index j l < 256
-        → AreWordsOf (lane l result) (padded_message (prefix ++ slice_index j l ∷ [] ++ digest_bytes (lane l v.now) 8)) }
+    ensures { (l : ℕ) → l < 8 → (prefix : List ℕ) → IsFront (lane l front.now) prefix
+        → slice_index j l < 256 → AreWordsOf (lane l result)
+        (padded_message (prefix ++ slice_index j l ∷ [] ++ digest_bytes (lane l v.now) 8)) }
 {
     [
         front[0],
@@ -207,8 +215,10 @@ fn block(front: &[u32x8; 6], j: u32x8, v: &[u32x8; 8]) -> [u32x8; 16]
 
 #[inline(always)]
 fn step(front: &[u32x8; 6], after_five: &[u32x8; 8], j: u32x8, v: &[u32x8; 8]) -> [u32x8; 8]
-    ensures { (l : ℕ) → l < 8 → (prefix : List ℕ) → IsFront (lane l front.now) prefix → IsAfterFive (lane l after_five.now) (lane l front.now)
-        → slice_index j l < 256 → digest_bytes (lane l result) 8 ≡ chain_step prefix (slice_index j l) (digest_bytes (lane l v.now) 8) }
+    ensures { (l : ℕ) → l < 8 → (prefix : List ℕ) → IsFront (lane l front.now) prefix
+        → IsAfterFive (lane l after_five.now) (lane l front.now) → slice_index j l < 256
+        → digest_bytes (lane l result) 8
+        ≡ chain_step prefix (slice_index j l) (digest_bytes (lane l v.now) 8) }
 {
     let block = block(front, j, v);
     compress(&block, after_five)
@@ -242,8 +252,9 @@ pub fn walk_eight(
     starts: &[[u8; 32]; 8],
 ) -> [[u8; 32]; 8]
     requires { (l : ℕ) → l < 8 → slice_index from.now l + count ≤ 256 }
-    ensures { (l : ℕ) → l < 8 → slice_index_or result l []
-        ≡ chain_steps (slice_index_or prefixes.now l []) (slice_index from.now l) (slice_index from.now l + count) (slice_index_or starts.now l []) }
+    ensures { (l : ℕ) → l < 8
+        → slice_index_or result l [] ≡ chain_steps (slice_index_or prefixes.now l [])
+        (slice_index from.now l) (slice_index from.now l + count) (slice_index_or starts.now l []) }
 {
     let front = fronts(prefixes);
     let after_five = five_rounds(&front);

@@ -55,7 +55,8 @@ pub(crate) fn first_byte(x: u32x8) -> u32x8
 
 #[inline(always)]
 pub(crate) fn ch(x: u32x8, y: u32x8, z: u32x8) -> u32x8
-    ensures { (l : ℕ) → l < 8 → slice_index result l ≡ ch (slice_index x l) (slice_index y l) (slice_index z l) }
+    ensures { (l : ℕ) → l < 8
+        → slice_index result l ≡ ch (slice_index x l) (slice_index y l) (slice_index z l) }
 {
     (x & y) ^ (!x & z)
 }
@@ -63,7 +64,8 @@ pub(crate) fn ch(x: u32x8, y: u32x8, z: u32x8) -> u32x8
 // In one operation less than the standard has: `x ^ y` is also the `y ^ z` of the next round.
 #[inline(always)]
 pub(crate) fn maj(x: u32x8, y: u32x8, z: u32x8) -> u32x8
-    ensures { (l : ℕ) → l < 8 → slice_index result l ≡ maj (slice_index x l) (slice_index y l) (slice_index z l) }
+    ensures { (l : ℕ) → l < 8
+        → slice_index result l ≡ maj (slice_index x l) (slice_index y l) (slice_index z l) }
 {
     y ^ ((x ^ y) & (y ^ z))
 }

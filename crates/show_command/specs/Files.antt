@@ -13,7 +13,7 @@ use Rattle.stable_log.specs.Refusals.{IsDamaged}
 use Rattle.key_index_store.specs.Boundary.{IsBoundary}
 use Rattle.key_index_store.specs.Indices.{limit_of}
 use Rattle.key_index_store.specs.Refusals.{HasNoBoundary}
-use Rattle.key_index_store.specs.declared.store.TheConstants.{MOST_KEYS}
+use Rattle.wire.specs.declared.limits.TheConstants.{MOST_KEYS}
 use Rattle.show_command.specs.Entries.{ArePayloadsShown}
 use Rattle.show_command.specs.Kinds.{kind_in}
 use Rattle.show_command.specs.Lines.{committee_file, good_count_line, export_line, indices_line, journal_line, shown_key_line, path_line, shown_refusal_line, seed_line, verdict_lines}

@@ -2,6 +2,7 @@
 use Rattle.std.specs.Prelude.{ℕ, ◌==◌, ◌&&◌, List, Bool, length, slice_index, nat_le, codes, if◌then◌else◌}
 use Rattle.std.specs.Str.{bytes_eq}
 use Rattle.wire.specs.Pieces.{piece, number_at}
+use Rattle.lmots.specs.declared.keys.TheConstants.{PRIVATE_SEED_LEN}
 use Rattle.show_command.specs.declared.kind.Kind.{Kind}
 use Rattle.show_command.specs.declared.kind.Kind.TheVariants.{Seed, Committee, Verdict, Export, Journal, Indices, Other}
 
@@ -15,7 +16,7 @@ begins_with_index bytes = nat_le 13 (length bytes) && (slice_index bytes 8 == 1 
 
 abbrev pub kind_in : List ℕ → Kind
 kind_in bytes =
-    if length bytes == 48 then Seed
+    if length bytes == PRIVATE_SEED_LEN then Seed
     else if has_magic bytes (codes "HSC1") then Committee
     else if has_magic bytes (codes "HSC2") then Committee
     else if has_magic bytes (codes "HSC3") then Committee

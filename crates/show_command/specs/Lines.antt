@@ -2,7 +2,7 @@
 use Rattle.std.specs.Prelude.{ℕ, zero, suc, ◌-◌, ◌/◌, ◌==◌, ◌++◌, List, [], length, count_by, codes, decimal, Option, None, Some, Result, Ok, Err, if◌then◌else◌}
 use Rattle.hex.specs.Hex.{encode_lower}
 use Rattle.wire.specs.Pieces.{piece, number_at}
-use Rattle.wire.specs.declared.limits.TheConstants.{MOST_ENTRIES}
+use Rattle.wire.specs.declared.limits.TheConstants.{MOST_ENTRIES, MOST_KEYS}
 use Rattle.blocks.specs.Headers.{Header, header_id}
 use Rattle.blocks.specs.Committees.{has_many_keys, has_weights, n_of, weight_at, keys_of, key_id_at}
 use Rattle.blocks.specs.Genesis.{chain_id_of}
@@ -13,7 +13,7 @@ use Rattle.printed_lines.specs.Printed.{printed, refusal_text}
 use Rattle.log_format.specs.Readings.{status_name}
 use Rattle.log_format.specs.declared.status.Status.{Status}
 use Rattle.key_index_store.specs.Indices.{limit_of}
-use Rattle.key_index_store.specs.declared.store.TheConstants.{MOST_KEYS}
+use Rattle.verdict_format.specs.declared.verdict.TheConstants.{EARLIER_SIGNATURE_AT, LATER_SIGNATURE_AT}
 use Rattle.show_command.specs.Marks.{is_good, mark_text}
 use Rattle.show_command.specs.declared.mark.Mark.{Mark}
 
@@ -145,12 +145,12 @@ headers_lines rule None = if rule == 2 then codes "headers unreadable\n" else []
 headers_lines rule (Some h) =
     header_line (codes "first") h.earlier ++ header_line (codes "parent") h.parent ++ header_line (codes "second") h.later
 
--- the signatures of the votes begin with their indices, at 80 and at 1573
+-- the signatures of the votes begin with their indices
 abbrev pub verdict_lines : List ℕ → Mark → Mark → List ℕ
 verdict_lines bytes first second =
     rule_line (verdict_kind_in bytes) (replica_in bytes) ++ chain_line (chain_in bytes)
-    ++ vote_line (codes "first") (earlier_in bytes).view (earlier_in bytes).id (earlier_key_in bytes) (number_at 4 bytes 80) first
-    ++ vote_line (codes "second") (later_in bytes).view (later_in bytes).id (later_key_in bytes) (number_at 4 bytes 1573) second
+    ++ vote_line (codes "first") (earlier_in bytes).view (earlier_in bytes).id (earlier_key_in bytes) (number_at 4 bytes EARLIER_SIGNATURE_AT) first
+    ++ vote_line (codes "second") (later_in bytes).view (later_in bytes).id (later_key_in bytes) (number_at 4 bytes LATER_SIGNATURE_AT) second
     ++ headers_lines (verdict_kind_in bytes) (headers_in bytes)
 
 -- ---- a log

@@ -93,7 +93,8 @@ fn put_weighted_replica(
     weight: u32,
     key_id: &[u8; 16],
 ) -> Result<(), AllocError>
-    ensures { OnOk result (text.new.items ≡ text.old.items ++ weighted_replica_line r weight key_id.now) }
+    ensures { OnOk result (text.new.items ≡ text.old.items
+        ++ weighted_replica_line r weight key_id.now) }
 {
     append(text, b"replica ")?;
     put_number(text, r)?;
@@ -113,7 +114,8 @@ fn has_many_keys(committee: &CommitteeView) -> bool
 
 #[tactic(auto, unfolding(crate::specs::Lines::multikey_replica_front))]
 fn put_multikey_front(text: &mut Vec<u8>, r: u16, weight: u32, keys: u8) -> Result<(), AllocError>
-    ensures { OnOk result (text.new.items ≡ text.old.items ++ multikey_replica_front r weight keys) }
+    ensures { OnOk result (text.new.items ≡ text.old.items
+        ++ multikey_replica_front r weight keys) }
 {
     append(text, b"replica ")?;
     put_number(text, r)?;
@@ -126,7 +128,8 @@ fn put_multikey_front(text: &mut Vec<u8>, r: u16, weight: u32, keys: u8) -> Resu
 // Adds the ids of the keys of a replica.
 fn put_key_ids(text: &mut Vec<u8>, committee: &CommitteeView, r: u16) -> Result<(), AllocError>
     requires { r < n_of committee.now }
-    ensures { OnOk result (text.new.items ≡ text.old.items ++ key_ids committee.now r (keys_of committee.now r)) }
+    ensures { OnOk result (text.new.items ≡ text.old.items
+        ++ key_ids committee.now r (keys_of committee.now r)) }
 {
     for k in 0..committee.keys(r) {
         append(text, b" ")?;
@@ -141,7 +144,8 @@ fn put_multikey_replica(
     r: u16,
 ) -> Result<(), AllocError>
     requires { r < n_of committee.now }
-    ensures { OnOk result (text.new.items ≡ text.old.items ++ multikey_replica_line committee.now r) }
+    ensures { OnOk result (text.new.items ≡ text.old.items
+        ++ multikey_replica_line committee.now r) }
 {
     put_multikey_front(text, r, committee.weight(r), committee.keys(r))?;
     put_key_ids(text, committee, r)?;
@@ -165,7 +169,8 @@ fn put_member(text: &mut Vec<u8>, committee: &CommitteeView, r: u16) -> Result<(
 }
 
 fn put_replicas(text: &mut Vec<u8>, committee: &CommitteeView) -> Result<(), AllocError>
-    ensures { OnOk result (text.new.items ≡ text.old.items ++ replica_lines committee.now (n_of committee.now)) }
+    ensures { OnOk result (text.new.items ≡ text.old.items
+        ++ replica_lines committee.now (n_of committee.now)) }
 {
     for r in 0..committee.n() {
         put_member(text, committee, r)?;
@@ -176,7 +181,8 @@ fn put_replicas(text: &mut Vec<u8>, committee: &CommitteeView) -> Result<(), All
 /// Adds the line of a public key.
 #[tactic(auto, unfolding(crate::specs::Lines::shown_key_line))]
 pub(crate) fn put_key(text: &mut Vec<u8>, key: &PublicKey) -> Result<(), AllocError>
-    ensures { OnOk result (text.new.items ≡ text.old.items ++ shown_key_line key.now.key_id key.now.root) }
+    ensures { OnOk result (text.new.items ≡ text.old.items
+        ++ shown_key_line key.now.key_id key.now.root) }
 {
     append(text, b"key ")?;
     put_key_id(text, &key.key_id)?;

@@ -29,7 +29,8 @@ pub(crate) fn put_payload(
     k: usize,
     payload: &[u8],
 ) -> Result<(), AllocError>
-    ensures { OnOk result (AddsText text.old.items text.new.items marks.old.items marks.new.items (IsPayloadShown committee.now k payload.now)) }
+    ensures { OnOk result (AddsText text.old.items text.new.items marks.old.items marks.new.items
+        (IsPayloadShown committee.now k payload.now)) }
 {
     match Entry::read(alloc, payload) {
         Ok(entry) => put_entry(text, marks, committee, k, &entry),
@@ -39,7 +40,8 @@ pub(crate) fn put_payload(
 
 // Adds the line of a payload that is no entry, unless that is want of memory.
 fn put_refusal(text: &mut Vec<u8>, k: usize, refusal: EntryRefusal) -> Result<(), AllocError>
-    ensures text { OnOk result (text.new.items ≡ text.old.items ++ refused_entry_line k (entry_refusal_number refusal) (entry_refusal_name refusal)) }
+    ensures text { OnOk result (text.new.items ≡ text.old.items
+        ++ refused_entry_line k (entry_refusal_number refusal) (entry_refusal_name refusal)) }
     ensures not_memory { OnOk result (refusal ≢ EntryRefusal.Memory) }
 {
     match refusal {
@@ -50,7 +52,8 @@ fn put_refusal(text: &mut Vec<u8>, k: usize, refusal: EntryRefusal) -> Result<()
 
 #[tactic(auto, unfolding(crate::specs::Lines::refused_entry_line))]
 fn put_refused_entry(text: &mut Vec<u8>, k: usize, refusal: EntryRefusal) -> Result<(), AllocError>
-    ensures { OnOk result (text.new.items ≡ text.old.items ++ refused_entry_line k (entry_refusal_number refusal) (entry_refusal_name refusal)) }
+    ensures { OnOk result (text.new.items ≡ text.old.items
+        ++ refused_entry_line k (entry_refusal_number refusal) (entry_refusal_name refusal)) }
 {
     append(text, b"entry ")?;
     put_number(text, k)?;
@@ -69,7 +72,8 @@ fn put_entry(
     k: usize,
     entry: &Entry,
 ) -> Result<(), AllocError>
-    ensures { OnOk result (AddsText text.old.items text.new.items marks.old.items marks.new.items (IsEntryLine committee.now k entry.now)) }
+    ensures { OnOk result (AddsText text.old.items text.new.items marks.old.items marks.new.items
+        (IsEntryLine committee.now k entry.now)) }
 {
     // The number of the replica is not in the entry, so any number does.
     let own = entry.vote(0);
@@ -145,7 +149,8 @@ fn put_own(
     entry: &Entry,
     own: &Option<SignedVote>,
 ) -> Result<(), AllocError>
-    ensures { OnOk result (AddsText text.old.items text.new.items marks.old.items marks.new.items (IsOwnPart committee.now entry.now (own_of own.now))) }
+    ensures { OnOk result (AddsText text.old.items text.new.items marks.old.items marks.new.items
+        (IsOwnPart committee.now entry.now (own_of own.now))) }
 {
     match (own, committee) {
         (None, _) => Ok(()),
@@ -158,7 +163,8 @@ fn put_own(
 }
 
 fn put_own_key(text: &mut Vec<u8>, own: &SignedVote) -> Result<(), AllocError>
-    ensures { OnOk result (text.new.items ≡ text.old.items ++ own_key_part (record { key = own.now.key; signature = own.now.signature })) }
+    ensures { OnOk result (text.new.items ≡ text.old.items
+        ++ own_key_part (record { key = own.now.key; signature = own.now.signature })) }
 {
     put_key_part(text, own.key, u32_at(&own.signature, 0))
 }
@@ -198,7 +204,8 @@ fn put_voters(
     committee: &Option<CommitteeView>,
     certificate: &Certificate,
 ) -> Result<(), AllocError>
-    ensures { OnOk result (AddsText text.old.items text.new.items marks.old.items marks.new.items (AreVoterParts committee.now certificate.now)) }
+    ensures { OnOk result (AddsText text.old.items text.new.items marks.old.items marks.new.items
+        (AreVoterParts committee.now certificate.now)) }
 {
     for k in 0..certificate.count() {
         put_voter(text, marks, committee, &certificate.vote(k))?;
@@ -213,7 +220,8 @@ fn put_voter(
     committee: &Option<CommitteeView>,
     vote: &SignedVote,
 ) -> Result<(), AllocError>
-    ensures { OnOk result (AddsText text.old.items text.new.items marks.old.items marks.new.items (IsVotePart committee.now vote.now)) }
+    ensures { OnOk result (AddsText text.old.items text.new.items marks.old.items marks.new.items
+        (IsVotePart committee.now vote.now)) }
 {
     let mark = mark_of(
         committee,

@@ -1,7 +1,7 @@
 //! Why the program gives up, and the line that it prints then.
 
 ghost use Rattle.std.specs.Prelude.{◌≡◌, OnOk, OnErr};
-ghost use Rattle.faults.specs.Counting.{Counts};
+ghost use Rattle.streams.specs.Counting.{Counts};
 ghost use Rattle.streams.specs.Streams.{Wrote, WrotePart};
 ghost use Rattle.printed_lines.specs.Printed.{Told};
 ghost use Rattle.show_command.specs.FaultLines.{show_fault_line};
@@ -41,7 +41,8 @@ impl<'a> Fault<'a> {
 
     /// Writes the fault's line. What a failing sink does not take is lost: there is nowhere else to say it.
     pub fn tell<E: Sink>(&self, faults: &mut E)
-        ensures { Told (E.text faults.old) (E.text faults.new) (E.failed faults.old) (E.failed faults.new) (show_fault_line self.now) }
+        ensures { Told (E.text faults.old) (E.text faults.new) (E.failed faults.old)
+            (E.failed faults.new) (show_fault_line self.now) }
     {
         if self.write_line(faults).is_err() {
             // Nothing is left to tell it by.
@@ -49,8 +50,10 @@ impl<'a> Fault<'a> {
     }
 
     fn write_line<E: Sink>(&self, out: &mut E) -> Result<(), streams::Fault>
-        ensures ok { OnOk result (Wrote (E.text out.old) (E.text out.new) (show_fault_line self.now)) }
-        ensures err { OnErr result (WrotePart (E.text out.old) (E.text out.new) (show_fault_line self.now)) }
+        ensures ok { OnOk result (Wrote (E.text out.old) (E.text out.new)
+            (show_fault_line self.now)) }
+        ensures err { OnErr result (WrotePart (E.text out.old) (E.text out.new)
+            (show_fault_line self.now)) }
         ensures counted { Counts (E.failed out.old) (E.failed out.new) result }
     {
         match self {

@@ -3,10 +3,8 @@
 ghost use Rattle.std.specs.Prelude.{◌≡◌};
 ghost use Rattle.show_command.specs.Kinds.{begins_with_index, kind_in};
 
+use lmots::PRIVATE_SEED_LEN;
 use wire::u32_at;
-
-/// The length of a seed's file in bytes: the key id, then the seed.
-const SEED_LEN: usize = 48;
 
 /// The kinds of files, as they are told apart before they are read.
 #[derive(Clone, Copy, Debug, PartialEq, Eq)]
@@ -38,7 +36,7 @@ fn begins_with_index(bytes: &[u8]) -> bool
 pub(crate) fn kind_of(bytes: &[u8]) -> Kind
     ensures { result ≡ kind_in bytes.now }
 {
-    if bytes.len() == SEED_LEN {
+    if bytes.len() == PRIVATE_SEED_LEN {
         Kind::Seed
     } else if bytes.starts_with(b"HSC1")
         || bytes.starts_with(b"HSC2")

@@ -1,13 +1,12 @@
 //! Exports and journals as lines.
 
 ghost use Rattle.std.specs.Prelude.{◌≡◌, ◌<◌, ◌≤◌, ◌++◌, Some, IfOk, OnOk, decimal, false, length, slice_get, true};
-ghost use Rattle.key_index_store.specs.declared.store.TheConstants.{MOST_KEYS};
+ghost use Rattle.wire.specs.declared.limits.TheConstants.{MOST_ENTRIES, MOST_KEYS};
 ghost use Rattle.log_format.specs.Readings.{status_name};
 ghost use Rattle.show_command.specs.Entries.{ArePayloadsShown};
 ghost use Rattle.show_command.specs.Files.{IsWholeOrElse, IsExportText, IsIndicesText, IsJournalText, IsLogText, IsNoIndicesText, IsNoJournalText};
 ghost use Rattle.show_command.specs.Lines.{export_line, indices_line, journal_line, left_text, left_with, shown_refusal_line};
 ghost use Rattle.show_command.specs.Series.{AddsText};
-ghost use Rattle.wire.specs.declared.limits.TheConstants.{MOST_ENTRIES};
 
 use crate::digits::put_number;
 use crate::entry::put_payload;
@@ -15,11 +14,11 @@ use crate::mark::{Mark, put_count};
 use crate::names::put_refused;
 use crate::page::Page;
 use certificates::CommitteeView;
-use key_index_store::{INDICES, IndexError, IndexStore, MOST_KEYS};
+use key_index_store::{INDICES, IndexError, IndexStore};
 use log_format::{Frames, Status};
 use stable_log::{Journal, JournalError, MemoryDisk};
 use std::alloc::{AllocError, Global};
-use wire::{MOST_ENTRIES, append};
+use wire::{MOST_ENTRIES, MOST_KEYS, append};
 
 /// How many indices a replica with the most keys has.
 const MOST_INDICES: u32 = INDICES * MOST_KEYS as u32;
@@ -63,7 +62,8 @@ fn put_frames(
     committee: &Option<CommitteeView>,
     frames: &Frames<'_>,
 ) -> Result<(), AllocError>
-    ensures { OnOk result (AddsText text.old.items text.new.items marks.old.items marks.new.items (ArePayloadsShown committee.now frames.now.frames)) }
+    ensures { OnOk result (AddsText text.old.items text.new.items marks.old.items marks.new.items
+        (ArePayloadsShown committee.now frames.now.frames)) }
 {
     for k in 0..frames.len() {
         put_payload(alloc, text, marks, committee, k, frames.payload(k))?;
@@ -78,7 +78,9 @@ pub(crate) fn journal_page(
     committee: &Option<CommitteeView>,
     bytes: Vec<u8>,
 ) -> Result<Page, AllocError>
-    ensures { IfOk result (λ p. IsWholeOrElse (IsJournalText committee.now bytes.items p.text.items) (IsNoJournalText bytes.items p.text.items) p.is_whole) }
+    ensures { IfOk result (λ p.
+        IsWholeOrElse (IsJournalText committee.now bytes.items p.text.items)
+        (IsNoJournalText bytes.items p.text.items) p.is_whole) }
 {
     match Journal::recover(alloc, MemoryDisk::new(alloc, bytes)?) {
         Ok(journal) => entries_page(alloc, committee, journal),
@@ -95,7 +97,9 @@ fn entries_page(
     committee: &Option<CommitteeView>,
     mut journal: Journal<MemoryDisk>,
 ) -> Result<Page, AllocError>
-    ensures text { IfOk result (λ p. IsLogText committee.now (journal_line (length journal.payloads)) journal.payloads p.text.items) }
+    ensures text { IfOk result (λ p.
+        IsLogText committee.now (journal_line (length journal.payloads)) journal.payloads
+        p.text.items) }
     ensures whole { IfOk result (λ p. p.is_whole ≡ true) }
 {
     let mut text = Vec::new(alloc);
@@ -128,7 +132,8 @@ fn put_entries(
     committee: &Option<CommitteeView>,
     journal: &mut Journal<MemoryDisk>,
 ) -> Result<(), AllocError>
-    ensures { OnOk result (AddsText text.old.items text.new.items marks.old.items marks.new.items (ArePayloadsShown committee.now journal.old.payloads)) }
+    ensures { OnOk result (AddsText text.old.items text.new.items marks.old.items marks.new.items
+        (ArePayloadsShown committee.now journal.old.payloads)) }
 {
     let mut payload = Vec::new(alloc);
     for k in 0..journal.count() {
@@ -156,7 +161,9 @@ fn refused_page(alloc: Global, kind: &[u8], number: u8, name: &[u8]) -> Result<P
 /// What is shown of a journal that begins with an index: the number below which all indices are taken, and how many are
 /// left. It is read as one of the most keys, since it does not say how many there are.
 pub(crate) fn indices_page(alloc: Global, bytes: Vec<u8>) -> Result<Page, AllocError>
-    ensures { IfOk result (λ p. IsWholeOrElse (IsIndicesText bytes.items p.text.items) (IsNoIndicesText bytes.items p.text.items) p.is_whole) }
+    ensures { IfOk result (λ p.
+        IsWholeOrElse (IsIndicesText bytes.items p.text.items)
+        (IsNoIndicesText bytes.items p.text.items) p.is_whole) }
 {
     match IndexStore::recover(alloc, MemoryDisk::new(alloc, bytes)?, MOST_KEYS) {
         Ok(store) => taken_page(alloc, MOST_INDICES - store.left()),

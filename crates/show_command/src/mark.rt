@@ -52,7 +52,13 @@ pub(crate) fn mark_of(
     on: &Ballot,
     signature: &[u8],
 ) -> Mark
-    ensures { IsMark committee.now (record { replica = replica; view = on.now.view; id = on.now.id; key = key; signature = signature.now }) result }
+    ensures { IsMark committee.now (record {
+      replica = replica;
+      view = on.now.view;
+      id = on.now.id;
+      key = key;
+      signature = signature.now;
+    }) result }
 {
     let Some(committee) = committee else {
         return Mark::Unasked;
@@ -84,7 +90,8 @@ pub(crate) fn put_count(
     committee: &Option<CommitteeView>,
     marks: &[Mark],
 ) -> Result<(), AllocError>
-    ensures { OnOk result (text.new.items ≡ text.old.items ++ good_count_line committee.now marks.now) }
+    ensures { OnOk result (text.new.items ≡ text.old.items
+        ++ good_count_line committee.now marks.now) }
 {
     match committee {
         Some(_) => put_signatures(text, marks.len(), count_of_good(marks)),

@@ -45,7 +45,8 @@ pub(crate) fn put_refused(
     number: u8,
     name: &[u8],
 ) -> Result<(), AllocError>
-    ensures { OnOk result (text.new.items ≡ text.old.items ++ shown_refusal_line kind.now number name.now) }
+    ensures { OnOk result (text.new.items ≡ text.old.items
+        ++ shown_refusal_line kind.now number name.now) }
 {
     append(text, b"refused ")?;
     append(text, kind)?;

@@ -34,7 +34,8 @@ pub fn show(
     ensures shown { IfOk result (λ p. IsShown committee.now bytes.items p.text.items p.is_whole) }
 
     // Nothing of a seed is shown: the text of 48 bytes is that of their first 16.
-    ensures secret { length bytes.items ≡ 48 → IfOk result (λ p. p.text.items ≡ seed_line (take 16 bytes.items)) }
+    ensures secret { length bytes.items ≡ 48
+        → IfOk result (λ p. p.text.items ≡ seed_line (take 16 bytes.items)) }
 {
     match kind_of(&bytes) {
         Kind::Seed => seed_page(alloc, &bytes),
@@ -60,7 +61,8 @@ fn seed_page(alloc: Global, bytes: &[u8]) -> Result<Page, AllocError>
 }
 
 fn committee_page(alloc: Global, bytes: &[u8]) -> Result<Page, AllocError>
-    ensures { IfOk result (λ p. (p.text.items ≡ committee_file (committee_in bytes.now)) × (p.is_whole ≡ is_ok (committee_in bytes.now))) }
+    ensures { IfOk result (λ p. (p.text.items ≡ committee_file (committee_in bytes.now))
+        × (p.is_whole ≡ is_ok (committee_in bytes.now))) }
 {
     let mut text = Vec::new(alloc);
     match CommitteeView::parse(bytes) {
@@ -83,7 +85,9 @@ fn committee_page(alloc: Global, bytes: &[u8]) -> Result<Page, AllocError>
 
 // A public key, or a file of no kind.
 fn other_page(alloc: Global, bytes: &[u8]) -> Result<Page, AllocError>
-    ensures { IfOk result (λ p. IsWholeOrElse (IsKeyText bytes.now p.text.items) (IsUnknownText bytes.now p.text.items) p.is_whole) }
+    ensures { IfOk result (λ p.
+        IsWholeOrElse (IsKeyText bytes.now p.text.items)
+        (IsUnknownText bytes.now p.text.items) p.is_whole) }
 {
     let mut text = Vec::new(alloc);
     match PublicKey::parse(bytes) {

@@ -1,7 +1,7 @@
 //! What is shown of a file, as it is printed.
 
 ghost use Rattle.std.specs.Prelude.{◌≡◌, ◌⊎◌, ◌++◌, List, ℕ, Bool, IfErr, IfOk, IsErrOf, OnErr, OnOk};
-ghost use Rattle.faults.specs.Counting.{Counts, one_more};
+ghost use Rattle.streams.specs.Counting.{Counts, one_more};
 ghost use Rattle.streams.specs.Streams.{Wrote, WrotePart};
 ghost use Rattle.show_command.specs.Files.{IsPrinted};
 ghost use Rattle.show_command.specs.Lines.{path_line};
@@ -22,9 +22,13 @@ pub fn print_file<'a, W: Sink>(
     bytes: Vec<u8>,
     out: &mut W,
 ) -> Result<bool, Fault<'a>>
-    ensures ok { IfOk result (λ is_whole. (text : List ℕ) × IsPrinted committee.now path.now bytes.items text is_whole × Wrote (W.text out.old) (W.text out.new) text) }
+    ensures ok { IfOk result (λ is_whole. (text : List ℕ)
+        × IsPrinted committee.now path.now bytes.items text is_whole
+        × Wrote (W.text out.old) (W.text out.new) text) }
     ensures memory { IsErrOf result Fault.Memory → out.new ≡ out.old }
-    ensures output { IsErrOf result Fault.Output → (text : List ℕ) × (is_whole : Bool) × IsPrinted committee.now path.now bytes.items text is_whole × WrotePart (W.text out.old) (W.text out.new) text }
+    ensures output { IsErrOf result Fault.Output → (text : List ℕ) × (is_whole : Bool)
+        × IsPrinted committee.now path.now bytes.items text is_whole
+        × WrotePart (W.text out.old) (W.text out.new) text }
     ensures cause { IsErrOf result Fault.Output → W.failed out.new ≡ one_more (W.failed out.old) }
     ensures only { IfErr result (λ fault. (fault ≡ Fault.Memory) ⊎ (fault ≡ Fault.Output)) }
 {
@@ -37,8 +41,10 @@ pub fn print_file<'a, W: Sink>(
 
 // Writes the line that names a file, and this text behind it. After a fault a first part was written.
 fn print_page<W: Sink>(path: &str, text: &[u8], out: &mut W) -> Result<(), streams::Fault>
-    ensures ok { OnOk result (Wrote (W.text out.old) (W.text out.new) (path_line path.now ++ text.now)) }
-    ensures err { OnErr result (WrotePart (W.text out.old) (W.text out.new) (path_line path.now ++ text.now)) }
+    ensures ok { OnOk result (Wrote (W.text out.old) (W.text out.new) (path_line path.now
+        ++ text.now)) }
+    ensures err { OnErr result (WrotePart (W.text out.old) (W.text out.new) (path_line path.now
+        ++ text.now)) }
     ensures counted { Counts (W.failed out.old) (W.failed out.new) result }
 {
     write_all(out, b"file ")?;

@@ -41,7 +41,8 @@ pub fn run_show<F: Files<File = File>, W: Sink, E: Sink>(
 ) -> u8
     ensures silent { result ≢ 2 → faults.new ≡ faults.old }
     ensures told { result ≡ 2 → (fault : FaultValue)
-        × Told (E.text faults.old) (E.text faults.new) (E.failed faults.old) (E.failed faults.new) (show_fault_line fault) }
+        × Told (E.text faults.old) (E.text faults.new) (E.failed faults.old) (E.failed faults.new)
+        (show_fault_line fault) }
 {
     match run(rt, alloc, words, out) {
         Ok(true) => SHOWN,

@@ -1,10 +1,10 @@
 //! Verdicts as lines.
 
-ghost use Rattle.std.specs.Prelude.{◌≡◌, ◌++◌, ◌≤◌, ◌∷◌, [], IfOk, IfSome, OnOk, decimal, length};
+ghost use Rattle.std.specs.Prelude.{◌≡◌, ◌+◌, ◌++◌, ◌≤◌, ◌∷◌, [], IfOk, IfSome, OnOk, decimal, length};
 ghost use Rattle.hex.specs.Hex.{encode_lower};
-ghost use Rattle.verdict_format.specs.RuleNumbers.{rule_number};
 ghost use Rattle.verdict_format.specs.VerdictReading.{IsReadableVerdict};
-ghost use Rattle.verdict_format.specs.Verdicts.{verdict_kind_in, replica_in};
+ghost use Rattle.verdict_format.specs.Verdicts.{headers_in, verdict_kind_in, replica_in};
+ghost use Rattle.verdict_format.specs.declared.verdict.TheConstants.{LATER_SIGNATURE_AT};
 ghost use Rattle.show_command.specs.Files.{IsWholeOrElse, IsNoVerdictText, IsVerdictText};
 ghost use Rattle.show_command.specs.Lines.{good_count_line, header_line, headers_lines, rule_line, verdict_lines, vote_line};
 ghost use Rattle.show_command.specs.Marks.{IsMark, mark_text};
@@ -17,7 +17,7 @@ use crate::page::Page;
 use blocks::Header;
 use certificates::CommitteeView;
 use std::alloc::{AllocError, Global};
-use verdict_format::{Rule, VerdictView, VoteView, VotedHeaders};
+use verdict_format::{EARLIER_SIGNATURE_AT, LATER_SIGNATURE_AT, Shown, VerdictView, VoteView};
 use wire::{append, u32_at};
 
 /// What is shown of a file that begins as a verdict.
@@ -26,7 +26,9 @@ pub(crate) fn verdict_page(
     committee: &Option<CommitteeView>,
     bytes: &[u8],
 ) -> Result<Page, AllocError>
-    ensures { IfOk result (λ p. IsWholeOrElse (IsVerdictText committee.now bytes.now p.text.items) (IsNoVerdictText bytes.now p.text.items) p.is_whole) }
+    ensures { IfOk result (λ p.
+        IsWholeOrElse (IsVerdictText committee.now bytes.now p.text.items)
+        (IsNoVerdictText bytes.now p.text.items) p.is_whole) }
 {
     let mut text = Vec::new(alloc);
     match VerdictView::parse(bytes) {
@@ -53,7 +55,13 @@ pub(crate) fn verdict_page(
 
 // The mark of a vote of the accused replica.
 fn mark_in(committee: &Option<CommitteeView>, verdict: &VerdictView, vote: &VoteView) -> Mark
-    ensures { IsMark committee.now (record { replica = replica_in verdict.now; view = vote.now.view; id = vote.now.id; key = vote.now.key; signature = vote.now.signature.now }) result }
+    ensures { IsMark committee.now (record {
+      replica = replica_in verdict.now;
+      view = vote.now.view;
+      id = vote.now.id;
+      key = vote.now.key;
+      signature = vote.now.signature.now;
+    }) result }
 {
     mark_of(
         committee,
@@ -73,20 +81,27 @@ fn put_verdict(
     second: Mark,
 ) -> Result<(), AllocError>
     requires same { verdict.now ≡ bytes.now }
-    requires long { 3025 ≤ length bytes.now }
-    ensures { OnOk result (text.new.items ≡ text.old.items ++ verdict_lines bytes.now first second) }
+    requires long { LATER_SIGNATURE_AT + 4 ≤ length bytes.now }
+    ensures { OnOk result (text.new.items ≡ text.old.items
+        ++ verdict_lines bytes.now first second) }
 {
     put_rule(text, verdict.rule().number(), verdict.replica())?;
     put_chain(text, &verdict.chain())?;
-    put_vote(text, b"first", &verdict.earlier(), u32_at(bytes, 80), first)?;
+    put_vote(
+        text,
+        b"first",
+        &verdict.earlier(),
+        u32_at(bytes, EARLIER_SIGNATURE_AT),
+        first,
+    )?;
     put_vote(
         text,
         b"second",
         &verdict.later(),
-        u32_at(bytes, 1573),
+        u32_at(bytes, LATER_SIGNATURE_AT),
         second,
     )?;
-    put_headers(text, verdict.rule(), &verdict.headers())
+    put_shown(text, verdict)
 }
 
 #[tactic(auto, unfolding(crate::specs::Lines::rule_line))]
@@ -108,7 +123,8 @@ fn put_vote(
     index: u32,
     mark: Mark,
 ) -> Result<(), AllocError>
-    ensures { OnOk result (text.new.items ≡ text.old.items ++ vote_line place.now vote.now.view vote.now.id vote.now.key index mark) }
+    ensures { OnOk result (text.new.items ≡ text.old.items
+        ++ vote_line place.now vote.now.view vote.now.id vote.now.key index mark) }
 {
     append(text, b"vote ")?;
     append(text, place)?;
@@ -121,22 +137,19 @@ fn put_vote(
     append(text, b"\n")
 }
 
-// Adds the headers of a verdict on this rule, if they are readable.
-fn put_headers(
-    text: &mut Vec<u8>,
-    rule: Rule,
-    headers: &Option<VotedHeaders>,
-) -> Result<(), AllocError>
-    ensures { OnOk result (text.new.items ≡ text.old.items ++ headers_lines (rule_number rule) headers.now) }
+// Adds the headers of a lock violation, if they are readable.
+fn put_shown(text: &mut Vec<u8>, verdict: &VerdictView) -> Result<(), AllocError>
+    ensures { OnOk result (text.new.items
+        ≡ text.old.items ++ headers_lines (verdict_kind_in verdict.now) (headers_in verdict.now)) }
 {
-    match (rule, headers) {
-        (_, Some(headers)) => {
+    match &verdict.shown() {
+        None => append(text, b"headers unreadable\n"),
+        Some(Shown::DoubleVote) => Ok(()),
+        Some(Shown::LockViolation(headers)) => {
             put_header(text, b"first", &headers.earlier)?;
             put_header(text, b"parent", &headers.parent)?;
             put_header(text, b"second", &headers.later)
         }
-        (Rule::LockViolation, None) => append(text, b"headers unreadable\n"),
-        (Rule::DoubleVote, None) => Ok(()),
     }
 }
 

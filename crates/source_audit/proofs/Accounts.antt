@@ -23,8 +23,8 @@ use Rattle.evidence.specs.declared.refusal.EvidenceRefusal.TheVariants.{Collisio
 use Rattle.evidence.specs.declared.source.SourceReport.{SourceReport}
 use Rattle.parallel_verify.specs.Collections.{IsEvidenceOfSources, MayGive}
 use Rattle.parallel_verify.specs.declared.source.Source.{Source}
-use Rattle.accountability.specs.Commits.{IsCertified, IsProvedCommit, Stands, has_vote}
-use Rattle.accountability.proofs.Weights.{list_any-Has, weight_more}
+use Rattle.commit_search.specs.Commits.{IsCertified, IsProvedCommit, Stands, has_vote}
+use Rattle.commit_search.proofs.Weights.{list_any-Has, weight_more}
 use Rattle.culprit_search.specs.Reports.{AreMoreThanAThird, IsAudit, IsConflictOf, Report}
 use Rattle.culprit_search.specs.declared.report.Conflict.{Conflict as ConflictOf}
 use Rattle.source_audit.specs.Runs.{AccusesMoreThanAThird, HaveFailed, IsAccounted, IsAuditRun, IsCompleteSource, IsMemoryOrSink, IsRunRefusal, ProveAConflict}

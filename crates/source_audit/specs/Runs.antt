@@ -16,7 +16,7 @@ use Rattle.evidence.specs.declared.refusal.EvidenceRefusal.TheVariants.{Collisio
 use Rattle.evidence.specs.declared.source.SourceReport.{SourceReport}
 use Rattle.parallel_verify.specs.Collections.{HaveCollision, IsEvidenceOfSources}
 use Rattle.parallel_verify.specs.declared.source.Source.{Source}
-use Rattle.accountability.specs.Commits.{IsProvedCommit}
+use Rattle.commit_search.specs.Commits.{IsProvedCommit}
 use Rattle.culprit_search.specs.Reports.{AreMoreThanAThird, IsAudit, Report, accused_weight}
 use Rattle.culprit_search.specs.Verdicts.{IsOnLowerReplica}
 use Rattle.source_audit.specs.declared.run_error.RunError.{RunError}

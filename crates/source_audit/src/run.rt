@@ -2,7 +2,7 @@
 
 ghost use Rattle.std.specs.Prelude.{◌≡◌, ◌≢◌, List, IfErr, IfOk, IsErrOf, IsSome, MatchResult, OnOk};
 ghost use Rattle.std.specs.List.{All, AllZip};
-ghost use Rattle.faults.specs.Counting.{one_more};
+ghost use Rattle.streams.specs.Counting.{one_more};
 ghost use Rattle.streams.specs.Streams.{Wrote, WrotePart};
 ghost use Rattle.blocks.specs.Committees.{IsCommittee};
 ghost use Rattle.verdict_format.specs.Proofs.{IsProof};
@@ -50,13 +50,17 @@ fn read_sources<'a, R: Threads + Wait + Sync, C: Connector + Send, V: Verifier +
 fn report_on<W: Sink>(alloc: Global, evidence: &Evidence, sink: &mut W) -> Result<Report, RunError>
     ensures audit { IfOk result (IsAudit evidence.now) }
     ensures accepted { IfOk result (λ r. All (IsProof evidence.now.committee) r.verdicts) }
-    ensures more_than_a_third { IfOk result (λ r. IsSome r.conflict → AreMoreThanAThird evidence.now.committee r) }
-    ensures wrote { IfOk result (λ r. Wrote (W.text sink.old) (W.text sink.new) (report_text evidence.now.sources r)) }
+    ensures more_than_a_third { IfOk result (λ r. IsSome r.conflict
+        → AreMoreThanAThird evidence.now.committee r) }
+    ensures wrote { IfOk result (λ r.
+        Wrote (W.text sink.old) (W.text sink.new) (report_text evidence.now.sources r)) }
     ensures no_failure { OnOk result (W.failed sink.new ≡ W.failed sink.old) }
     ensures refused { IfErr result IsMemoryOrSink }
     ensures memory { IsErrOf result RunError.Memory → sink.new ≡ sink.old }
-    ensures sink { IsErrOf result RunError.Sink → (r : ReportValue) × IsAudit evidence.now r × WrotePart (W.text sink.old) (W.text sink.new) (report_text evidence.now.sources r) }
-    ensures cause { IsErrOf result RunError.Sink → W.failed sink.new ≡ one_more (W.failed sink.old) }
+    ensures sink { IsErrOf result RunError.Sink → (r : ReportValue) × IsAudit evidence.now r
+        × WrotePart (W.text sink.old) (W.text sink.new) (report_text evidence.now.sources r) }
+    ensures cause { IsErrOf result RunError.Sink
+        → W.failed sink.new ≡ one_more (W.failed sink.old) }
 {
     let report = audit(alloc, evidence)?;
     write_report(alloc, evidence, &report, sink)?;
@@ -82,16 +86,24 @@ pub fn audit_run<R: Threads + Wait + Sync, C: Connector + Send, W: Sink>(
     sink: &mut W,
 ) -> Result<Report, RunError>
     requires tries { All (MayBeTried C.allowed) sources.items }
-    ensures ok { IfOk result (λ r. (e : EvidenceValue) × IsAuditRun (MayGive C.gives) (IsStatusCaused C.failed) committee.now sources.items e r × Wrote (W.text sink.old) (W.text sink.new) (report_text e.sources r)) }
+    ensures ok { IfOk result (λ r. (e : EvidenceValue)
+        × IsAuditRun (MayGive C.gives) (IsStatusCaused C.failed) committee.now sources.items e r
+        × Wrote (W.text sink.old) (W.text sink.new) (report_text e.sources r)) }
     ensures accepted { IfOk result (λ r. All (IsProof committee.now) r.verdicts) }
     ensures no_failure { OnOk result (W.failed sink.new ≡ W.failed sink.old) }
     ensures refused { IfErr result (IsRunRefusal (MayGive C.gives) committee.now sources.items) }
     ensures unwritten { IfErr result (λ e. e ≢ NotWritten → sink.new ≡ sink.old) }
-    ensures sink { IsErrOf result RunError.Sink → (e : EvidenceValue) × (r : ReportValue) × IsAuditRun (MayGive C.gives) (IsStatusCaused C.failed) committee.now sources.items e r × WrotePart (W.text sink.old) (W.text sink.new) (report_text e.sources r) }
-    ensures cause { IsErrOf result RunError.Sink → W.failed sink.new ≡ one_more (W.failed sink.old) }
-    ensures accountability { (logs : List ReceivedLog) → IsCommittee committee.now → AllZip (IsCompleteSource C.gives) sources.items logs → ProveAConflict committee.now logs
-        → MatchResult result (λ r. (e : EvidenceValue) × IsAuditRun (MayGive C.gives) (IsStatusCaused C.failed) committee.now sources.items e r
-        × Wrote (W.text sink.old) (W.text sink.new) (report_text e.sources r) × IsAccounted committee.now e r) IsMemoryOrSink }
+    ensures sink { IsErrOf result RunError.Sink → (e : EvidenceValue) × (r : ReportValue)
+        × IsAuditRun (MayGive C.gives) (IsStatusCaused C.failed) committee.now sources.items e r
+        × WrotePart (W.text sink.old) (W.text sink.new) (report_text e.sources r) }
+    ensures cause { IsErrOf result RunError.Sink
+        → W.failed sink.new ≡ one_more (W.failed sink.old) }
+    ensures accountability { (logs : List ReceivedLog) → IsCommittee committee.now
+        → AllZip (IsCompleteSource C.gives) sources.items logs → ProveAConflict committee.now logs
+        → MatchResult result (λ r. (e : EvidenceValue)
+        × IsAuditRun (MayGive C.gives) (IsStatusCaused C.failed) committee.now sources.items e r
+        × Wrote (W.text sink.old) (W.text sink.new) (report_text e.sources r)
+        × IsAccounted committee.now e r) IsMemoryOrSink }
 {
     audit_run_by(rt, alloc, committee, &LmsVerifier, sources, sink)
 }
@@ -106,16 +118,24 @@ pub fn audit_run_by<R: Threads + Wait + Sync, C: Connector + Send, V: Verifier +
     sink: &mut W,
 ) -> Result<Report, RunError>
     requires tries { All (MayBeTried C.allowed) sources.items }
-    ensures ok { IfOk result (λ r. (e : EvidenceValue) × IsAuditRun (MayGive C.gives) (IsStatusCaused C.failed) committee.now sources.items e r × Wrote (W.text sink.old) (W.text sink.new) (report_text e.sources r)) }
+    ensures ok { IfOk result (λ r. (e : EvidenceValue)
+        × IsAuditRun (MayGive C.gives) (IsStatusCaused C.failed) committee.now sources.items e r
+        × Wrote (W.text sink.old) (W.text sink.new) (report_text e.sources r)) }
     ensures accepted { IfOk result (λ r. All (IsProof committee.now) r.verdicts) }
     ensures no_failure { OnOk result (W.failed sink.new ≡ W.failed sink.old) }
     ensures refused { IfErr result (IsRunRefusal (MayGive C.gives) committee.now sources.items) }
     ensures unwritten { IfErr result (λ e. e ≢ NotWritten → sink.new ≡ sink.old) }
-    ensures sink { IsErrOf result RunError.Sink → (e : EvidenceValue) × (r : ReportValue) × IsAuditRun (MayGive C.gives) (IsStatusCaused C.failed) committee.now sources.items e r × WrotePart (W.text sink.old) (W.text sink.new) (report_text e.sources r) }
-    ensures cause { IsErrOf result RunError.Sink → W.failed sink.new ≡ one_more (W.failed sink.old) }
-    ensures accountability { (logs : List ReceivedLog) → IsCommittee committee.now → AllZip (IsCompleteSource C.gives) sources.items logs → ProveAConflict committee.now logs
-        → MatchResult result (λ r. (e : EvidenceValue) × IsAuditRun (MayGive C.gives) (IsStatusCaused C.failed) committee.now sources.items e r
-        × Wrote (W.text sink.old) (W.text sink.new) (report_text e.sources r) × IsAccounted committee.now e r) IsMemoryOrSink }
+    ensures sink { IsErrOf result RunError.Sink → (e : EvidenceValue) × (r : ReportValue)
+        × IsAuditRun (MayGive C.gives) (IsStatusCaused C.failed) committee.now sources.items e r
+        × WrotePart (W.text sink.old) (W.text sink.new) (report_text e.sources r) }
+    ensures cause { IsErrOf result RunError.Sink
+        → W.failed sink.new ≡ one_more (W.failed sink.old) }
+    ensures accountability { (logs : List ReceivedLog) → IsCommittee committee.now
+        → AllZip (IsCompleteSource C.gives) sources.items logs → ProveAConflict committee.now logs
+        → MatchResult result (λ r. (e : EvidenceValue)
+        × IsAuditRun (MayGive C.gives) (IsStatusCaused C.failed) committee.now sources.items e r
+        × Wrote (W.text sink.old) (W.text sink.new) (report_text e.sources r)
+        × IsAccounted committee.now e r) IsMemoryOrSink }
 {
     a_complete_source_gives_its_log::<C>();
     let evidence = read_sources(rt, alloc, committee, verifier, sources)?;

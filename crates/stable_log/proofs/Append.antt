@@ -8,7 +8,7 @@ use Rattle.wire.specs.Payloads.{IsPayload}
 use Rattle.stable_log.specs.Image.{IsBeforeOrAfter, StandsFor, LeavesList, journal_text, staged_text}
 use Rattle.stable_log.specs.MemoryLaws.{length-written, torn_written}
 use Rattle.stable_log.specs.Places.{IsAtRest, IsPayloadStep, IsJournal, payloads_at, piece_at, with_text}
-use Rattle.stable_log.specs.declared.reading.Place.{Place}
+use Rattle.stable_log.specs.declared.reading.PayloadPlace.{PayloadPlace}
 use Rattle.stable_log.proofs.Crash.{stage_stands, IsStaged, is_staged, gate_stands, opened_is, with_payload, long_text}
 use Rattle.stable_log.proofs.Moments.{weaker}
 use Rattle.stable_log.proofs.Places.{Within, same_pieces, new_piece, length-payloads_at, torn_front, same_list}
@@ -29,14 +29,14 @@ step_front bs text end fits image (inr torn) =
     ∙ torn_front end (end + 1) (length text) bs mid (omega arith) fits (torn_written bs text (end + 1))
 
 -- a journal that runs, a payload for which it has room, and the text that is written for it
-module _ (o : Option (List ℕ)) (images : List ℕ → Type 0) (places : List Place) (end : ℕ) (stopped : Bool) (p : List ℕ) (j : IsJournal o images places end stopped) (runs : stopped ≡ false) (few : length places < 4096) (size : IsPayload p) (text : List ℕ) (is_text : text ≡ staged_text p) where
+module _ (o : Option (List ℕ)) (images : List ℕ → Type 0) (places : List PayloadPlace) (end : ℕ) (stopped : Bool) (p : List ℕ) (j : IsJournal o images places end stopped) (runs : stopped ≡ false) (few : length places < 4096) (size : IsPayload p) (text : List ℕ) (is_text : text ≡ staged_text p) where
   abbrev list : List ℕ → List (List ℕ)
   list bs = payloads_at (Some bs) places
 
   abbrev whole : List ℕ → List ℕ
   whole bs = with_text bs end (staged_text p)
 
-  abbrev place : Place
+  abbrev place : PayloadPlace
   place = record { at = end + 5; len = length p }
 
   at_rest : (bs : List ℕ) → o ≡ Some bs → IsAtRest bs images (list bs) end
@@ -116,7 +116,7 @@ module _ (o : Option (List ℕ)) (images : List ℕ → Type 0) (places : List P
         few = omega (arith, few, length-append places (place ∷ []));
         near = omega (arith, j.placed.near, size.1, length-append places (place ∷ []));
         inside = All-push (Within (end + 5 + length p)) places place (All-weaker (Within end) (Within (end + 5 + length p)) (λ q le. omega (arith, le)) places j.placed.inside) (omega arith);
-        small = All-push (λ (q : Place). q.len ≤ 65536) places place j.placed.small size.1;
+        small = All-push (λ (q : PayloadPlace). q.len ≤ 65536) places place j.placed.small size.1;
       };
       at_rest = λ _ cs is1.
           let from = mapped_some (λ bs. with_text bs end (staged_text p)) o cs (sym told ∙ is1) in

@@ -8,7 +8,7 @@ use Rattle.byteorder.specs.Numbers.{big_number-reads_back}
 use Rattle.wire.specs.Payloads.{IsPayload}
 use Rattle.stable_log.specs.Image.{magic, payload_text, AnImageStandsForOneList, StandsFor}
 use Rattle.stable_log.specs.Places.{Holds, IsBrokenAt, IsClosedAt, IsRead, payloads_at}
-use Rattle.stable_log.specs.declared.reading.Place.{Place}
+use Rattle.stable_log.specs.declared.reading.PayloadPlace.{PayloadPlace}
 use Rattle.stable_log.proofs.Places.{length-payloads_at}
 
 -- two lengths with the same four bytes are one
@@ -85,7 +85,7 @@ broken_size bs at len inside opened small read none =
     none (omega (arith, same, is.0)) (omega (arith, same, is.1)) (omega (arith, same, fits)))
 
 -- what stands for bytes whose front was read goes on from there
-pub read_front : (bs : List ℕ) (places : List Place) (end : ℕ) (list : List (List ℕ)) → IsRead bs places end → StandsFor bs list
+pub read_front : (bs : List ℕ) (places : List PayloadPlace) (end : ℕ) (list : List (List ℕ)) → IsRead bs places end → StandsFor bs list
     → (more : List (List ℕ)) × (list ≡ payloads_at (Some bs) places ++ more) × Holds (drop end bs) more
 read_front bs places end list read s =
     let front = payloads_at (Some bs) places in
@@ -97,17 +97,17 @@ read_front bs places end list read s =
     front_held front (drop end bs) list read.sizes held
 
 -- one list stands for bytes that were read up to a gate that is not open
-pub only_list : (bs : List ℕ) (places : List Place) (end : ℕ) → IsRead bs places end → IsClosedAt bs end → (list : List (List ℕ)) → StandsFor bs list → list ≡ payloads_at (Some bs) places
+pub only_list : (bs : List ℕ) (places : List PayloadPlace) (end : ℕ) → IsRead bs places end → IsClosedAt bs end → (list : List (List ℕ)) → StandsFor bs list → list ≡ payloads_at (Some bs) places
 only_list bs places end read shut list s =
     let on = read_front bs places end list read s in
     on.1 ∙ ap (λ (l : List (List ℕ)). payloads_at (Some bs) places ++ l) (none_held bs end on.0 shut on.2) ∙ append-nil (payloads_at (Some bs) places)
 
 -- none stands for bytes that are broken behind what was read
-pub no_list : (bs : List ℕ) (places : List Place) (end : ℕ) → IsRead bs places end → IsBrokenAt bs end → (list : List (List ℕ)) → StandsFor bs list → ⊥
+pub no_list : (bs : List ℕ) (places : List PayloadPlace) (end : ℕ) → IsRead bs places end → IsBrokenAt bs end → (list : List (List ℕ)) → StandsFor bs list → ⊥
 no_list bs places end read broken list s = let on = read_front bs places end list read s in broken on.0 on.2
 
 -- nor for bytes of too many entries
-pub no_long_list : (bs : List ℕ) (places : List Place) (end : ℕ) → IsRead bs places end → 4096 < length places → (list : List (List ℕ)) → StandsFor bs list → ⊥
+pub no_long_list : (bs : List ℕ) (places : List PayloadPlace) (end : ℕ) → IsRead bs places end → 4096 < length places → (list : List (List ℕ)) → StandsFor bs list → ⊥
 no_long_list bs places end read many list s =
     let on = read_front bs places end list read s in
     absurd (omega (arith, s.few, many, ap length on.1, length-append (payloads_at (Some bs) places) on.0, length-payloads_at (Some bs) places))

@@ -7,7 +7,7 @@ use Rattle.stable_log.specs.Crash.{Only}
 use Rattle.wire.specs.Payloads.{IsPayload}
 use Rattle.stable_log.specs.Image.{magic, payload_text, journal_text, StandsFor}
 use Rattle.stable_log.specs.Places.{IsClosedAt, IsPayloadAt, IsRead, IsJournal, ArePlaces, IsBrokenAt, IsPayloadRefusal, IsPayloadsRefusal, payloads_at, piece_at}
-use Rattle.stable_log.specs.declared.reading.Place.{Place}
+use Rattle.stable_log.specs.declared.reading.PayloadPlace.{PayloadPlace}
 use Rattle.stable_log.specs.Refusals.{IsDamaged, IsJournalRecoverRefusal}
 use Rattle.stable_log.specs.declared.error.JournalError.{JournalError}
 use Rattle.stable_log.specs.declared.error.JournalError.TheVariants.{Memory, Device, NotAJournal, Damaged, Full, TooLong, Stopped, NoSuchEntry}
@@ -18,7 +18,7 @@ use Rattle.stable_log.proofs.Told.{some_if}
 -- an open gate, a length and as many bytes are an entry
 pub entry_at : (bs : List ℕ) (end len : ℕ) → end + 5 + len ≤ length bs → 0 < len → len ≤ 65536 → get_or bs end 0 ≡ 1 → take 4 (drop (end + 1) bs) ≡ big_bytes 4 len → IsPayloadAt bs end (record { at = end + 5; len = len })
 entry_at bs end len fits some small open_gate size_is =
-    let place : Place = record { at = end + 5; len = len } in
+    let place : PayloadPlace = record { at = end + 5; len = len } in
     let piece = piece_at bs place in
     let long : length piece ≡ len = length-take-le len (drop (end + 5) bs) (omega (arith, length-drop (end + 5) bs)) in
     let rest = drop (end + 5 + len) bs in
@@ -37,7 +37,7 @@ entry_at bs end len fits some small open_gate size_is =
     five = omega arith
 
 -- one entry more
-pub read_more : (bs : List ℕ) (places : List Place) (end : ℕ) (place : Place) → IsRead bs places end → IsPayloadAt bs end place → place.at + place.len ≤ length bs → place.at ≡ end + 5 → IsRead bs (places ++ place ∷ []) (place.at + place.len)
+pub read_more : (bs : List ℕ) (places : List PayloadPlace) (end : ℕ) (place : PayloadPlace) → IsRead bs places end → IsPayloadAt bs end place → place.at + place.len ≤ length bs → place.at ≡ end + 5 → IsRead bs (places ++ place ∷ []) (place.at + place.len)
 read_more bs places end place so_far entry fits at_is =
     let list = payloads_at (Some bs) places in
     let piece = piece_at bs place in
@@ -56,7 +56,7 @@ read_more bs places end place so_far entry fits at_is =
     }
 
 -- up to a gate that is not open
-pub read_all : (bs : List ℕ) (places : List Place) (end : ℕ) → IsRead bs places end → IsClosedAt bs end → length places ≤ 4096 → StandsFor bs (payloads_at (Some bs) places)
+pub read_all : (bs : List ℕ) (places : List PayloadPlace) (end : ℕ) → IsRead bs places end → IsClosedAt bs end → length places ≤ 4096 → StandsFor bs (payloads_at (Some bs) places)
 read_all bs places end read shut few =
     record {
       gate = get_or bs end 0;
@@ -74,7 +74,7 @@ pub read_none : (bs : List ℕ) → take 8 bs ≡ magic → 8 ≤ length bs → 
 read_none bs front fits = record { front = front; fits = fits; sizes = λ k d lt. absurd (omega (arith, lt)) }
 
 -- what was read is a journal at rest
-pub journal_read : (o : Option (List ℕ)) (images : List ℕ → Type 0) (places : List Place) (end : ℕ) → ArePlaces places end
+pub journal_read : (o : Option (List ℕ)) (images : List ℕ → Type 0) (places : List PayloadPlace) (end : ℕ) → ArePlaces places end
     → ((bs : List ℕ) → o ≡ Some bs → IsRead bs places end × IsClosedAt bs end × Only bs images) → IsJournal o images places end false
 journal_read o images places end kept told = record {
   placed = kept;
@@ -87,7 +87,7 @@ journal_read o images places end kept told = record {
       };
 }
 
-pub stands_read : (o : Option (List ℕ)) (images : List ℕ → Type 0) (places : List Place) (end : ℕ) → ArePlaces places end
+pub stands_read : (o : Option (List ℕ)) (images : List ℕ → Type 0) (places : List PayloadPlace) (end : ℕ) → ArePlaces places end
     → ((bs : List ℕ) → o ≡ Some bs → IsRead bs places end × IsClosedAt bs end × Only bs images) → (bs : List ℕ) → o ≡ Some bs → StandsFor bs (payloads_at o places)
 stands_read o images places end kept told bs is =
     let t = told bs is in
@@ -116,5 +116,5 @@ entries_fault told now size at TooLong fault same long none = absurd fault
 entries_fault told now size at Stopped fault same long none = absurd fault
 entries_fault told now size at NoSuchEntry fault same long none = absurd fault
 
-pub only_read : (o : Option (List ℕ)) (places : List Place) (end : ℕ) (bs : List ℕ) → o ≡ Some bs → IsRead bs places end → IsClosedAt bs end → (list : List (List ℕ)) → StandsFor bs list → list ≡ payloads_at o places
+pub only_read : (o : Option (List ℕ)) (places : List PayloadPlace) (end : ℕ) (bs : List ℕ) → o ≡ Some bs → IsRead bs places end → IsClosedAt bs end → (list : List (List ℕ)) → StandsFor bs list → list ≡ payloads_at o places
 only_read o places end bs is read shut list s = only_list bs places end read shut list s ∙ ap (λ (v : Option (List ℕ)). payloads_at v places) (sym is)

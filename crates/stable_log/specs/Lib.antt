@@ -1,5 +1,5 @@
-pub use Rattle.faults.specs.Counting
-pub use Rattle.faults.specs.Fuse
+pub use Rattle.streams.specs.Counting
+pub use Rattle.streams.specs.Fuse
 pub mod Crash
 pub mod Devices
 pub mod Disk

@@ -6,25 +6,25 @@ use Rattle.stable_log.specs.Crash.{Only, Torn}
 use Rattle.wire.specs.Payloads.{IsPayload}
 use Rattle.wire.specs.declared.limits.TheConstants.{LONGEST_PAYLOAD, MOST_ENTRIES}
 use Rattle.stable_log.specs.Image.{payload_text, journal_text, StandsFor}
-use Rattle.stable_log.specs.declared.reading.Place.{Place}
+use Rattle.stable_log.specs.declared.reading.PayloadPlace.{PayloadPlace}
 use Rattle.stable_log.specs.declared.error.JournalError.{JournalError}
 use Rattle.stable_log.specs.declared.error.JournalError.TheVariants.{Memory, Device, Damaged}
 
 -- the bytes at a place
-abbrev pub piece_at : List ℕ → Place → List ℕ
+abbrev pub piece_at : List ℕ → PayloadPlace → List ℕ
 piece_at bytes place = take place.len (drop place.at bytes)
 
 -- the payloads at these places, each empty where the disk tells nothing
-abbrev pub payloads_at : Option (List ℕ) → List Place → List (List ℕ)
+abbrev pub payloads_at : Option (List ℕ) → List PayloadPlace → List (List ℕ)
 payloads_at None places = map (λ _. []) places
 payloads_at (Some bytes) places = map (piece_at bytes) places
 
 -- places of no more payloads than a journal has, all before the gate
-pub record ArePlaces (places : List Place) (end : ℕ) : Type 0 where
+pub record ArePlaces (places : List PayloadPlace) (end : ℕ) : Type 0 where
   pub few : length places ≤ MOST_ENTRIES
   pub near : end ≤ 8 + (5 + LONGEST_PAYLOAD) * length places
-  pub inside : All (λ (p : Place). p.at + p.len ≤ end) places
-  pub small : All (λ (p : Place). p.len ≤ LONGEST_PAYLOAD) places
+  pub inside : All (λ (p : PayloadPlace). p.at + p.len ≤ end) places
+  pub small : All (λ (p : PayloadPlace). p.len ≤ LONGEST_PAYLOAD) places
 
 -- all of the file is on the disk; it stands for the payloads, and its closed gate is at `end`
 pub record IsAtRest (bytes : List ℕ) (images : List ℕ → Type 0) (payloads : List (List ℕ)) (end : ℕ) : Type 0 where
@@ -33,7 +33,7 @@ pub record IsAtRest (bytes : List ℕ) (images : List ℕ → Type 0) (payloads 
   pub durable : Only bytes images
 
 -- what a journal keeps: its places, and while it is not stopped a file at rest
-pub record IsJournal (bytes : Option (List ℕ)) (images : List ℕ → Type 0) (places : List Place) (end : ℕ) (stopped : Bool) : Type 0 where
+pub record IsJournal (bytes : Option (List ℕ)) (images : List ℕ → Type 0) (places : List PayloadPlace) (end : ℕ) (stopped : Bool) : Type 0 where
   pub placed : ArePlaces places end
   pub at_rest : stopped ≡ false → (bs : List ℕ) → bytes ≡ Some bs → IsAtRest bs images (payloads_at (Some bs) places) end
 
@@ -42,7 +42,7 @@ abbrev pub IsClosedAt : List ℕ → ℕ → Type 0
 IsClosedAt bytes at = (at < length bytes) × (get_or bytes at 0 ≢ 1)
 
 -- an open gate stands there, and behind it a whole payload, at this place
-pub record IsPayloadAt (bytes : List ℕ) (at : ℕ) (place : Place) : Type 0 where
+pub record IsPayloadAt (bytes : List ℕ) (at : ℕ) (place : PayloadPlace) : Type 0 where
   pub text : drop at bytes ≡ payload_text (piece_at bytes place) ++ drop (place.at + place.len) bytes
   pub size : IsPayload (piece_at bytes place)
 
@@ -59,7 +59,7 @@ abbrev pub IsBrokenAt : List ℕ → ℕ → Type 0
 IsBrokenAt bytes at = (payloads : List (List ℕ)) → Holds (drop at bytes) payloads → ⊥
 
 -- the payloads up to a gate
-pub record IsRead (bytes : List ℕ) (places : List Place) (end : ℕ) : Type 0 where
+pub record IsRead (bytes : List ℕ) (places : List PayloadPlace) (end : ℕ) : Type 0 where
   pub front : take end bytes ≡ journal_text (payloads_at (Some bytes) places)
   pub fits : end ≤ length bytes
   pub sizes : All IsPayload (payloads_at (Some bytes) places)

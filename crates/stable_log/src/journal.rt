@@ -1,14 +1,15 @@
 //! A list of payloads on a disk.
 ghost use Rattle.std.specs.Prelude.{◌≡◌, ◌≢◌, ◌<◌, ◌≤◌, ◌+◌, ◌++◌, ◌∷◌, [], ℕ, List, true, false, Some, IfSome, IsSome, ◌↔◌, option_map, length, slice_get, take, IfOk, IfErr, OnErr, OnOk, IsErrOf};
-ghost use Rattle.faults.specs.Counting.{HasFailed};
+ghost use Rattle.streams.specs.Counting.{HasFailed};
 ghost use Rattle.wire.specs.declared.limits.TheConstants.{LONGEST_PAYLOAD, MOST_ENTRIES};
 ghost use Rattle.stable_log.specs.Crash.{Only, Torn, Follows};
 ghost use Rattle.stable_log.specs.Devices.{AtAnyMoment, Untouched};
 ghost use Rattle.stable_log.specs.Image.{empty_journal, staged_text, StandsFor, IsBeforeOrAfter, LeavesList};
+ghost use Rattle.stable_log.specs.State.{HasOneMore};
 ghost use Rattle.stable_log.specs.Refusals.{IsJournalCreateRefusal, IsJournalRecoverRefusal, MayAppend, IsJournalAppendRefusal, MayRead, IsJournalEntryRefusal, IsJournalEntryIntoRefusal};
 
 use crate::calls::{fill, fill_front, write_payload, write_synced};
-use crate::reading::{Place, read_journal};
+use crate::reading::{PayloadPlace, read_journal};
 use crate::{Disk, JournalError};
 use byteorder::{BigEndian, ByteOrder};
 use std::alloc::{AllocError, Global};
@@ -27,7 +28,7 @@ use wire::{LONGEST_PAYLOAD, MOST_ENTRIES};
 pub struct Journal<D: Disk> {
     alloc: Global,
     disk: D,
-    places: Vec<Place>,
+    places: Vec<PayloadPlace>,
     // the offset of the gate behind the last payload
     gate_at: u64,
     stopped: bool,
@@ -39,9 +40,14 @@ impl<D: Disk> Model for Journal<D> {
 
     ghost Value = { JournalState D };
 
-    ghost view = { λ j. record { disk = j.disk; payloads = payloads_at (D.bytes j.disk) j.places.items; stopped = j.stopped } };
+    ghost view = { λ j. record {
+      disk = j.disk;
+      payloads = payloads_at (D.bytes j.disk) j.places.items;
+      stopped = j.stopped;
+    } };
 
-    ghost invariant = { λ j. IsJournal (D.bytes j.disk) (D.images j.disk) j.places.items j.gate_at j.stopped };
+    ghost invariant = { λ j. IsJournal (D.bytes j.disk)
+        (D.images j.disk) j.places.items j.gate_at j.stopped };
 }
 
 // The length, the payload and a closed gate.
@@ -64,8 +70,10 @@ impl<D: Disk> Journal<D> {
     pub fn create(alloc: Global, disk: D) -> Result<Journal<D>, (JournalError, D)>
         ensures ok { IfOk result (λ j. (j.payloads ≡ []) × (j.stopped ≡ false)) }
         ensures exact { OnOk result (IfSome (D.bytes disk) (λ bytes. bytes ≡ [])) }
-        ensures told { IfOk result (λ j. D.bytes j.disk ≡ option_map (λ _. empty_journal) (D.bytes disk)) }
-        ensures durable { IfOk result (λ j. IfSome (D.bytes disk) (λ _. LeavesList (D.images j.disk) [])) }
+        ensures told { IfOk result (λ j.
+            D.bytes j.disk ≡ option_map (λ _. empty_journal) (D.bytes disk)) }
+        ensures durable { IfOk result (λ j.
+            IfSome (D.bytes disk) (λ _. LeavesList (D.images j.disk) [])) }
         ensures no_failure { IfOk result (λ j. D.failed j.disk ≡ D.failed disk) }
 
         ensures first_refusal { IfErr result (λ e. IsJournalCreateRefusal (D.bytes disk) e.0) }
@@ -75,7 +83,8 @@ impl<D: Disk> Journal<D> {
         ensures torn { IfErr result (λ e. Follows (Torn 0 9) (D.images disk) (D.images e.1)) }
         ensures cause { IfErr result (λ e. e.0 ≡ JournalError.Device →
             HasFailed (D.failed disk) (D.failed e.1)) }
-        ensures kept { IfErr result (λ e. e.0 ≢ JournalError.Device → D.failed e.1 ≡ D.failed disk) }
+        ensures kept { IfErr result (λ e. e.0 ≢ JournalError.Device
+            → D.failed e.1 ≡ D.failed disk) }
     {
         let mut disk = disk;
         match disk.len() {
@@ -100,9 +109,10 @@ impl<D: Disk> Journal<D> {
     /// Reads a journal that a crash or a failed call may have left. It begins with a sync and writes nothing. A
     /// refusal hands the disk back. In this order: `Memory`, `Device`, `NotAJournal`, `Damaged`.
     pub fn recover(alloc: Global, disk: D) -> Result<Journal<D>, (JournalError, D)>
-        ensures ok { IfOk result (λ j. IfSome (D.bytes disk) (λ bytes. StandsFor bytes j.payloads)) }
-        ensures only { IfOk result (λ j. IfSome (D.bytes disk) (λ bytes. (payloads : List (List ℕ)) →
-            StandsFor bytes payloads → payloads ≡ j.payloads)) }
+        ensures ok { IfOk result (λ j.
+            IfSome (D.bytes disk) (λ bytes. StandsFor bytes j.payloads)) }
+        ensures only { IfOk result (λ j. IfSome (D.bytes disk) (λ bytes. (payloads : List (List ℕ))
+            → StandsFor bytes payloads → payloads ≡ j.payloads)) }
         ensures running { IfOk result (λ j. j.stopped ≡ false) }
         ensures durable { IfOk result (λ j. IfSome (D.bytes disk) (λ bytes.
             Only bytes (D.images j.disk))) }
@@ -113,7 +123,8 @@ impl<D: Disk> Journal<D> {
         ensures err { IfErr result (λ e. Untouched D.Disk disk e.1) }
         ensures cause { IfErr result (λ e. e.0 ≡ JournalError.Device →
             HasFailed (D.failed disk) (D.failed e.1)) }
-        ensures kept { IfErr result (λ e. e.0 ≢ JournalError.Device → D.failed e.1 ≡ D.failed disk) }
+        ensures kept { IfErr result (λ e. e.0 ≢ JournalError.Device
+            → D.failed e.1 ≡ D.failed disk) }
     {
         let mut disk = disk;
         match read_journal(alloc, &mut disk) {
@@ -136,8 +147,7 @@ impl<D: Disk> Journal<D> {
 
         ensures ok { OnOk result (IfSome (D.bytes self.old.disk) (λ _.
             self.new.payloads ≡ self.old.payloads ++ payload.now ∷ [])) }
-        ensures counted { OnOk result (length self.new.payloads ≡ length self.old.payloads + 1) }
-        ensures running { OnOk result (self.new.stopped ≡ false) }
+        ensures grows { OnOk result (HasOneMore self.old self.new) }
         ensures exact { OnOk result (MayAppend self.old payload.now) }
         ensures durable { OnOk result (IfSome (D.bytes self.old.disk) (λ _.
             LeavesList (D.images self.new.disk) self.new.payloads)) }
@@ -150,8 +160,8 @@ impl<D: Disk> Journal<D> {
             (IsBeforeOrAfter self.old.payloads payload.now)) }
 
         ensures first_refusal { IfErr result (IsJournalAppendRefusal self.old payload.now) }
-        ensures device { IsErrOf result JournalError.Device → (self.new.payloads ≡ self.old.payloads)
-            × (self.new.stopped ≡ true) }
+        ensures device { IsErrOf result JournalError.Device
+            → (self.new.payloads ≡ self.old.payloads) × (self.new.stopped ≡ true) }
         ensures err { IfErr result (λ e. e ≢ JournalError.Device → self.new ≡ self.old) }
         ensures cause { IsErrOf result JournalError.Device →
             HasFailed (D.failed self.old.disk) (D.failed self.new.disk) }
@@ -174,7 +184,7 @@ impl<D: Disk> Journal<D> {
             return Err(JournalError::Device);
         }
         let len = payload.len() as u64;
-        self.places.push_reserved(Place {
+        self.places.push_reserved(PayloadPlace {
             at: gate_at + 5,
             len,
         });
@@ -189,8 +199,8 @@ impl<D: Disk> Journal<D> {
         ensures ok { OnOk result (IfSome (D.bytes self.old.disk) (λ _.
             slice_get self.old.payloads k ≡ Some out.new.items)) }
         ensures exact { OnOk result (MayRead self.old k) }
-        ensures same { (self.new.payloads ≡ self.old.payloads) × (self.new.stopped ≡ self.old.stopped)
-            × Untouched D.Disk self.old.disk self.new.disk }
+        ensures same { (self.new.payloads ≡ self.old.payloads)
+            × (self.new.stopped ≡ self.old.stopped) × Untouched D.Disk self.old.disk self.new.disk }
         ensures no_failure { OnOk result (D.failed self.new.disk ≡ D.failed self.old.disk) }
 
         ensures first_refusal { IfErr result (IsJournalEntryRefusal self.old k) }
@@ -228,8 +238,8 @@ impl<D: Disk> Journal<D> {
         ensures size { IfOk result (λ n. n ≤ LONGEST_PAYLOAD) }
         ensures room { length buffer.new ≡ length buffer.old }
         ensures exact { OnOk result (MayRead self.old k) }
-        ensures same { (self.new.payloads ≡ self.old.payloads) × (self.new.stopped ≡ self.old.stopped)
-            × Untouched D.Disk self.old.disk self.new.disk }
+        ensures same { (self.new.payloads ≡ self.old.payloads)
+            × (self.new.stopped ≡ self.old.stopped) × Untouched D.Disk self.old.disk self.new.disk }
         ensures no_failure { OnOk result (D.failed self.new.disk ≡ D.failed self.old.disk) }
 
         ensures first_refusal { IfErr result (IsJournalEntryIntoRefusal self.old k) }
@@ -244,7 +254,7 @@ impl<D: Disk> Journal<D> {
         if k >= self.places.len() {
             return Err(JournalError::NoSuchEntry);
         }
-        let Place { at, len } = self.places[k];
+        let PayloadPlace { at, len } = self.places[k];
         let len = len as usize;
         if fill_front(&mut self.disk, at, len, buffer).is_err() {
             return Err(JournalError::Device);

@@ -13,8 +13,8 @@ mod reading;
 
 pub use disk::Disk;
 pub use error::JournalError;
-pub use faults::Fault;
 pub use file_disk::FileDisk;
 pub use journal::Journal;
 pub use laws::an_image_stands_for_one_list;
 pub use memory_disk::{Choice, MemoryDisk};
+pub use streams::Fault;

@@ -1,14 +1,14 @@
 //! A disk in memory, for tests. It keeps its first bytes and each call since, from which its crash images follow.
 ghost use Rattle.std.specs.Prelude.{◌≡◌, ◌≤◌, ◌+◌, ◌-◌, ◌^◌, min, ℕ, Some, None, IfOk, IfSome, OnOk, OnErr, List, length, take, drop, [], ◌∷◌, ◌++◌, replicate};
 ghost use Rattle.stable_log.specs.Disk.{written};
-ghost use Rattle.faults.specs.Counting.{Counts, one_more};
+ghost use Rattle.streams.specs.Counting.{Counts, one_more};
 ghost use Rattle.stable_log.specs.Crash.{Torn, Only, Unwritten};
 ghost use Rattle.stable_log.specs.Memory.{disk_state, IsImageOf, WasImage};
 ghost use Rattle.stable_log.specs.MemoryLaws.{counts_now_of, only_now_of, as_read_of};
 
 use crate::Disk;
-use faults::{Fault, Fuse};
 use std::alloc::{AllocError, Global};
+use streams::{Fault, Fuse};
 
 // A call that changed the disk.
 #[derive(Drop)]
@@ -71,7 +71,8 @@ fn patch(
 ) -> Result<Vec<u8>, AllocError>
     ensures len { IfOk result (λ v. length v.items ≡ length piece.now) }
     ensures new { choice ≡ Choice.New → IfOk result (λ v. v.items ≡ piece.now) }
-    ensures fill { (b : ℕ) → choice ≡ Choice.Fill b → IfOk result (λ v. v.items ≡ replicate (length piece.now) b) }
+    ensures fill { (b : ℕ) → choice ≡ Choice.Fill b
+        → IfOk result (λ v. v.items ≡ replicate (length piece.now) b) }
 {
     match choice {
         Choice::Old | Choice::New => piece.to_vec(alloc),
@@ -109,7 +110,7 @@ fn torn(
 }
 
 impl MemoryDisk {
-    ghost use Rattle.faults.specs.Fuse.{after_call, is_burning};
+    ghost use Rattle.streams.specs.Fuse.{after_call, is_burning};
     ghost use Rattle.stable_log.specs.MemoryParts.{calls_of, fuse_of, synced_of};
 
     /// A disk of these bytes, all of them synced, with no call, no failure and no fuse.
@@ -153,7 +154,8 @@ impl MemoryDisk {
         ensures fuse { fuse_of self.new ≡ Some (pass, forever) }
         ensures same { Unwritten ⟦<MemoryDisk as Disk>⟧.bytes ⟦<MemoryDisk as Disk>⟧.images
             ⟦<MemoryDisk as Disk>⟧.moment ⟦<MemoryDisk as Disk>⟧.images_since self.old self.new }
-        ensures failed { ⟦<MemoryDisk as Disk>⟧.failed self.new ≡ ⟦<MemoryDisk as Disk>⟧.failed self.old }
+        ensures failed { ⟦<MemoryDisk as Disk>⟧.failed self.new
+            ≡ ⟦<MemoryDisk as Disk>⟧.failed self.old }
         ensures calls { calls_of self.new ≡ calls_of self.old }
     {
         self.fuse = Fuse::set(pass, forever);
@@ -217,7 +219,8 @@ impl MemoryDisk {
         ensures first { self.new.first ≡ self.old.first }
         ensures failures { self.new.failures ≡ self.old.failures }
         ensures ok { OnOk result ((self.new.bytes.items ≡ written self.old.bytes.items at piece.now)
-            × ((v : _) × (v.items ≡ piece.now) × (self.new.calls.items ≡ self.old.calls.items ++ Call.Write at v ∷ []))) }
+            × ((v : _) × (v.items ≡ piece.now)
+            × (self.new.calls.items ≡ self.old.calls.items ++ Call.Write at v ∷ []))) }
         ensures err { OnErr result ((self.new.bytes ≡ self.old.bytes)
             × (self.new.calls.items ≡ self.old.calls.items)) }
     {

@@ -1,7 +1,7 @@
 //! Reads what a file stands for. Nothing here writes.
 ghost use Rattle.std.specs.Prelude.{◌≡◌, ◌≢◌, ◌<◌, ◌≤◌, ◌+◌, ℕ, List, IsTrue, ◌↔◌, MatchOption, take, drop, Some, IfSome, length, IfOk, IfErr, OnOk, IsErrOf};
 ghost use Rattle.byteorder.specs.Endian.{big_bytes};
-ghost use Rattle.faults.specs.Counting.{HasFailed};
+ghost use Rattle.streams.specs.Counting.{HasFailed};
 ghost use Rattle.wire.specs.declared.limits.TheConstants.{LONGEST_PAYLOAD, MOST_ENTRIES};
 ghost use Rattle.stable_log.specs.Crash.{Only};
 ghost use Rattle.stable_log.specs.Devices.{Untouched};
@@ -16,7 +16,7 @@ use wire::{LONGEST_PAYLOAD, MOST_ENTRIES};
 
 // Where a payload stands in the file, and how long it is, in bytes.
 #[derive(Clone, Copy)]
-pub(crate) struct Place {
+pub(crate) struct PayloadPlace {
     pub(crate) at: u64,
     pub(crate) len: u64,
 }
@@ -33,17 +33,18 @@ fn read_payload<D: Disk>(
     disk: &mut D,
     size: u64,
     gate_at: u64,
-) -> Result<Option<Place>, JournalError>
+) -> Result<Option<PayloadPlace>, JournalError>
     ensures told { IfOk result (λ o. (bs : List ℕ) → D.bytes disk.old ≡ Some bs → size ≡ length bs →
         MatchOption o (IsClosedAt bs gate_at) (λ p. IsPayloadAt bs gate_at p)) }
-    ensures place { IfOk result (λ o. IfSome o (λ p. (p.at ≡ gate_at + 5) × (p.len ≤ LONGEST_PAYLOAD)
-        × (p.at + p.len ≤ size))) }
+    ensures place { IfOk result (λ o. IfSome o (λ p. (p.at ≡ gate_at + 5)
+        × (p.len ≤ LONGEST_PAYLOAD) × (p.at + p.len ≤ size))) }
     ensures unwritten { Untouched D.Disk disk.old disk.new }
     ensures no_failure { OnOk result (D.failed disk.new ≡ D.failed disk.old) }
     ensures first_refusal { IfErr result (IsPayloadRefusal (D.bytes disk.old) size gate_at) }
     ensures cause { IsErrOf result JournalError.Device →
         HasFailed (D.failed disk.old) (D.failed disk.new) }
-    ensures kept { IfErr result (λ e. e ≢ JournalError.Device → D.failed disk.new ≡ D.failed disk.old) }
+    ensures kept { IfErr result (λ e. e ≢ JournalError.Device
+        → D.failed disk.new ≡ D.failed disk.old) }
 {
     if gate_at >= size {
         return Err(JournalError::Damaged);
@@ -62,7 +63,7 @@ fn read_payload<D: Disk>(
     if len == 0 || len > LONGEST_PAYLOAD as u64 || len > size - gate_at - 5 {
         return Err(JournalError::Damaged);
     }
-    Ok(Some(Place {
+    Ok(Some(PayloadPlace {
         at: gate_at + 5,
         len,
     }))
@@ -73,7 +74,7 @@ fn read_payloads<D: Disk>(
     alloc: Global,
     disk: &mut D,
     size: u64,
-) -> Result<(Vec<Place>, u64), JournalError>
+) -> Result<(Vec<PayloadPlace>, u64), JournalError>
     requires { (bs : List ℕ) → D.bytes disk.old ≡ Some bs → (size ≡ length bs) × (take 8 bs ≡ magic)
         × (8 ≤ size) }
     ensures told { IfOk result (λ r. (bs : List ℕ) → D.bytes disk.old ≡ Some bs →
@@ -84,7 +85,8 @@ fn read_payloads<D: Disk>(
     ensures first_refusal { IfErr result (IsPayloadsRefusal (D.bytes disk.old)) }
     ensures cause { IsErrOf result JournalError.Device →
         HasFailed (D.failed disk.old) (D.failed disk.new) }
-    ensures kept { IfErr result (λ e. e ≢ JournalError.Device → D.failed disk.new ≡ D.failed disk.old) }
+    ensures kept { IfErr result (λ e. e ≢ JournalError.Device
+        → D.failed disk.new ≡ D.failed disk.old) }
 {
     let mut places = Vec::new(alloc);
     let mut gate_at = 8;
@@ -111,7 +113,7 @@ fn is_magic(head: &[u8; 8]) -> bool
 pub(crate) fn read_journal<D: Disk>(
     alloc: Global,
     disk: &mut D,
-) -> Result<(Vec<Place>, u64), JournalError>
+) -> Result<(Vec<PayloadPlace>, u64), JournalError>
     ensures told { IfOk result (λ r. (bs : List ℕ) → D.bytes disk.old ≡ Some bs →
         IsRead bs r.0.items r.1 × IsClosedAt bs r.1 × Only bs (D.images disk.new)) }
     ensures placed { IfOk result (λ r. ArePlaces r.0.items r.1) }
@@ -120,7 +122,8 @@ pub(crate) fn read_journal<D: Disk>(
     ensures first_refusal { IfErr result (IsJournalRecoverRefusal (D.bytes disk.old)) }
     ensures cause { IsErrOf result JournalError.Device →
         HasFailed (D.failed disk.old) (D.failed disk.new) }
-    ensures kept { IfErr result (λ e. e ≢ JournalError.Device → D.failed disk.new ≡ D.failed disk.old) }
+    ensures kept { IfErr result (λ e. e ≢ JournalError.Device
+        → D.failed disk.new ≡ D.failed disk.old) }
 {
     let size = settle(disk)?;
     if size < 8 {

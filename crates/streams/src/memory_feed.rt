@@ -3,7 +3,7 @@
 ghost use Rattle.std.specs.Prelude.{◌≡◌, None, Some};
 
 use crate::feed::Feed;
-use faults::{Fault, Fuse};
+use crate::{Fault, Fuse};
 use std::marker::Model;
 
 /// Gives bytes that it holds, and fails where it is told to. A contract sees the bytes that are left and
@@ -23,7 +23,11 @@ impl Model for MemoryFeed {
 
     ghost Value = { Memory };
 
-    ghost view = { λ f. record { bytes = drop f.given f.held.items; failures = f.failed; fuse = f.fuse } };
+    ghost view = { λ f. record {
+      bytes = drop f.given f.held.items;
+      failures = f.failed;
+      fuse = f.fuse;
+    } };
 
     ghost invariant = { λ f. f.given ≤ length f.held.items };
 }

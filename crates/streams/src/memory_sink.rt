@@ -3,7 +3,7 @@
 ghost use Rattle.std.specs.Prelude.{◌≡◌, [], None, Some};
 
 use crate::sink::Sink;
-use faults::{Fault, Fuse};
+use crate::{Fault, Fuse};
 use std::alloc::Global;
 use std::marker::Model;
 

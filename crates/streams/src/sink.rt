@@ -2,10 +2,10 @@
 
 ghost use Rattle.std.specs.Prelude.{◌≡◌, ◌≤◌, ◌<◌, ℕ, List, Option, IfOk, OnOk, OnErr, length, take};
 ghost use Rattle.std.specs.Io.KnownBytes.{Keeps};
-ghost use Rattle.faults.specs.Counting.{Counts};
+ghost use Rattle.streams.specs.Counting.{Counts};
 ghost use Rattle.streams.specs.Streams.{Wrote, WrotePart};
 
-use faults::Fault;
+use crate::Fault;
 
 /// Takes bytes in order. A contract names what a sink was given, where the sink tells it, and how many
 /// of its writes failed.

@@ -2,8 +2,8 @@
 
 ghost use Rattle.std.specs.Prelude.{◌≡◌};
 
+use crate::Fault;
 use crate::feed::Feed;
-use faults::Fault;
 use std::io::Read;
 use std::marker::Model;
 

@@ -2,8 +2,8 @@
 
 ghost use Rattle.std.specs.Prelude.{◌≡◌};
 
+use crate::Fault;
 use crate::sink::Sink;
-use faults::Fault;
 use std::io::Write;
 use std::marker::Model;
 

@@ -1,6 +1,6 @@
 -- Which faults say that a write to the sink failed.
 use Rattle.std.specs.Prelude.{◌≡◌, ◌≢◌, ℕ, List, Option, Result, Ok, Err}
-use Rattle.faults.specs.Counting.{one_more}
+use Rattle.streams.specs.Counting.{one_more}
 use Rattle.printed_lines.specs.Printed.{Told}
 use Rattle.tool_commands.specs.FaultLines.{tool_fault_line}
 use Rattle.tool_commands.specs.declared.fault.Fault.{Fault as FaultValue}

@@ -46,8 +46,10 @@ pub fn audit_sources<
 ) -> Result<bool, Fault<'a>>
 where
     F::Dir: Send,
-    ensures culprits { IfOk result (λ found. found ≡ true → AreCulpritsPrinted (W.text out.old) (W.text out.new)) }
-    ensures none { IfOk result (λ found. found ≡ false → IsNoCulpritPrinted (W.text out.old) (W.text out.new)) }
+    ensures culprits { IfOk result (λ found. found ≡ true
+        → AreCulpritsPrinted (W.text out.old) (W.text out.new)) }
+    ensures none { IfOk result (λ found. found ≡ false
+        → IsNoCulpritPrinted (W.text out.old) (W.text out.new)) }
     ensures counted { CountsWrites result (W.failed out.old) (W.failed out.new) }
 {
     let sources = read_source_words(host.alloc, words)?;
@@ -63,7 +65,6 @@ where
     Ok(has_culprits(&report))
 }
 
-// Prints the report on the sources.
 fn print_report<'a, T: Threads + Wait + Sync, C: Connector + Send, V: Verifier + Sync, W: Sink>(
     rt: &T,
     alloc: Global,
@@ -73,7 +74,8 @@ fn print_report<'a, T: Threads + Wait + Sync, C: Connector + Send, V: Verifier +
     out: &mut W,
 ) -> Result<Report, Fault<'a>>
     requires tries { All (MayBeTried C.allowed) sources.items }
-    ensures printed { IfOk result (λ report. IsAuditPrinted committee.now (W.text out.old) (W.text out.new) report.verdicts) }
+    ensures printed { IfOk result (λ report.
+        IsAuditPrinted committee.now (W.text out.old) (W.text out.new) report.verdicts) }
     ensures counted { CountsWrites result (W.failed out.old) (W.failed out.new) }
 {
     match audit_run_by(rt, alloc, committee, verifier, sources, out) {
@@ -90,7 +92,6 @@ fn has_culprits(report: &Report) -> bool
     !report.verdicts().is_empty()
 }
 
-// Sees that there is a folder for the verdicts.
 fn see_folder<'a, F: Files<File = File>>(files: &F, folder: &'a str) -> Result<(), Fault<'a>>
     ensures { IfErr result (λ fault. fault ≢ Fault.Output) }
 {

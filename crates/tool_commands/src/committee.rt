@@ -7,8 +7,7 @@ ghost use Rattle.tool_commands.specs.Writes.{CountsWrites};
 use crate::fault::{Fault, Place};
 use crate::new_file::replace_file;
 use blocks::{
-    CommitteeView, MOST_KEYS, Member, write_committee, write_multikey_committee,
-    write_weighted_committee,
+    CommitteeView, Member, write_committee, write_multikey_committee, write_weighted_committee,
 };
 use file_input::read_file;
 use lms_tree::PUBLIC_KEY_LEN;
@@ -16,7 +15,7 @@ use std::alloc::Global;
 use std::fs::{File, Files};
 use streams::{Sink, write_all};
 use tool_words::WeightedReplica;
-use wire::array_at;
+use wire::{MOST_KEYS, array_at};
 
 /// Reads the key files, 56 bytes each, the key of replica 0 first. Where they make a committee of f
 /// faulty replicas, writes its bytes to `path`, new or in place of what was there, and prints `chain ` and the
@@ -90,7 +89,7 @@ fn text_of<'a>(alloc: Global, members: &[Member]) -> Result<Vec<u8>, Fault<'a>>
     ensures { IfErr result (λ fault. fault ≢ Fault.Output) }
 {
     // There are 4 to 31 of them, each with one to four keys; the writers ask for these bounds.
-    if members.len() > 65_535 || members.iter().any(|m| m.keys.len() > MOST_KEYS) {
+    if members.len() > 65_535 || members.iter().any(|m| m.keys.len() > MOST_KEYS as usize) {
         return Err(Fault::Usage);
     }
     if members.iter().all(|m| m.keys.len() == 1) {

@@ -2,7 +2,7 @@
 
 ghost use Rattle.std.specs.IoError.{error_kind};
 ghost use Rattle.std.specs.Prelude.{◌≡◌, ◌≢◌, ◌↔◌, ◌++◌, codes, OnOk, OnErr};
-ghost use Rattle.faults.specs.Counting.{Counts};
+ghost use Rattle.streams.specs.Counting.{Counts};
 ghost use Rattle.streams.specs.Streams.{Wrote, WrotePart};
 ghost use Rattle.printed_lines.specs.Printed.{Told};
 ghost use Rattle.key_files.specs.KeyFiles.{file_name};
@@ -87,8 +87,10 @@ impl<'a> Fault<'a> {
     /// Why an audit gave no report.
     pub fn of_run(error: RunError) -> Fault<'a>
         ensures memory { error ≡ RunError.Memory → result ≡ Fault.Memory }
-        ensures committee { (refusal : CommitteeRefusalValue) → error ≡ RunError.Committee refusal → result ≡ Fault.Committee refusal }
-        ensures collision { (h : HeaderValue) (k : HeaderValue) → error ≡ RunError.Collision h k → result ≡ Fault.Collision }
+        ensures committee { (refusal : CommitteeRefusalValue) → error ≡ RunError.Committee refusal
+            → result ≡ Fault.Committee refusal }
+        ensures collision { (h : HeaderValue) (k : HeaderValue) → error ≡ RunError.Collision h k
+            → result ≡ Fault.Collision }
         ensures output { error ≡ RunError.Sink ↔ result ≡ Fault.Output }
     {
         match error {
@@ -112,7 +114,8 @@ impl<'a> Fault<'a> {
 
     /// Writes the fault's line. What a failing sink does not take is lost: there is nowhere else to say it.
     pub fn tell<E: Sink>(&self, faults: &mut E)
-        ensures { Told (E.text faults.old) (E.text faults.new) (E.failed faults.old) (E.failed faults.new) (tool_fault_line self.now) }
+        ensures { Told (E.text faults.old) (E.text faults.new) (E.failed faults.old)
+            (E.failed faults.new) (tool_fault_line self.now) }
     {
         if self.write_line(faults).is_err() {
             // Nothing is left to tell it by.
@@ -120,8 +123,10 @@ impl<'a> Fault<'a> {
     }
 
     fn write_line<E: Sink>(&self, out: &mut E) -> Result<(), streams::Fault>
-        ensures ok { OnOk result (Wrote (E.text out.old) (E.text out.new) (tool_fault_line self.now)) }
-        ensures err { OnErr result (WrotePart (E.text out.old) (E.text out.new) (tool_fault_line self.now)) }
+        ensures ok { OnOk result (Wrote (E.text out.old) (E.text out.new)
+            (tool_fault_line self.now)) }
+        ensures err { OnErr result (WrotePart (E.text out.old) (E.text out.new)
+            (tool_fault_line self.now)) }
         ensures counted { Counts (E.failed out.old) (E.failed out.new) result }
     {
         match self {
@@ -144,7 +149,8 @@ impl Place<'_> {
     // The line of a fault of this file.
     fn write_line<E: Sink>(&self, out: &mut E) -> Result<(), streams::Fault>
         ensures ok { OnOk result (Wrote (E.text out.old) (E.text out.new) (place_line self.now)) }
-        ensures err { OnErr result (WrotePart (E.text out.old) (E.text out.new) (place_line self.now)) }
+        ensures err { OnErr result (WrotePart (E.text out.old) (E.text out.new)
+            (place_line self.now)) }
         ensures counted { Counts (E.failed out.old) (E.failed out.new) result }
     {
         match self {

@@ -38,8 +38,10 @@ pub fn replica<
     lines: &mut R,
     out: &mut W,
 ) -> Result<Ending, Fault<'a>>
-    ensures stopped { IfOk result (λ ending. ending ≡ Ending.Stopped → IsStopPrinted (W.text out.old) (W.text out.new)) }
-    ensures done { IfOk result (λ ending. ending ≡ Ending.Done → IsDonePrinted (W.text out.old) (W.text out.new)) }
+    ensures stopped { IfOk result (λ ending. ending ≡ Ending.Stopped
+        → IsStopPrinted (W.text out.old) (W.text out.new)) }
+    ensures done { IfOk result (λ ending. ending ≡ Ending.Done
+        → IsDonePrinted (W.text out.old) (W.text out.new)) }
     ensures counted { CountsWrites result (W.failed out.old) (W.failed out.new) }
 {
     let mut end = run(host, committee, number, path, workers, lines, out)?;
@@ -65,7 +67,8 @@ fn run<'a, F: Files<File = File>, T: Threads + Wait + Sync, R: Feed, W: Sink>(
     lines: &mut R,
     out: &mut W,
 ) -> Result<ReplicaEnd, Fault<'a>>
-    ensures printed { IfOk result (λ r. IsRunPrinted (W.text out.old) (W.text out.new) r.end.ending) }
+    ensures printed { IfOk result (λ r.
+        IsRunPrinted (W.text out.old) (W.text out.new) r.end.ending) }
     ensures counted { CountsWrites result (W.failed out.old) (W.failed out.new) }
 {
     let bytes = read_committee(host.files, host.alloc, committee)?;
@@ -92,8 +95,10 @@ fn run<'a, F: Files<File = File>, T: Threads + Wait + Sync, R: Feed, W: Sink>(
 // The fault of a replica on the folder at `path`.
 fn in_folder<'a>(folder: &'a str, fault: ReplicaFault) -> Fault<'a>
     ensures memory { fault ≡ ReplicaFault.Memory → result ≡ Fault.Memory }
-    ensures lock { fault ≡ ReplicaFault.File ReplicaFile.Lock → result ≡ Fault.File (Place.Lock folder.entry) }
-    ensures file { (file : KeyFileValue) → fault ≡ ReplicaFault.File (ReplicaFile.Key file) → result ≡ Fault.File (Place.Key folder.entry file) }
+    ensures lock { fault ≡ ReplicaFault.File ReplicaFile.Lock
+        → result ≡ Fault.File (Place.Lock folder.entry) }
+    ensures file { (file : KeyFileValue) → fault ≡ ReplicaFault.File (ReplicaFile.Key file)
+        → result ≡ Fault.File (Place.Key folder.entry file) }
     ensures store { (number : ℕ) → fault ≡ ReplicaFault.Store number → result ≡ Fault.Store number }
     ensures receipts { fault ≡ ReplicaFault.Receipts → result ≡ Fault.Receipts }
     ensures output { fault ≡ ReplicaFault.Output ↔ result ≡ Fault.Output }

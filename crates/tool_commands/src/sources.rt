@@ -117,7 +117,8 @@ pub(crate) fn open_sources<
     tries: Tries,
     watch: &'p P,
 ) -> Result<Vec<Source<Watched<'p, SourceConnector<'a, T, F>, P>>>, AllocError>
-    ensures tries { IfOk result (λ sources. All (λ s. IsTriedAs tries.count s.connector.connector s.tries) sources.items) }
+    ensures tries { IfOk result (λ sources.
+        All (λ s. IsTriedAs tries.count s.connector.connector s.tries) sources.items) }
     ensures many { IfOk result (λ sources. length sources.items ≡ length words.now) }
 {
     let mut sources = Vec::with_capacity(host.alloc, words.len())?;

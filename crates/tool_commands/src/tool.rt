@@ -55,8 +55,10 @@ where
     ensures status { (result ≡ 0) ⊎ (result ≡ 2) ⊎ (result ≡ 3) }
     ensures culprits { result ≡ 3 → AreCulpritsPrinted (W.text out.old) (W.text out.new) }
     ensures done { result ≢ 2 → (faults.new ≡ faults.old) × (W.failed out.new ≡ W.failed out.old) }
-    ensures told { result ≡ 2 → ((faults.new ≡ faults.old) × (W.failed out.new ≡ W.failed out.old) × IsStopPrinted (W.text out.old) (W.text out.new))
-        ⊎ TellsFault (E.text faults.old) (E.text faults.new) (E.failed faults.old) (E.failed faults.new) (W.failed out.old) (W.failed out.new) }
+    ensures told { result ≡ 2 → ((faults.new ≡ faults.old) × (W.failed out.new ≡ W.failed out.old)
+        × IsStopPrinted (W.text out.old) (W.text out.new))
+        ⊎ TellsFault (E.text faults.old) (E.text faults.new) (E.failed faults.old)
+        (E.failed faults.new) (W.failed out.old) (W.failed out.new) }
 {
     match run(host, words, lines, out) {
         Ok(ended) => ended.status(),
@@ -114,8 +116,10 @@ fn run<
 ) -> Result<Ended, Fault<'a>>
 where
     F::Dir: Send,
-    ensures culprits { IfOk result (λ ended. ended ≡ Ended.Culprits → AreCulpritsPrinted (W.text out.old) (W.text out.new)) }
-    ensures stopped { IfOk result (λ ended. ended ≡ Ended.Stopped → IsStopPrinted (W.text out.old) (W.text out.new)) }
+    ensures culprits { IfOk result (λ ended. ended ≡ Ended.Culprits
+        → AreCulpritsPrinted (W.text out.old) (W.text out.new)) }
+    ensures stopped { IfOk result (λ ended. ended ≡ Ended.Stopped
+        → IsStopPrinted (W.text out.old) (W.text out.new)) }
     ensures counted { CountsWrites result (W.failed out.old) (W.failed out.new) }
 {
     match read_words(host.alloc, words) {
@@ -139,18 +143,16 @@ fn done<
 ) -> Result<Ended, Fault<'a>>
 where
     F::Dir: Send,
-    ensures culprits { IfOk result (λ ended. ended ≡ Ended.Culprits → AreCulpritsPrinted (W.text out.old) (W.text out.new)) }
-    ensures stopped { IfOk result (λ ended. ended ≡ Ended.Stopped → IsStopPrinted (W.text out.old) (W.text out.new)) }
+    ensures culprits { IfOk result (λ ended. ended ≡ Ended.Culprits
+        → AreCulpritsPrinted (W.text out.old) (W.text out.new)) }
+    ensures stopped { IfOk result (λ ended. ended ≡ Ended.Stopped
+        → IsStopPrinted (W.text out.old) (W.text out.new)) }
     ensures counted { CountsWrites result (W.failed out.old) (W.failed out.new) }
 {
     let (files, alloc) = (host.files, host.alloc);
     match command {
         Command::Usage => write_all(out, USAGE).map_err(|_| Fault::Output)?,
-        Command::Keygen {
-            seed,
-            folder,
-            further,
-        } => keygen(host, seed, folder, *further, out)?,
+        Command::Keygen { seed, folder, key } => keygen(host, seed, folder, *key, out)?,
         Command::Committee { f, out: path, keys } => committee(files, alloc, *f, path, keys, out)?,
         Command::Weighted {
             out: path,

@@ -2,6 +2,8 @@
 
 ghost use Rattle.std.specs.Prelude.{◌≡◌, ◌≤◌};
 
+use wire::KeyNumber;
+
 /// What the words ask for.
 #[derive(Debug, Drop)]
 pub enum Command<'a> {
@@ -11,7 +13,7 @@ pub enum Command<'a> {
     Keygen {
         seed: &'a str,
         folder: &'a str,
-        further: Option<FurtherKey>,
+        key: KeyNumber,
     },
     /// `committee F OUT KEY..`
     Committee {
@@ -45,26 +47,6 @@ pub enum Command<'a> {
         new: &'a str,
         committee: &'a str,
     },
-}
-
-/// A key of a replica beside its first one.
-#[derive(Clone, Copy, Debug)]
-pub enum FurtherKey {
-    One,
-    Two,
-    Three,
-}
-
-impl FurtherKey {
-    /// The key of this number, where it is 1 to 3.
-    pub fn of(number: u16) -> Option<FurtherKey> {
-        match number {
-            1 => Some(FurtherKey::One),
-            2 => Some(FurtherKey::Two),
-            3 => Some(FurtherKey::Three),
-            _ => None,
-        }
-    }
 }
 
 /// A replica that has a weight, by the files of its keys.

@@ -1,13 +1,11 @@
 //! From words to what they ask for.
 
-use crate::command::{Command, FurtherKey, Service, Tries, WeightedReplica, Workers};
+use crate::command::{Command, Service, Tries, WeightedReplica, Workers};
 use crate::grammar::parsed;
 use clap::ArgMatches;
 use clap::error::ErrorKind;
 use std::alloc::{AllocError, AllocFailed, Global};
-
-/// How many keys a replica has at most.
-const MOST_KEYS: usize = 4;
+use wire::{KeyNumber, MOST_KEYS};
 
 /// Why words ask for nothing.
 #[derive(Clone, Copy, Debug)]
@@ -69,18 +67,20 @@ fn keygen<'a>(given: &ArgMatches<'a>) -> Result<Command<'a>, WordsFault> {
     Ok(Command::Keygen {
         seed,
         folder,
-        further: further_key(given.get_str("K"))?,
+        key: key_number(given.get_str("K"))?,
     })
 }
 
-// Where no number is said, the key is the first one.
-fn further_key(word: Option<&str>) -> Result<Option<FurtherKey>, WordsFault> {
+// Where no number is said, the key is the first one; a number that is said is one of a further key.
+fn key_number(word: Option<&str>) -> Result<KeyNumber, WordsFault> {
     let Some(word) = word else {
-        return Ok(None);
+        return Ok(KeyNumber::Zero);
     };
-    match number(word).and_then(FurtherKey::of) {
-        Some(key) => Ok(Some(key)),
-        None => Err(WordsFault::Usage),
+    match number(word) {
+        Some(1) => Ok(KeyNumber::One),
+        Some(2) => Ok(KeyNumber::Two),
+        Some(3) => Ok(KeyNumber::Three),
+        _ => Err(WordsFault::Usage),
     }
 }
 
@@ -131,7 +131,7 @@ fn weighted_replica<'a>(alloc: Global, word: &'a str) -> Result<WeightedReplica<
     };
     let mut paths = Vec::new(alloc);
     for path in list.split(',') {
-        if path.is_empty() || paths.len() == MOST_KEYS {
+        if path.is_empty() || paths.len() == MOST_KEYS as usize {
             return Err(WordsFault::Usage);
         }
         paths.push(path)?;

@@ -4,5 +4,7 @@
 mod parts;
 mod verdict;
 
-pub use parts::{BoundVote, VerdictParts, VotedHeaders, write_verdict};
-pub use verdict::{Rule, VerdictRefusal, VerdictView, VoteView};
+pub use parts::{BoundVote, Shown, VerdictParts, VotedHeaders, write_verdict};
+pub use verdict::{
+    EARLIER_SIGNATURE_AT, LATER_SIGNATURE_AT, Rule, VerdictRefusal, VerdictView, VoteView,
+};

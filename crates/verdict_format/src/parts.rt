@@ -1,8 +1,8 @@
 //! Writing verdicts.
 
-ghost use Rattle.std.specs.Prelude.{◌≡◌, ◌<◌, ◌^◌, ◌++◌, IfOk, IfSome, OnOk, length};
+ghost use Rattle.std.specs.Prelude.{◌≡◌, ◌<◌, ◌^◌, ◌++◌, IfOk, OnOk, length};
 ghost use Rattle.verdict_format.specs.RuleNumbers.{rule_number};
-ghost use Rattle.verdict_format.specs.VerdictText.{AreHeaders, IsBoundVote, IsVerdictOf, bound_text, head_text, headers_text, verdict_kind, verdict_text};
+ghost use Rattle.verdict_format.specs.VerdictText.{HasBytes, IsBoundVote, IsVerdictOf, bound_text, head_text, shown_text, verdict_kind, verdict_text};
 
 use crate::verdict::Rule;
 use blocks::{Header, Id};
@@ -20,7 +20,7 @@ pub struct BoundVote {
     pub view: u64,
     /// The block's id.
     pub id: Id,
-    /// The LMS signature of the statement under that key, 1,452 bytes (RFC 8554, section 5.4).
+    /// The LMS signature of the statement under that key (RFC 8554, section 5.4).
     pub signature: Signature,
 }
 
@@ -45,7 +45,28 @@ impl Model for VotedHeaders {
     ghost inverse = { λ h. record { earlier = h.earlier; parent = h.parent; later = h.later } };
 }
 
-/// What a verdict says. It is of a lock violation where it has headers, else of a double vote.
+/// What shows that the two votes of a verdict break a rule.
+#[derive(Clone, Copy, Debug)]
+pub enum Shown {
+    /// The votes themselves: they are for two blocks of one view.
+    DoubleVote,
+    /// The headers behind the votes, which are a lock violation.
+    LockViolation(VotedHeaders),
+}
+
+impl Shown {
+    /// The rule that is broken.
+    pub fn rule(&self) -> Rule
+        ensures { rule_number result ≡ verdict_kind self.now }
+    {
+        match self {
+            Shown::DoubleVote => Rule::DoubleVote,
+            Shown::LockViolation(_) => Rule::LockViolation,
+        }
+    }
+}
+
+/// What a verdict says.
 #[derive(Clone, Copy, Debug)]
 pub struct VerdictParts {
     /// The id of the chain that the votes are on.
@@ -56,20 +77,8 @@ pub struct VerdictParts {
     pub earlier: BoundVote,
     /// Its second vote.
     pub later: BoundVote,
-    /// The headers behind the votes.
-    pub headers: Option<VotedHeaders>,
-}
-
-impl VerdictParts {
-    /// The rule that they show to be broken.
-    fn rule(&self) -> Rule
-        ensures { rule_number result ≡ verdict_kind self.now.headers }
-    {
-        match self.headers {
-            None => Rule::DoubleVote,
-            Some(_) => Rule::LockViolation,
-        }
-    }
+    /// What shows that the votes break a rule.
+    pub shown: Shown,
 }
 
 // Adds what stands before the votes.
@@ -82,11 +91,10 @@ fn put_head(text: &mut Vec<u8>, parts: &VerdictParts) -> Result<(), AllocError>
     append(text, b"HSX2")?;
     append(text, &parts.chain)?;
     append(text, &parts.replica.to_be_bytes())?;
-    append(text, &[parts.rule().number()])?;
+    append(text, &[parts.shown.rule().number()])?;
     Ok(())
 }
 
-// Adds a vote.
 fn put_vote(text: &mut Vec<u8>, vote: &BoundVote) -> Result<(), AllocError>
     ensures text { OnOk result (text.new.items ≡ text.old.items ++ bound_text vote.now) }
     ensures is_vote { IsBoundVote vote.now }
@@ -99,12 +107,12 @@ fn put_vote(text: &mut Vec<u8>, vote: &BoundVote) -> Result<(), AllocError>
     Ok(())
 }
 
-// Adds the headers, if there are any.
-fn put_headers(text: &mut Vec<u8>, headers: &Option<VotedHeaders>) -> Result<(), AllocError>
-    ensures text { OnOk result (text.new.items ≡ text.old.items ++ headers_text headers.now) }
-    ensures are_headers { OnOk result (IfSome headers.now AreHeaders) }
+// Adds the headers of a lock violation.
+fn put_shown(text: &mut Vec<u8>, shown: &Shown) -> Result<(), AllocError>
+    ensures text { OnOk result (text.new.items ≡ text.old.items ++ shown_text shown.now) }
+    ensures has_bytes { OnOk result (HasBytes shown.now) }
 {
-    let Some(headers) = headers else {
+    let Shown::LockViolation(headers) = shown else {
         return Ok(());
     };
     append(text, &headers.earlier.to_bytes())?;
@@ -113,7 +121,7 @@ fn put_headers(text: &mut Vec<u8>, headers: &Option<VotedHeaders>) -> Result<(),
     Ok(())
 }
 
-/// The bytes of a verdict, 3,025 of a double vote and 3,277 of a lock violation, laid out as
+/// The bytes of a verdict, as many as its rule asks for, laid out as
 /// `VerdictView::parse` reads them. Answers an error where memory for them is refused.
 #[tactic(auto, unfolding(crate::specs::VerdictText::verdict_text))]
 pub fn write_verdict(alloc: Global, parts: &VerdictParts) -> Result<Vec<u8>, AllocError>
@@ -121,10 +129,10 @@ pub fn write_verdict(alloc: Global, parts: &VerdictParts) -> Result<Vec<u8>, All
     // So what is written is read, with the same parts.
     ensures spells { IfOk result (λ text. IsVerdictOf text.items parts.now) }
 {
-    let mut text = Vec::with_capacity(alloc, parts.rule().verdict_len())?;
+    let mut text = Vec::with_capacity(alloc, parts.shown.rule().verdict_len())?;
     put_head(&mut text, parts)?;
     put_vote(&mut text, &parts.earlier)?;
     put_vote(&mut text, &parts.later)?;
-    put_headers(&mut text, &parts.headers)?;
+    put_shown(&mut text, &parts.shown)?;
     Ok(text)
 }

@@ -5,12 +5,13 @@ ghost use Rattle.verdict_format.specs.Verdicts.{chain_in, replica_in, verdict_ki
 ghost use Rattle.verdict_format.specs.RuleNumbers.{rule_number};
 ghost use Rattle.blocks.specs.HeaderReading.{header_in};
 ghost use Rattle.wire.specs.Pieces.{piece};
-ghost use Rattle.verdict_format.specs.VerdictText.{HeadersAreReadable, IsVerdictOf, parts_in};
+ghost use Rattle.verdict_format.specs.VerdictText.{HeadersAreReadable, IsShownIn, IsVerdictOf, parts_in};
 ghost use Rattle.verdict_format.specs.declared.parts.VerdictParts.{VerdictParts};
 ghost use Rattle.verdict_format.specs.VerdictReading.{IsReadableVerdict, IsFormRefusal, verdict_refusal_number};
 
-use crate::parts::VotedHeaders;
+use crate::parts::{Shown, VotedHeaders};
 use blocks::{Ballot, HEADER_LEN, Header, HeaderRefusal, Id};
+use certificates::BOUND_VOTE_LEN;
 use std::marker::Model;
 use wire::{array_at, u16_at, u64_at};
 
@@ -27,15 +28,18 @@ pub(crate) const LATER_AT: usize = EARLIER_AT + BOUND_VOTE_LEN;
 
 pub(crate) const HEADERS_AT: usize = LATER_AT + BOUND_VOTE_LEN;
 
-// The length in bytes of a vote that leaves its replica to the head: key, view, id and signature.
-pub(crate) const BOUND_VOTE_LEN: usize = 1493;
-
-// Where its view, its id and its signature stand in it, behind its key.
+// Where its view, its id and its signature stand in a vote that leaves its replica to the head, behind its key.
 pub(crate) const VIEW_IN_VOTE: usize = 1;
 
 pub(crate) const ID_IN_VOTE: usize = 9;
 
 pub(crate) const SIGNATURE_IN_VOTE: usize = 41;
+
+/// Where the signature of the first vote begins.
+pub const EARLIER_SIGNATURE_AT: usize = EARLIER_AT + SIGNATURE_IN_VOTE;
+
+/// Where the signature of the second vote begins.
+pub const LATER_SIGNATURE_AT: usize = LATER_AT + SIGNATURE_IN_VOTE;
 
 /// The length in bytes of a verdict of kind 1: the head and two votes.
 const DOUBLE_VOTE_LEN: usize = HEADERS_AT;
@@ -52,7 +56,7 @@ pub enum VerdictRefusal {
     Magic = 2,
     /// The byte at 38 is neither 1 nor 2.
     Kind = 3,
-    /// They are not 3,025 of kind 1, or 3,277 of kind 2.
+    /// They are not as many as the kind asks for: the head and two votes, and of kind 2 three headers.
     Length = 4,
 }
 
@@ -146,18 +150,20 @@ impl<'a> Model for VerdictView<'a> {
 
 impl<'a> VerdictView<'a> {
     /// The verdict that the bytes spell: `HSX2`, the chain id (32 bytes at 4), the accused replica (2 at
-    /// 36), the kind (1 at 38), two votes (at 39 and 1,532), each the number of a key (1), a view (8), an id
-    /// (32) and a signature (1,452), and of kind 2 three headers (84 each from 3,025), numbers with the
+    /// 36), the kind (1 at 38), two votes (from 39 on), each the number of a key (1), a view (8), an id
+    /// (32) and a signature, and of kind 2 three headers (84 each), numbers with the
     /// highest byte first. Nothing is copied, any number of a key is read, no signature is checked, and the
     /// headers may be unreadable. Refused in this order: Short, Magic, Kind, Length.
     pub fn parse(bytes: &'a [u8]) -> Result<VerdictView<'a>, VerdictRefusal>
         ensures ok { IfOk result (λ v. (v ≡ bytes.now) × IsReadableVerdict bytes.now) }
 
         // What is read is spelled so, where the headers are readable.
-        ensures found { OnOk result (HeadersAreReadable bytes.now → IsVerdictOf bytes.now (parts_in bytes.now)) }
+        ensures found { OnOk result (HeadersAreReadable bytes.now
+            → IsVerdictOf bytes.now (parts_in bytes.now)) }
 
         // What is spelled so is read, with the same parts.
-        ensures only { (v : VerdictParts) → IsVerdictOf bytes.now v → (result ≡ Ok bytes.now) × (parts_in bytes.now ≡ v) }
+        ensures only { (v : VerdictParts) → IsVerdictOf bytes.now v → (result ≡ Ok bytes.now)
+            × (parts_in bytes.now ≡ v) }
 
         // The first test that fails refuses.
         ensures first_refusal { IfErr result (IsFormRefusal bytes.now) }
@@ -231,20 +237,23 @@ impl<'a> VerdictView<'a> {
         }
     }
 
-    /// The headers behind the votes of a lock violation, 84 bytes each: that of the earlier vote's block
-    /// (at 3,025), of the parent that it names (at 3,109), and of the later vote's block (at 3,193). None
-    /// of a double vote, and where one of them is unreadable.
+    /// What the verdict says to show that its votes break its rule: of a lock violation the headers of the earlier
+    /// vote's block, of the parent that it names, and of the later vote's block, 84 bytes each behind the votes. None
+    /// where one of them is unreadable.
     #[tactic(auto, unfolding(crate::specs::Verdicts::headers_in))]
-    pub fn headers(&self) -> Option<VotedHeaders>
-        ensures { result ≡ headers_in self.now }
+    pub fn shown(&self) -> Option<Shown>
+        ensures { IsShownIn self.now result }
     {
         match self.rule() {
-            Rule::DoubleVote => None,
-            Rule::LockViolation => all_read(
-                header_at(self.bytes, HEADERS_AT),
-                header_at(self.bytes, HEADERS_AT + HEADER_LEN),
-                header_at(self.bytes, HEADERS_AT + 2 * HEADER_LEN),
-            ),
+            Rule::DoubleVote => Some(Shown::DoubleVote),
+            Rule::LockViolation => {
+                let headers = all_read(
+                    header_at(self.bytes, HEADERS_AT),
+                    header_at(self.bytes, HEADERS_AT + HEADER_LEN),
+                    header_at(self.bytes, HEADERS_AT + 2 * HEADER_LEN),
+                )?;
+                Some(Shown::LockViolation(headers))
+            }
         }
     }
 }

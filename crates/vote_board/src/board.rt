@@ -4,7 +4,7 @@ ghost use Rattle.std.specs.Prelude.{◌≡◌, ◌↔◌, IfOk, IfSome, IsTrue};
 ghost use Rattle.certificates.specs.Votes.{IsAnswerOn, IsGoodVote};
 
 use crate::memo::Memo;
-use crate::naming::Naming;
+use crate::naming::BoardNaming;
 use blocks::CommitteeView;
 use certificates::{LmsVerifier, SignedVote, Verifier, is_signed_by};
 use shared_values::Shared;
@@ -30,7 +30,7 @@ fn is_good<V: Verifier>(verifier: &V, committee: &CommitteeView, vote: &SignedVo
 /// The votes that were posted or checked under a committee, each once, with the answers of those that were checked.
 /// Threads share it by reference. It keeps some 1,540 bytes for each different vote, and forgets none.
 #[derive(Drop)]
-pub struct Board<'a, N: Naming> {
+pub struct Board<'a, N: BoardNaming> {
     alloc: Global,
     committee: CommitteeView<'a>,
     // grows only
@@ -38,7 +38,7 @@ pub struct Board<'a, N: Naming> {
     ghost named: { committee ≡ N.committee },
 }
 
-impl<'a, N: Naming> Board<'a, N> {
+impl<'a, N: BoardNaming> Board<'a, N> {
     /// A board with no votes yet, for votes under this committee. Takes no memory.
     pub fn new(alloc: Global, committee: CommitteeView<'a>) -> Board<'a, N>
         requires { committee ≡ N.committee }

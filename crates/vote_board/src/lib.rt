@@ -7,4 +7,4 @@ mod memo;
 mod naming;
 
 pub use board::Board;
-pub use naming::Naming;
+pub use naming::BoardNaming;

@@ -5,7 +5,7 @@ ghost use Rattle.certificates.specs.declared.vote.SignedVote.{SignedVote as Sign
 ghost use Rattle.certificates.specs.Votes.{IsAnswerOn};
 ghost use Rattle.vote_board.specs.Answers.{IsPosted, answer_in};
 
-use crate::naming::Naming;
+use crate::naming::BoardNaming;
 use certificates::SignedVote;
 use shared_values::Shared;
 use std::alloc::{AllocError, Global};
@@ -15,12 +15,12 @@ use std::marker::{Model, PhantomData};
 /// Votes that were posted, and of those that were checked the answer under the committee that is named. A vote is told by
 /// all its fields, its signature too. Contracts see what is remembered of each vote.
 #[derive(Drop)]
-pub(crate) struct Memo<N: Naming> {
+pub(crate) struct Memo<N: BoardNaming> {
     posted: BTreeMap<Shared<SignedVote>, Option<bool>>,
     named: PhantomData<N>,
 }
 
-impl<N: Naming> Model for Memo<N> {
+impl<N: BoardNaming> Model for Memo<N> {
     ghost use Rattle.std.specs.Prelude.{Bool, List, Option};
     ghost use Rattle.certificates.specs.declared.vote.SignedVote.{SignedVote as SignedVoteValue};
     ghost use Rattle.vote_board.specs.Answers.{AreAnswers};
@@ -32,7 +32,7 @@ impl<N: Naming> Model for Memo<N> {
     ghost invariant = { λ m. AreAnswers N.committee m.posted.entries };
 }
 
-impl<N: Naming> Memo<N> {
+impl<N: BoardNaming> Memo<N> {
     // Nothing yet.
     pub(crate) fn new(alloc: Global) -> Memo<N>
         ensures { result ≡ [] }
@@ -76,7 +76,8 @@ impl<N: Naming> Memo<N> {
     ) -> Result<(), AllocError>
         requires { IsAnswerOn N.committee vote is_good }
         ensures ok { OnOk result (answer_in self.new vote ≡ Some is_good) }
-        ensures others { (v : SignedVoteValue) → v ≢ vote → answer_in self.new v ≡ answer_in self.old v }
+        ensures others { (v : SignedVoteValue) → v ≢ vote
+            → answer_in self.new v ≡ answer_in self.old v }
         ensures err { OnErr result (self.new ≡ self.old) }
     {
         self.posted.insert(vote, Some(is_good))?;

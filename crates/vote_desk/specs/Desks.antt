@@ -117,6 +117,11 @@ pub record KeepsDesk {D : Type 0} (bytes : D → Option (List ℕ)) (images : D 
   pub list : KeepsList opening d.core d.log.genesis d.log.steps d.released
   pub entries : IfSome (bytes d.log.disk) (λ _. KeepsEntries (images d.log.disk) opening d.core.headers d.indices.mark d.log)
 
+-- a desk that keeps so has this left
+abbrev pub IsLeftAtDesk : {D : Type 0} → (D → Option (List ℕ)) → (D → List ℕ → Type 0) → List ℕ → ℕ → List Stored → Left → Type 0
+IsLeftAtDesk {D} bytes images committee replica opening left =
+    (d : DeskView D) × KeepsDesk bytes images committee replica opening d × (left ≡ left_of d)
+
 -- .. with what it keeps beside what contracts see: its replica, the id of its chain, and the length of the opening list
 pub record KeepsState {D : Type 0} (bytes : D → Option (List ℕ)) (images : D → List ℕ → Type 0) (committee : List ℕ) (replica : ℕ) (opening : List Stored) (d : DeskView D) (replica_here : ℕ) (chain : List ℕ) (opened : ℕ) : Type 0 where
   pub desk : KeepsDesk bytes images committee replica opening d

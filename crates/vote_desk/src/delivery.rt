@@ -12,7 +12,7 @@ ghost use Rattle.vote_desk.specs.DeskRefusals.{HasRoomTo, IsDeskRefusal, IsRunni
 ghost use Rattle.vote_desk.specs.Stays.{IsImageAfter, stay_in};
 
 use crate::desk_error::DeskError;
-use crate::naming::Naming;
+use crate::naming::DeskNaming;
 use crate::reply::{Answer, Reply};
 use crate::session::Session;
 use crate::state::DeskState;
@@ -28,7 +28,7 @@ use stable_log::Disk;
 /// After `Device` the desk is stopped, and a crash may leave the entry or not: close it, and recover log and index store.
 /// Any other refusal leaves core, log and receipts as they are; `Memory` may use up one index. In this order: `Memory`,
 /// `Stopped`, `Core`, `LogFull`, `KeySpent`, `Device`.
-pub fn deliver_on<N: Naming, D: Disk>(
+pub fn deliver_on<N: DeskNaming, D: Disk>(
     state: &mut DeskState<N, D>,
     session: &mut Session<N>,
     block: CheckedBlock,
@@ -36,11 +36,14 @@ pub fn deliver_on<N: Naming, D: Disk>(
     requires { block.committee ≡ N.committee }
 
     // One event of the run, on the block's chain in the core, as the core plans it.
-    ensures ok { IfOk result (IsDelivered D.bytes N.committee N.replica state.old state.new block.entry) }
+    ensures ok { IfOk result (IsDelivered D.bytes N.committee N.replica state.old state.new
+        block.entry) }
     ensures committed { IfOk result (λ reply. IfSome reply.committed
         (CommitsIn (genesis_of N.committee) block.entry.header)) }
-    ensures answer { IfOk result (λ reply. IsGoodAnswer N.committee N.replica block.entry.header reply.act) }
-    ensures exact { IfOk result (λ reply. IsRunning state.old × IsAdmissible state.old.core block.entry.header
+    ensures answer { IfOk result (λ reply.
+        IsGoodAnswer N.committee N.replica block.entry.header reply.act) }
+    ensures exact { IfOk result (λ reply. IsRunning state.old
+        × IsAdmissible state.old.core block.entry.header
         × HasRoomTo state.old.log state.old.indices (act_of reply.act)) }
     ensures running { OnOk result (IsRunning state.new) }
 
@@ -55,8 +58,10 @@ pub fn deliver_on<N: Naming, D: Disk>(
         LeavesEntries (D.images state.new.log.disk) state.new.log.entries)) }
 
     // A crash at any moment of the call leaves the list from before it, or that with the entry of the planned event.
-    ensures any_moment { IsRunning state.old → IfSome (D.bytes state.old.log.disk) (λ _.
-        AtAnyMoment D.Disk state.old.log.disk state.new.log.disk (IsLeftBy N.committee N.replica state.old block.entry)) }
+    ensures any_moment { IsRunning state.old
+        → IfSome (D.bytes state.old.log.disk) (λ _.
+        AtAnyMoment D.Disk state.old.log.disk state.new.log.disk
+        (IsLeftBy N.committee N.replica state.old block.entry)) }
 
     // What one reads in such an image is found after the stay that the desk was before the call.
     ensures finds { IfSome (D.bytes state.old.log.disk) (λ _.
@@ -83,8 +88,10 @@ pub fn deliver_on<N: Naming, D: Disk>(
     ensures device { IsErrOf result DeskError.Device → IsStopped state.new }
     ensures cause { IsErrOf result DeskError.Device → FailsOne D.failed state.old state.new }
     ensures no_failure { OnOk result (FailsNone D.failed state.old state.new) }
-    ensures kept { IfErr result (λ e. e ≢ DeskError.Device → FailsNone D.failed state.old state.new) }
+    ensures kept { IfErr result (λ e. e ≢ DeskError.Device
+        → FailsNone D.failed state.old state.new) }
 {
+    // For the proof: each image that a crash leaves is found after the stay.
     state.crash_is_found(&block);
     let plan = state.plan(&block)?;
     let committed = plan.committed;
@@ -115,14 +122,17 @@ pub fn deliver_on<N: Naming, D: Disk>(
 
 /// Gives up on all views up to this one at a replica that stands behind no lock: the vote view rises to it where it is
 /// lower. Nothing is stored, and a restart forgets it. Refused only by `Stopped`, which changes nothing.
-pub fn timeout_on<N: Naming, D: Disk>(
+pub fn timeout_on<N: DeskNaming, D: Disk>(
     state: &mut DeskState<N, D>,
     view: u64,
 ) -> Result<(), DeskError>
-    ensures ok { OnOk result (Takes state.old.core.genesis state.old.core.state (Timeout view) state.new.core.state) }
-    ensures same { OnOk result (state.new ≡ record state.old { core = record state.old.core { state = state.new.core.state } }) }
+    ensures ok { OnOk result (Takes state.old.core.genesis state.old.core.state
+        (Timeout view) state.new.core.state) }
+    ensures same { OnOk result (state.new
+        ≡ record state.old { core = record state.old.core { state = state.new.core.state } }) }
     ensures exact { OnOk result (IsRunning state.old) }
-    ensures err { IfErr result (λ e. (e ≡ DeskError.Stopped) × IsStopped state.old × (state.new ≡ state.old)) }
+    ensures err { IfErr result (λ e. (e ≡ DeskError.Stopped) × IsStopped state.old
+        × (state.new ≡ state.old)) }
 {
     if state.stopped() {
         return Err(DeskError::Stopped);

@@ -5,19 +5,18 @@ ghost use Rattle.std.specs.List.{All, Contains};
 ghost use Rattle.std.specs.List.Sorted.{IsPermutation};
 ghost use Rattle.blocks.specs.Genesis.{genesis_of};
 ghost use Rattle.blocks.specs.Replay.{ballots_in};
-ghost use Rattle.wire.specs.declared.limits.TheConstants.{MOST_ENTRIES};
+ghost use Rattle.wire.specs.declared.limits.TheConstants.{MOST_ENTRIES, MOST_KEYS};
 ghost use Rattle.key_index_store.specs.Indices.{limit_of};
-ghost use Rattle.key_index_store.specs.declared.store.TheConstants.{MOST_KEYS};
 ghost use Rattle.vote_desk.specs.Deliveries.{CommitsIn, IsGoodAnswer, released_by, with_receipt};
 ghost use Rattle.vote_desk.specs.DeskRefusals.{IsStartRefusal, IsStartable};
-ghost use Rattle.vote_desk.specs.Desks.{KeepsDesk, desk_of, vote_count};
+ghost use Rattle.vote_desk.specs.Desks.{IsLeftAtDesk, KeepsDesk, desk_of, vote_count};
 ghost use Rattle.vote_desk.specs.Receipts.{AreRisingByNumber, AreReceipts, KeepsReceipts, receipt_ballot, receipts_of};
 ghost use Rattle.vote_desk.specs.Stays.{AreLeftByStay, IsStay};
 
 use crate::closing::close_on;
 use crate::delivery::{deliver_on, timeout_on};
 use crate::desk_error::DeskError;
-use crate::naming::Naming;
+use crate::naming::DeskNaming;
 use crate::parts::{Closed, Left, Parts};
 use crate::reply::Reply;
 use crate::session::Session;
@@ -33,11 +32,11 @@ use std::sync::{Mutex, Wait};
 /// A replica's desk, for many sessions in many threads. Each call holds the lock for as long as it works, so calls come
 /// one after the other, in any order. Certificates are checked before: see `certificates::check_block`.
 #[derive(Drop)]
-pub struct Desk<N: Naming, D: Disk> {
+pub struct Desk<N: DeskNaming, D: Disk> {
     state: Mutex<DeskState<N, D>>,
 }
 
-impl<N: Naming, D: Disk> Desk<N, D> {
+impl<N: DeskNaming, D: Disk> Desk<N, D> {
     /// Opens a desk on what is stored, as `DeskState::open` does, and puts it behind a lock. Answers it beside its
     /// sessions, 1 to 64, one for each part of the blank. A refusal drops the blank and hands the parts back. In this
     /// order: `Memory`, `UnknownReplica`, `WrongKey`, `WrongChain`, `Stopped`.
@@ -56,7 +55,8 @@ impl<N: Naming, D: Disk> Desk<N, D> {
         requires replica { replica ≡ N.replica }
         requires opening { parts.log.steps ≡ N.opening }
 
-        ensures exact { OnOk result (IsStartable committee.now replica parts.trees.items parts.log parts.index) }
+        ensures exact { OnOk result
+            (IsStartable committee.now replica parts.trees.items parts.log parts.index) }
         ensures sessions { IfOk result (λ r. vec_len r.1 ≡ sessions) }
         ensures none_released { IfOk result (λ r. All (λ s. s.receipts.items ≡ []) r.1.items) }
         ensures first_refusal { IfErr result (λ e.
@@ -89,7 +89,8 @@ impl<N: Naming, D: Disk> Desk<N, D> {
             session.new.receipts.items ≡ with_receipt session.old.receipts.items reply.act) }
         ensures share { IfOk result (λ reply.
             session.new.share.amount ≡ session.old.share.amount + released_by reply.act) }
-        ensures answer { IfOk result (λ reply. IsGoodAnswer N.committee N.replica block.entry.header reply.act) }
+        ensures answer { IfOk result (λ reply.
+            IsGoodAnswer N.committee N.replica block.entry.header reply.act) }
         ensures committed { IfOk result (λ reply. IfSome reply.committed
             (CommitsIn (genesis_of N.committee) block.entry.header)) }
         ensures err { OnErr result ((session.new.receipts.items ≡ session.old.receipts.items)
@@ -111,6 +112,7 @@ impl<N: Naming, D: Disk> Desk<N, D> {
     /// Takes the lock, which may wait, and says what is left of the indices and of the log's room: plan a new committee
     /// before either ends, since the replica then votes no more.
     pub fn left<R: Wait>(&self, rt: &R) -> Left
+        ensures kept { IsLeftAtDesk D.bytes D.images N.committee N.replica N.opening result }
         ensures indices { result.indices ≤ limit_of MOST_KEYS }
         ensures entries { result.entries ≤ MOST_ENTRIES }
     {
@@ -126,25 +128,34 @@ impl<N: Naming, D: Disk> Desk<N, D> {
         sessions: Vec<Session<N>>,
     ) -> Result<Closed<D>, (DeskError, Parts<D>)>
         ensures receipts { IfOk result (λ c.
-            IsPermutation (receipts_of (map (λ s. s.receipts.items) sessions.items)) c.receipts.items) }
-        ensures ok { IfOk result (λ c. AreReceipts (length N.opening) c.parts.log.steps c.receipts.items) }
+            IsPermutation (receipts_of (map (λ s. s.receipts.items) sessions.items))
+            c.receipts.items) }
+        ensures ok { IfOk result (λ c.
+            AreReceipts (length N.opening) c.parts.log.steps c.receipts.items) }
         ensures order { IfOk result (λ c. AreRisingByNumber c.receipts.items) }
         ensures keeps { IfOk result (λ c. KeepsDesk D.bytes D.images N.committee N.replica N.opening
             (desk_of c.core c.parts.trees.items c.parts.index c.parts.log (vec_len c.receipts))) }
-        ensures images { IfOk result (λ c. IfSome (D.bytes c.parts.log.disk) (λ _.
-            (image : List ℕ) → D.images c.parts.log.disk image →
-            KeepsReceipts c.core.headers c.parts.log.genesis N.opening c.parts.log.entries c.receipts.items image)) }
+        ensures images { IfOk result (λ c. IfSome (D.bytes c.parts.log.disk) (λ _. (image : List ℕ)
+            → D.images c.parts.log.disk image
+            → KeepsReceipts c.core.headers c.parts.log.genesis N.opening c.parts.log.entries
+            c.receipts.items image)) }
         ensures stay { IfOk result (λ c. IsStay D.bytes D.images (genesis_of N.committee) N.opening
             (desk_of c.core c.parts.trees.items c.parts.index c.parts.log (vec_len c.receipts))) }
         ensures released { IfOk result (λ c.
-            All (λ r. Contains (ballots_in c.parts.log.steps) (receipt_ballot r)) c.receipts.items) }
-        ensures refused { IfErr result (λ e. (e.0 ≡ DeskError.Memory) ⊎ (e.0 ≡ DeskError.ReceiptMismatch)) }
-        ensures mismatch { IfErr result (λ e. e.0 ≡ DeskError.ReceiptMismatch →
-            AreReceipts (length N.opening) e.1.log.steps (receipts_of (map (λ s. s.receipts.items) sessions.items)) → ⊥) }
-        ensures counts { IfErr result (λ e. e.0 ≡ DeskError.ReceiptMismatch → vec_len sessions ≡ N.parts → 0 < N.parts →
-            length (receipts_of (map (λ s. s.receipts.items) sessions.items)) ≡ vote_count (drop (length N.opening) e.1.log.steps)) }
-        ensures left { IfErr result (λ e. AreLeftByStay D.bytes D.images (genesis_of N.committee) N.opening
-            e.1.trees.items e.1.index e.1.log) }
+            All (λ r. Contains (ballots_in c.parts.log.steps) (receipt_ballot r))
+            c.receipts.items) }
+        ensures refused { IfErr result (λ e. (e.0 ≡ DeskError.Memory)
+            ⊎ (e.0 ≡ DeskError.ReceiptMismatch)) }
+        ensures mismatch { IfErr result (λ e. e.0 ≡ DeskError.ReceiptMismatch
+            → AreReceipts (length N.opening) e.1.log.steps
+            (receipts_of (map (λ s. s.receipts.items) sessions.items)) → ⊥) }
+        ensures counts { IfErr result (λ e. e.0 ≡ DeskError.ReceiptMismatch
+            → vec_len sessions ≡ N.parts → 0 < N.parts
+            → length (receipts_of (map (λ s. s.receipts.items) sessions.items))
+            ≡ vote_count (drop (length N.opening) e.1.log.steps)) }
+        ensures left { IfErr result (λ e.
+            AreLeftByStay D.bytes D.images (genesis_of N.committee) N.opening e.1.trees.items
+            e.1.index e.1.log) }
     {
         let Desk { state } = self;
         close_on(alloc, state.into_inner(), sessions)

@@ -8,7 +8,7 @@ use std::sync::ledger::Ledger;
 
 /// Names one desk in contracts, and its ledger of released votes. Code is generic over a name, and is called with `Brand`
 /// for it once for each desk: that call's proof says which committee, replica and list it stands for.
-pub trait Naming: Ledger {
+pub trait DeskNaming: Ledger {
     // the bytes of the committee
     ghost committee: { List ℕ };
 
@@ -19,7 +19,7 @@ pub trait Naming: Ledger {
     ghost opening: { List Stored };
 }
 
-impl Naming for Brand {
+impl DeskNaming for Brand {
     ghost committee = { [] };
 
     ghost replica = { 0 };

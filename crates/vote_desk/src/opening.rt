@@ -12,7 +12,7 @@ ghost use Rattle.vote_desk.specs.DeskRefusals.{IsStartRefusal, IsStartable};
 ghost use Rattle.vote_desk.specs.Desks.{AreKeysOf, IsKeyOf, IsOpened};
 ghost use Rattle.vote_desk.specs.Stays.{IsStay};
 
-use crate::naming::Naming;
+use crate::naming::DeskNaming;
 use crate::parts::Parts;
 use crate::session::Session;
 use crate::start_error::StartError;
@@ -61,7 +61,8 @@ fn judge<D: Disk>(
     log: &VoteLog<D>,
 ) -> Result<(), StartError>
     ensures exact { OnOk result (IsStartable committee.now replica trees.now log.now index.now) }
-    ensures first_refusal { IfErr result (IsStartRefusal committee.now replica trees.now log.now index.now) }
+    ensures first_refusal { IfErr result
+        (IsStartRefusal committee.now replica trees.now log.now index.now) }
 {
     if replica >= committee.n() {
         return Err(StartError::UnknownReplica);
@@ -79,7 +80,7 @@ fn judge<D: Disk>(
 }
 
 // A session for each part of the ledger.
-fn deal<N: Naming>(
+fn deal<N: DeskNaming>(
     alloc: Global,
     rest: Share<N>,
     sessions: u8,
@@ -107,17 +108,21 @@ fn restart<D: Disk>(
     requires chain { log.now.genesis ≡ genesis_of committee.now }
     requires running { log.now.stopped ≡ false }
     ensures genesis { IfOk result (λ c. c.genesis ≡ genesis_of committee.now) }
-    ensures state { IfOk result (λ c. c.state ≡ restarted_with (replay (genesis_of committee.now) log.now.steps)) }
-    ensures headers { IfOk result (λ c. HoldsLinked (genesis_of committee.now) log.now.steps c.headers) }
+    ensures state { IfOk result (λ c.
+        c.state ≡ restarted_with (replay (genesis_of committee.now) log.now.steps)) }
+    ensures headers { IfOk result (λ c.
+        HoldsLinked (genesis_of committee.now) log.now.steps c.headers) }
     ensures legal { IsLegal log.now.genesis log.now.steps }
     ensures listed { IfSome (D.bytes log.now.disk) (λ _. AreListed log.now.entries log.now.steps) }
-    ensures durable { IfSome (D.bytes log.now.disk) (λ _. LeavesEntries (D.images log.now.disk) log.now.entries) }
+    ensures durable { IfSome (D.bytes log.now.disk) (λ _.
+        LeavesEntries (D.images log.now.disk) log.now.entries) }
 {
+    // For the proof: a log has at most 4,096 entries.
     let _count = log.count();
     Core::restart(alloc, committee.genesis(), log.steps())
 }
 
-impl<N: Naming, D: Disk> DeskState<N, D> {
+impl<N: DeskNaming, D: Disk> DeskState<N, D> {
     /// Opens a desk on what is stored, behind no lock. It is a restart: lock and stored vote view are those that the log
     /// replays to, the vote view is the stored one, whatever timeouts there were, and those headers are held whose
     /// chain lies in the log. Others are delivered again. Answers the desk beside its sessions, 1 to 64, one for each part of
@@ -141,11 +146,14 @@ impl<N: Naming, D: Disk> DeskState<N, D> {
         requires opening { parts.log.steps ≡ N.opening }
 
         // A restart from the log's list.
-        ensures ok { IfOk result (λ r. IsOpened committee.now parts.trees.items parts.index parts.log r.0) }
-        ensures exact { OnOk result (IsStartable committee.now replica parts.trees.items parts.log parts.index) }
+        ensures ok { IfOk result (λ r.
+            IsOpened committee.now parts.trees.items parts.index parts.log r.0) }
+        ensures exact { OnOk result
+            (IsStartable committee.now replica parts.trees.items parts.log parts.index) }
 
         // It begins a stay of the replica's life.
-        ensures stay { IfOk result (λ r. IsStay D.bytes D.images (genesis_of N.committee) N.opening r.0) }
+        ensures stay { IfOk result (λ r.
+            IsStay D.bytes D.images (genesis_of N.committee) N.opening r.0) }
 
         ensures sessions { IfOk result (λ r. vec_len r.1 ≡ sessions) }
         ensures none_released { IfOk result (λ r. All (λ s. s.receipts.items ≡ []) r.1.items) }

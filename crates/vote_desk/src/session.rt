@@ -4,7 +4,7 @@ ghost use Rattle.std.specs.Prelude.{◌≡◌, ◌<◌, ◌+◌, ◌-◌, ◌++�
 ghost use Rattle.vote_desk.specs.declared.desk_error.DeskError.TheVariants.{Memory};
 
 use crate::desk_error::DeskError;
-use crate::naming::Naming;
+use crate::naming::DeskNaming;
 use crate::reply::Receipt;
 use std::alloc::Global;
 use std::sync::ledger::{Book, Share};
@@ -12,14 +12,14 @@ use std::sync::ledger::{Book, Share};
 /// One caller of a desk: the receipts of the votes that the desk released to it, and as large a share of the desk's book.
 /// `close` wants all sessions back.
 #[derive(Drop)]
-pub struct Session<N: Naming> {
+pub struct Session<N: DeskNaming> {
     share: Share<N>,
     receipts: Vec<Receipt>,
     pub ghost one_part: { share.parts ≡ 1 },
     pub ghost counted: { share.amount ≡ vec_len receipts },
 }
 
-impl<N: Naming> Session<N> {
+impl<N: DeskNaming> Session<N> {
     // A caller to whom nothing was released.
     pub(crate) fn new(alloc: Global, share: Share<N>) -> Session<N>
         requires { (share.parts ≡ 1) × (share.amount ≡ 0) }

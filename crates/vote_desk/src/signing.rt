@@ -1,19 +1,27 @@
 //! Drawing an index, and signing under it.
 
 ghost use Rattle.std.specs.Prelude.{◌≡◌, ◌≢◌, ◌+◌, ◌<◌, ◌≤◌, length, true, false, IfOk, IfErr, IsErrOf, OnOk};
-ghost use Rattle.faults.specs.Counting.{HasFailed};
-ghost use Rattle.key_index_store.specs.declared.store.TheConstants.{MOST_KEYS};
+ghost use Rattle.streams.specs.Counting.{HasFailed};
+ghost use Rattle.wire.specs.declared.limits.TheConstants.{MOST_KEYS};
 ghost use Rattle.key_index_store.specs.Indices.{key_of, limit_of};
+ghost use Rattle.key_index_store.specs.declared.store.TheConstants.{INDICES};
+ghost use Rattle.lms_tree.specs.declared.TheConstants.{LEAVES};
 ghost use Rattle.vote_desk.specs.Deliveries.{IsSignedWith, signed_in, vote_under};
 ghost use Rattle.vote_desk.specs.DeskRefusals.{IsStorageRefusal};
 ghost use Rattle.vote_desk.specs.Desks.{index_of, seed_of};
 
 use crate::desk_error::DeskError;
-use blocks::{Header, Id};
+use blocks::{Id, NamedHeader};
 use certificates::{SignedVote, Statement};
 use key_index_store::{IndexStore, key_of, q_of};
 use lms_tree::SigningTree;
 use stable_log::Disk;
+
+/// An index of a key is a leaf of its tree: a store gives as many indices a key as a tree has leaves. The contract is the law, and
+/// nothing is computed.
+pub fn indices_are_leaves()
+    ensures { INDICES ≡ LEAVES }
+{}
 
 // The replica's vote for a block, signed under this index.
 fn vote_under(
@@ -21,7 +29,7 @@ fn vote_under(
     index: u32,
     replica: u16,
     chain: &Id,
-    block: &Header,
+    block: &NamedHeader,
 ) -> SignedVote
     requires most { index < limit_of MOST_KEYS }
     requires has { key_of index < length trees.now }
@@ -30,15 +38,16 @@ fn vote_under(
     ensures verifies { IsSignedWith (seed_of trees.now result.key) chain.now result }
 {
     let key = key_of(index);
-    let id = block.id();
+    let view = block.header().view;
+    let id = *block.id();
     let statement = Statement {
         chain: *chain,
-        view: block.view,
+        view,
         id,
     };
     SignedVote {
         replica,
-        view: block.view,
+        view,
         id,
         key,
         signature: trees[key as usize].sign_at(q_of(index), &statement.to_bytes()),
@@ -52,12 +61,13 @@ pub(crate) fn draw<D: Disk>(
     indices: &mut IndexStore<D>,
     replica: u16,
     chain: &Id,
-    block: &Header,
+    block: &NamedHeader,
 ) -> Result<SignedVote, DeskError>
     requires running { indices.old.stopped ≡ false }
     requires left { indices.old.mark < limit_of indices.old.keys }
     requires as_many { length trees.now ≡ indices.old.keys }
-    ensures value { IfOk result (λ v. v ≡ vote_under chain.now replica trees.now indices.old.mark block.now) }
+    ensures value { IfOk result (λ v.
+        v ≡ vote_under chain.now replica trees.now indices.old.mark block.now) }
     ensures index { IfOk result (λ v. index_of (signed_in v) ≡ indices.old.mark) }
     ensures verifies { IfOk result (λ v. IsSignedWith (seed_of trees.now v.key) chain.now v) }
     ensures key { IfOk result (λ v. v.key < length trees.now) }
@@ -72,7 +82,7 @@ pub(crate) fn draw<D: Disk>(
     ensures cause { IsErrOf result DeskError.Device →
         HasFailed (D.failed indices.old.disk) (D.failed indices.new.disk) }
 {
-    // There are no more than the most keys.
+    // For the proof: there are no more than the most keys.
     let _keys = indices.keys();
     let index = indices.next()?;
     Ok(vote_under(trees, index, replica, chain, block))

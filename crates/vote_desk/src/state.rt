@@ -12,16 +12,15 @@ ghost use Rattle.replica_core.specs.Plans.{HoldsAlso, IsPlan, TakesEvent};
 ghost use Rattle.stable_log.specs.Crash.{LeavesOnly};
 ghost use Rattle.log_format.specs.EntryText.{IsEntry};
 ghost use Rattle.vote_log.specs.Logs.{AreListed, IsLogBeforeOrAfter, LeavesEntries, StandsForEntries};
-ghost use Rattle.wire.specs.declared.limits.TheConstants.{MOST_ENTRIES};
+ghost use Rattle.wire.specs.declared.limits.TheConstants.{MOST_ENTRIES, MOST_KEYS};
 ghost use Rattle.key_index_store.specs.Indices.{limit_of};
-ghost use Rattle.key_index_store.specs.declared.store.TheConstants.{MOST_KEYS};
 ghost use Rattle.vote_desk.specs.Deliveries.{DrawsAtMostOne, FailsLog, FailsNone, FailsOne, IsKept, IsLeftBy, IsLeftWith, IsLegalPlan, IsStored, entry_for, signed_in, vote_under};
 ghost use Rattle.vote_desk.specs.DeskRefusals.{HasRoom, HasRoomTo, IsPlanRefusal, IsRunning, IsStopped, IsStorageRefusal};
 ghost use Rattle.vote_desk.specs.Desks.{AreKeysOf, KeepsDesk, desk_of, index_of, left_of};
 ghost use Rattle.vote_desk.specs.Stays.{IsImageAfter, IsStay, stay_in};
 
 use crate::desk_error::DeskError;
-use crate::naming::Naming;
+use crate::naming::DeskNaming;
 use crate::parts::{Left, Parts};
 use crate::reply::Receipt;
 use crate::session::Session;
@@ -43,7 +42,7 @@ use vote_log::{MOST_ENTRIES, VoteLog};
 /// Contracts see the core, the seeds of the keys, the indices, the log, and how many votes were released since it was
 /// opened. What is kept between the calls is `KeepsDesk`, which README.md says in words.
 #[derive(Drop)]
-pub struct DeskState<N: Naming, D: Disk> {
+pub struct DeskState<N: DeskNaming, D: Disk> {
     core: Core,
     trees: Vec<SigningTree>,
     indices: IndexStore<D>,
@@ -57,17 +56,18 @@ pub struct DeskState<N: Naming, D: Disk> {
     book: Book<N>,
 }
 
-impl<N: Naming, D: Disk> Model for DeskState<N, D> {
+impl<N: DeskNaming, D: Disk> Model for DeskState<N, D> {
     ghost use Rattle.vote_desk.specs.Desks.{DeskView, KeepsState, desk_of};
 
     ghost Value = { DeskView D };
 
     ghost view = { λ s. desk_of s.core s.trees.items s.indices s.log s.book.total };
 
-    ghost invariant = { λ s. KeepsState D.bytes D.images N.committee N.replica N.opening (desk_of s.core s.trees.items s.indices s.log s.book.total) s.replica s.chain s.opened };
+    ghost invariant = { λ s. KeepsState D.bytes D.images N.committee N.replica N.opening
+        (desk_of s.core s.trees.items s.indices s.log s.book.total) s.replica s.chain s.opened };
 }
 
-impl<N: Naming, D: Disk> DeskState<N, D> {
+impl<N: DeskNaming, D: Disk> DeskState<N, D> {
     // The desk over a core that was restarted from a log.
     pub(crate) fn of(
         committee: &CommitteeView,
@@ -82,11 +82,13 @@ impl<N: Naming, D: Disk> DeskState<N, D> {
         requires keys { AreKeysOf committee.now replica parts.trees.items parts.index.keys }
         requires chain { parts.log.genesis ≡ genesis_of committee.now }
         requires legal { IsLegal parts.log.genesis parts.log.steps }
-        requires listed { IfSome (D.bytes parts.log.disk) (λ _. AreListed parts.log.entries parts.log.steps) }
+        requires listed { IfSome (D.bytes parts.log.disk) (λ _.
+            AreListed parts.log.entries parts.log.steps) }
         requires durable { IfSome (D.bytes parts.log.disk) (λ _.
             LeavesEntries (D.images parts.log.disk) parts.log.entries) }
         requires genesis { core.genesis ≡ genesis_of committee.now }
-        requires state { core.state ≡ restarted_with (replay (genesis_of committee.now) parts.log.steps) }
+        requires state { core.state
+            ≡ restarted_with (replay (genesis_of committee.now) parts.log.steps) }
         requires none { book.total ≡ 0 }
         ensures value { result ≡ desk_of core parts.trees.items parts.index parts.log 0 }
         ensures stay { IsStay D.bytes D.images (genesis_of N.committee) N.opening result }
@@ -119,10 +121,11 @@ impl<N: Naming, D: Disk> DeskState<N, D> {
     /// What is left of the indices and of the log's room.
     pub fn left(&self) -> Left
         ensures value { result ≡ left_of self.now }
+        ensures keeps { KeepsDesk D.bytes D.images N.committee N.replica N.opening self.now }
         ensures few { result.indices ≤ limit_of MOST_KEYS }
         ensures room { result.entries ≤ MOST_ENTRIES }
     {
-        // There are no more than the most keys.
+        // For the proof: there are no more than the most keys.
         let _keys = self.indices.keys();
         Left {
             indices: self.indices.left(),
@@ -143,6 +146,7 @@ impl<N: Naming, D: Disk> DeskState<N, D> {
             (image : List ℕ) → IsLeftBy N.committee N.replica self.now block.now image →
             IsImageAfter (genesis_of N.committee) (stay_in N.opening self.now) image) }
     {
+        // For the proof: what the desk keeps is a stay of its replica's life.
         let _core = self.core();
     }
 
@@ -208,7 +212,8 @@ impl<N: Naming, D: Disk> DeskState<N, D> {
         requires room { HasRoom self.old.log }
         ensures stored { OnOk result (IsStored D.bytes D.images self.old self.new plan
             (entry_for block.entry plan.parent None)) }
-        ensures same { (self.new.indices ≡ self.old.indices) × (self.new.released ≡ self.old.released) }
+        ensures same { (self.new.indices ≡ self.old.indices)
+            × (self.new.released ≡ self.old.released) }
         ensures tells { IsSome (D.bytes self.new.log.disk) ↔ IsSome (D.bytes self.old.log.disk) }
         ensures kept { OnErr result (IsKept self.old self.new) }
         ensures err { IfErr result (λ e. e ≢ DeskError.Device → self.new ≡ self.old) }
@@ -239,18 +244,22 @@ impl<N: Naming, D: Disk> DeskState<N, D> {
         requires running { IsRunning self.old }
         requires room { HasRoomTo self.old.log self.old.indices Act.Vote }
         ensures number { IfOk result (λ r. r.number ≡ length self.old.log.steps) }
-        ensures vote { IfOk result (λ r. r.vote ≡ vote_under (chain_id_of N.committee) N.replica self.old.seeds self.old.indices.mark plan.block) }
+        ensures vote { IfOk result (λ r.
+            r.vote ≡ vote_under (chain_id_of N.committee) N.replica self.old.seeds
+            self.old.indices.mark plan.block) }
         ensures index { IfOk result (λ r. index_of (signed_in r.vote) ≡ self.old.indices.mark) }
         ensures good { IfOk result (λ r. IsGoodVote N.committee r.vote) }
         ensures stored { IfOk result (λ r. IsStored D.bytes D.images self.old self.new plan
             (entry_for block.entry plan.parent (Some (signed_in r.vote)))) }
         ensures drawn { OnOk result (self.new.indices.mark ≡ self.old.indices.mark + 1) }
         ensures keys { self.new.indices.keys ≡ self.old.indices.keys }
-        ensures undisturbed { IfErr result (λ e. e ≢ DeskError.Device → self.new.indices.stopped ≡ false) }
+        ensures undisturbed { IfErr result (λ e. e ≢ DeskError.Device
+            → self.new.indices.stopped ≡ false) }
         ensures tells { IsSome (D.bytes self.new.log.disk) ↔ IsSome (D.bytes self.old.log.disk) }
         ensures released { OnOk result (self.new.released ≡ self.old.released + 1) }
         ensures running { OnOk result (self.new.indices.stopped ≡ false) }
-        ensures receipts { IfOk result (λ r. session.new.receipts.items ≡ session.old.receipts.items ++ r ∷ []) }
+        ensures receipts { IfOk result (λ r. session.new.receipts.items ≡ session.old.receipts.items
+            ++ r ∷ []) }
         ensures share { OnOk result (session.new.share.amount ≡ session.old.share.amount + 1) }
         ensures kept { OnErr result (IsKept self.old self.new) }
         ensures at_most_one { OnErr result (DrawsAtMostOne self.old self.new) }
@@ -259,13 +268,16 @@ impl<N: Naming, D: Disk> DeskState<N, D> {
         ensures log { IfErr result (λ e. e ≢ DeskError.Device → self.new.log ≡ self.old.log) }
         ensures device { IsErrOf result DeskError.Device → IsStopped self.new }
         ensures no_failure { OnOk result (FailsNone D.failed self.old self.new) }
-        ensures quiet { IfErr result (λ e. e ≢ DeskError.Device → FailsNone D.failed self.old self.new) }
+        ensures quiet { IfErr result (λ e. e ≢ DeskError.Device
+            → FailsNone D.failed self.old self.new) }
         ensures cause { IsErrOf result DeskError.Device → FailsOne D.failed self.old self.new }
         ensures first_refusal { IfErr result IsStorageRefusal }
         ensures any_moment { IfSome (D.bytes self.old.log.disk) (λ _.
             AtAnyMoment D.Disk self.old.log.disk self.new.log.disk
-            (IsLeftWith self.old.log.entries (entry_for block.entry plan.parent
-            (Some (signed_in (vote_under (chain_id_of N.committee) N.replica self.old.seeds self.old.indices.mark plan.block)))))) }
+            (IsLeftWith self.old.log.entries
+            (entry_for block.entry plan.parent
+            (Some (signed_in (vote_under (chain_id_of N.committee) N.replica self.old.seeds
+            self.old.indices.mark plan.block)))))) }
     {
         let number = self.log.count() as u32;
         session.reserve()?;
@@ -284,7 +296,8 @@ impl<N: Naming, D: Disk> DeskState<N, D> {
 
     // Raises the vote view where it is lower.
     pub(crate) fn time_out(&mut self, view: u64)
-        ensures core { self.new.core ≡ record self.old.core { state = timed_out self.old.core.state view } }
+        ensures core { self.new.core
+            ≡ record self.old.core { state = timed_out self.old.core.state view } }
         ensures same { (self.new.seeds ≡ self.old.seeds) × (self.new.indices ≡ self.old.indices)
             × (self.new.log ≡ self.old.log) × (self.new.released ≡ self.old.released) }
     {
@@ -293,10 +306,12 @@ impl<N: Naming, D: Disk> DeskState<N, D> {
 
     // The core, the parts, the book, and how many entries the log had when the desk was opened.
     pub(crate) fn into_parts(self) -> (Core, Parts<D>, Book<N>, usize)
-        ensures keeps { KeepsDesk D.bytes D.images N.committee N.replica N.opening (desk_of result.0 result.1.trees.items result.1.index result.1.log result.2.total) }
+        ensures keeps { KeepsDesk D.bytes D.images N.committee N.replica N.opening
+            (desk_of result.0 result.1.trees.items result.1.index result.1.log result.2.total) }
         ensures opened { result.3 ≡ length N.opening }
-        ensures same { (result.0 ≡ self.core) × (result.1.trees.items ≡ self.seeds) × (result.1.index ≡ self.indices)
-            × (result.1.log ≡ self.log) × (result.2.total ≡ self.released) }
+        ensures same { (result.0 ≡ self.core) × (result.1.trees.items ≡ self.seeds)
+            × (result.1.index ≡ self.indices) × (result.1.log ≡ self.log)
+            × (result.2.total ≡ self.released) }
     {
         let DeskState {
             core,

@@ -8,7 +8,7 @@ ghost use Rattle.blocks.specs.Replay.{IsLegal};
 ghost use Rattle.certificates.specs.Assembling.{IsVoteFor};
 ghost use Rattle.replica_core.specs.Plans.{HoldsAlso, IsPlan, TakesEvent};
 ghost use Rattle.stable_log.specs.Crash.{LeavesOnly};
-ghost use Rattle.faults.specs.Counting.{HasFailed};
+ghost use Rattle.streams.specs.Counting.{HasFailed};
 ghost use Rattle.wire.specs.declared.limits.TheConstants.{MOST_ENTRIES};
 ghost use Rattle.log_format.specs.EntryText.{IsEntry, own_of, stored_in};
 ghost use Rattle.vote_log.specs.Logs.{IsLogBeforeOrAfter, LeavesEntries};
@@ -65,12 +65,14 @@ pub(crate) fn store<D: Disk>(
     requires legal { IsLegal log.old.genesis
         (log.old.steps ++ stored_in (entry_for block plan.parent (own_of vote)) ∷ []) }
 
-    ensures adds { OnOk result (AddsEntry D.bytes log.old log.new (entry_for block.entry plan.parent (own_of vote))) }
+    ensures adds { OnOk result
+        (AddsEntry D.bytes log.old log.new (entry_for block.entry plan.parent (own_of vote))) }
     ensures is_entry { IsEntry (entry_for block.entry plan.parent (own_of vote)) }
     ensures running { OnOk result (log.new.stopped ≡ false) }
     ensures genesis { log.new.genesis ≡ log.old.genesis }
-    ensures durable { OnOk result (IfSome (D.bytes log.old.disk) (λ _. LeavesEntries (D.images log.new.disk)
-        (log.old.entries ++ entry_for block.entry plan.parent (own_of vote) ∷ []))) }
+    ensures durable { OnOk result (IfSome (D.bytes log.old.disk) (λ _.
+        LeavesEntries (D.images log.new.disk) (log.old.entries
+        ++ entry_for block.entry plan.parent (own_of vote) ∷ []))) }
     ensures tells { IsSome (D.bytes log.new.disk) ↔ IsSome (D.bytes log.old.disk) }
     ensures no_failure { OnOk result (D.failed log.new.disk ≡ D.failed log.old.disk) }
     ensures headers { OnOk result (HoldsAlso core.old.headers core.new.headers plan.block) }

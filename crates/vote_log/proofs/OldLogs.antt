@@ -12,7 +12,7 @@ use Rattle.log_format.specs.EntryText.{Entry, stored_in}
 use Rattle.vote_log.specs.Logs.{LogState, steps_of}
 use Rattle.vote_log.specs.LogRefusals.{IsLogAppendRefusal}
 use Rattle.vote_log.specs.OldEntries.{AreOldTexts, IsFirstOldIllegal, IsFirstOldUnreadable, IsOldEntry, IsOldEntryAt, IsOldEntryOf, IsOldLog, old_entry_text}
-use Rattle.vote_log.specs.Migrations.{GivesOther, IsOldReadRefusal, IsOldStepsRefusal}
+use Rattle.vote_log.specs.Migrations.{AreCarriedOver, GivesOther, IsOldReadRefusal, IsOldStepsRefusal}
 use Rattle.vote_log.specs.declared.log_error.LogError.{LogError}
 use Rattle.vote_log.specs.declared.log_error.LogError.TheVariants.{Memory, Device, NotAJournal, Damaged, Full, Stopped, NoSuchEntry, BadEntry, IllegalLog}
 use Rattle.vote_log.proofs.LogLaws.{legal_last, legal_more, map-push, replay_more, steps_push, take-more}
@@ -65,11 +65,11 @@ one_old_list (p ∷ ps) (e ∷ es) (f ∷ fs) a b =
     let y = old_head (p ∷ ps) f fs p ps refl b in
     ap (λ (h : Entry). h ∷ es) (one_old_entry p e f x.0 y.0) ∙ ap (λ (l : List Entry). f ∷ l) (one_old_list ps es fs x.1 y.1)
 
-pub only_list : (told tells : Option (List ℕ)) (payloads : List (List ℕ)) (entries : List Entry) → IfSome told (λ _. IfSome tells (λ _. AreOldTexts payloads entries))
-    → IfSome told (λ _. IfSome tells (λ _. (others : List Entry) → AreOldTexts payloads others → others ≡ entries))
-only_list None tells payloads entries all = tt
-only_list (Some bs) None payloads entries all = tt
-only_list (Some bs) (Some cs) payloads entries all = λ others is. one_old_list payloads others entries is all
+pub carried_over : (told tells : Option (List ℕ)) (payloads : List (List ℕ)) (entries : List Entry) → IfSome told (λ _. IfSome tells (λ _. AreOldTexts payloads entries))
+    → IfSome told (λ _. IfSome tells (λ _. AreCarriedOver payloads entries))
+carried_over None tells payloads entries all = tt
+carried_over (Some bs) None payloads entries all = tt
+carried_over (Some bs) (Some cs) payloads entries all = record { spelled = all; only = λ others is. one_old_list payloads others entries is all }
 
 -- each payload has its entry
 old_at : (payloads : List (List ℕ)) (entries : List Entry) (k : ℕ) → k < length payloads → AreOldTexts payloads entries → (e : Entry) × IsOldEntryAt payloads k e

@@ -1,13 +1,39 @@
 -- When a log in the old form is not carried over. `Memory` comes where a growth was refused, `Device` where one of the
 -- two disks failed.
-use Rattle.std.specs.Prelude.{ℕ, ◌≡◌, ◌≢◌, ◌⊎◌, List, [], Option, None, IfSome, true, false}
+use Rattle.std.specs.Prelude.{ℕ, ◌≡◌, ◌≢◌, ◌⊎◌, List, [], length, Option, None, IfSome, true, false}
 use Rattle.blocks.specs.Headers.{Header}
 use Rattle.blocks.specs.Replay.{Durable, IsLegalEntry}
+use Rattle.streams.specs.Counting.{HasFailed}
+use Rattle.stable_log.specs.Devices.{Untouched}
 use Rattle.stable_log.specs.State.{JournalState}
+use Rattle.stable_log.specs.declared.disk.Disk.{Ghosts}
 use Rattle.log_format.specs.EntryText.{Entry, stored_in}
-use Rattle.vote_log.specs.OldEntries.{IsFirstOldIllegal, IsFirstOldUnreadable, IsOldEntryAt}
+use Rattle.vote_log.specs.Logs.{LogState}
+use Rattle.vote_log.specs.OldEntries.{AreOldTexts, IsFirstOldIllegal, IsFirstOldUnreadable, IsOldEntryAt}
 use Rattle.vote_log.specs.declared.log_error.LogError.{LogError}
 use Rattle.vote_log.specs.declared.log_error.LogError.TheVariants.{Memory, Device, NotAJournal, Stopped, BadEntry, IllegalLog}
+
+-- entry by entry these are what the payloads spell in the old form, and no others are
+pub record AreCarriedOver (payloads : List (List ℕ)) (entries : List Entry) : Type 0 where
+  pub spelled : AreOldTexts payloads entries
+  pub only : (others : List Entry) → AreOldTexts payloads others → others ≡ entries
+
+-- the log runs over this genesis, and has so many entries
+pub record IsRunningLog {D : Type 0} (genesis : Header) (count : ℕ) (log : LogState D) : Type 0 where
+  pub running : log.stopped ≡ false
+  pub genesis_is : log.genesis ≡ genesis
+  pub counted : length log.steps ≡ count
+
+-- the journal was only read
+pub record IsOnlyRead {D : Type 0} (disk : Ghosts D) (old new : JournalState D) : Type 0 where
+  pub payloads : new.payloads ≡ old.payloads
+  pub stopped : new.stopped ≡ old.stopped
+  pub untouched : Untouched disk old.disk new.disk
+
+-- a call that blames one of two disks was failed by one, and else neither failed
+pub record BlamesOne (blamed : Type 0) (old old_after new new_after : ℕ) : Type 0 where
+  pub cause : blamed → HasFailed old old_after ⊎ HasFailed new new_after
+  pub kept : (blamed → ⊥) → (old_after ≡ old) × (new_after ≡ new)
 
 -- `migrate` of an old journal whose disk tells these bytes, to a disk that tells those
 abbrev pub IsMigrateRefusal : {D : Type 0} → Header → Option (List ℕ) → JournalState D → Option (List ℕ) → LogError → Type 0

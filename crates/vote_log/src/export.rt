@@ -125,8 +125,9 @@ fn send_frames<D: Disk, W: Sink>(
         × (until ≤ length journal.old.payloads) }
     ensures ok { OnOk result ((bs : List ℕ) → D.bytes journal.old.disk ≡ Some bs →
         Wrote (W.text sink.old) (W.text sink.new) (frames_from journal.old.payloads from until)) }
-    ensures part { OnErr result ((bs : List ℕ) → D.bytes journal.old.disk ≡ Some bs →
-        WrotePart (W.text sink.old) (W.text sink.new) (frames_from journal.old.payloads from until)) }
+    ensures part { OnErr result ((bs : List ℕ) → D.bytes journal.old.disk ≡ Some bs
+        → WrotePart (W.text sink.old) (W.text sink.new)
+        (frames_from journal.old.payloads from until)) }
     ensures same { (journal.new.payloads ≡ journal.old.payloads)
         × (journal.new.stopped ≡ journal.old.stopped)
         × Untouched D.Disk journal.old.disk journal.new.disk }
@@ -176,8 +177,9 @@ pub(crate) fn send_export<D: Disk, W: Sink>(
     requires running { journal.old.stopped ≡ false }
     ensures ok { OnOk result ((bs : List ℕ) → D.bytes journal.old.disk ≡ Some bs →
         Wrote (W.text sink.old) (W.text sink.new) (export_text journal.old.payloads first most)) }
-    ensures part { OnErr result ((bs : List ℕ) → D.bytes journal.old.disk ≡ Some bs →
-        WrotePart (W.text sink.old) (W.text sink.new) (export_text journal.old.payloads first most)) }
+    ensures part { OnErr result ((bs : List ℕ) → D.bytes journal.old.disk ≡ Some bs
+        → WrotePart (W.text sink.old) (W.text sink.new)
+        (export_text journal.old.payloads first most)) }
     ensures count { IfOk result (λ n. n ≡ frame_count (length journal.old.payloads) first most) }
     ensures same { (journal.new.payloads ≡ journal.old.payloads)
         × (journal.new.stopped ≡ journal.old.stopped)

@@ -6,7 +6,7 @@ ghost use Rattle.blocks.specs.Headers.{IsGenesis};
 ghost use Rattle.blocks.specs.Replay.{IsLegal, replay};
 ghost use Rattle.stable_log.specs.Crash.{Follows, Only, Torn};
 ghost use Rattle.stable_log.specs.Devices.{AtAnyMoment, Untouched};
-ghost use Rattle.faults.specs.Counting.{HasFailed};
+ghost use Rattle.streams.specs.Counting.{BlamesDevice, HasFailed};
 ghost use Rattle.wire.specs.declared.limits.TheConstants.{MOST_ENTRIES};
 ghost use Rattle.stable_log.specs.Image.{empty_journal};
 ghost use Rattle.streams.specs.Streams.{Wrote, WrotePart};
@@ -50,9 +50,16 @@ impl<D: Disk> Model for VoteLog<D> {
 
     ghost Value = { LogState D };
 
-    ghost view = { λ l. record { disk = l.journal.disk; genesis = l.genesis; entries = map entry_in l.journal.payloads; steps = l.steps.items; stopped = l.journal.stopped } };
+    ghost view = { λ l. record {
+      disk = l.journal.disk;
+      genesis = l.genesis;
+      entries = map entry_in l.journal.payloads;
+      steps = l.steps.items;
+      stopped = l.journal.stopped;
+    } };
 
-    ghost invariant = { λ l. KeepsLog (D.bytes l.journal.disk) (D.images l.journal.disk) l.journal.payloads l.journal.stopped l.genesis l.steps.items };
+    ghost invariant = { λ l. KeepsLog (D.bytes l.journal.disk)
+        (D.images l.journal.disk) l.journal.payloads l.journal.stopped l.genesis l.steps.items };
 }
 
 impl<D: Disk> VoteLog<D> {
@@ -62,10 +69,13 @@ impl<D: Disk> VoteLog<D> {
     pub fn create(alloc: Global, disk: D, genesis: Header) -> Result<VoteLog<D>, (LogError, D)>
         requires { IsGenesis genesis }
 
-        ensures ok { IfOk result (λ l. (l.entries ≡ []) × (l.steps ≡ []) × (l.stopped ≡ false) × (l.genesis ≡ genesis)) }
+        ensures ok { IfOk result (λ l. (l.entries ≡ []) × (l.steps ≡ []) × (l.stopped ≡ false)
+            × (l.genesis ≡ genesis)) }
         ensures exact { OnOk result (IfSome (D.bytes disk) (λ bytes. bytes ≡ [])) }
-        ensures told { IfOk result (λ l. D.bytes l.disk ≡ option_map (λ _. empty_journal) (D.bytes disk)) }
-        ensures durable { IfOk result (λ l. IfSome (D.bytes disk) (λ _. LeavesEntries (D.images l.disk) [])) }
+        ensures told { IfOk result (λ l.
+            D.bytes l.disk ≡ option_map (λ _. empty_journal) (D.bytes disk)) }
+        ensures durable { IfOk result (λ l.
+            IfSome (D.bytes disk) (λ _. LeavesEntries (D.images l.disk) [])) }
         ensures no_failure { IfOk result (λ l. D.failed l.disk ≡ D.failed disk) }
 
         ensures first_refusal { IfErr result (λ e. IsLogCreateRefusal (D.bytes disk) e.0) }
@@ -95,21 +105,23 @@ impl<D: Disk> VoteLog<D> {
     pub fn recover(alloc: Global, disk: D, genesis: Header) -> Result<VoteLog<D>, (LogError, D)>
         requires { IsGenesis genesis }
 
-        ensures ok { IfOk result (λ l. IfSome (D.bytes disk) (λ bytes. StandsForEntries bytes l.entries)) }
-        ensures listed { IfOk result (λ l. IfSome (D.bytes disk) (λ _. AreListed l.entries l.steps)) }
+        ensures ok { IfOk result (λ l.
+            IfSome (D.bytes disk) (λ bytes. StandsForEntries bytes l.entries)) }
+        ensures listed { IfOk result (λ l.
+            IfSome (D.bytes disk) (λ _. AreListed l.entries l.steps)) }
         ensures legal { IfOk result (λ l. IsLegal genesis l.steps) }
-        ensures only { IfOk result (λ l. IfSome (D.bytes disk) (λ bytes. (entries : List EntryValue) →
-            All IsEntry entries → StandsForEntries bytes entries → entries ≡ l.entries)) }
+        ensures only { IfOk result (λ l. IfSome (D.bytes disk) (λ bytes. (entries : List EntryValue)
+            → All IsEntry entries → StandsForEntries bytes entries → entries ≡ l.entries)) }
         ensures running { IfOk result (λ l. (l.stopped ≡ false) × (l.genesis ≡ genesis)) }
-        ensures durable { IfOk result (λ l. IfSome (D.bytes disk) (λ bytes. Only bytes (D.images l.disk))) }
+        ensures durable { IfOk result (λ l.
+            IfSome (D.bytes disk) (λ bytes. Only bytes (D.images l.disk))) }
         ensures same { IfOk result (λ l. Untouched D.Disk disk l.disk) }
         ensures no_failure { IfOk result (λ l. D.failed l.disk ≡ D.failed disk) }
 
         ensures first_refusal { IfErr result (λ e. IsLogRecoverRefusal genesis (D.bytes disk) e.0) }
         ensures err { IfErr result (λ e. Untouched D.Disk disk e.1) }
-        ensures cause { IfErr result (λ e. e.0 ≡ LogError.Device →
-            HasFailed (D.failed disk) (D.failed e.1)) }
-        ensures kept { IfErr result (λ e. e.0 ≢ LogError.Device → D.failed e.1 ≡ D.failed disk) }
+        ensures cause { IfErr result (λ e.
+            BlamesDevice (e.0 ≡ LogError.Device) (D.failed disk) (D.failed e.1)) }
     {
         let mut journal = match Journal::recover(alloc, disk) {
             Ok(journal) => journal,
@@ -179,7 +191,8 @@ impl<D: Disk> VoteLog<D> {
             × (self.new.stopped ≡ self.old.stopped) × (self.new.genesis ≡ self.old.genesis)
             × Untouched D.Disk self.old.disk self.new.disk }
         ensures no_failure { OnOk result (D.failed self.new.disk ≡ D.failed self.old.disk) }
-        ensures first_refusal { IfErr result (IsLogEntryRefusal (D.bytes self.old.disk) self.old k) }
+        ensures first_refusal { IfErr result
+            (IsLogEntryRefusal (D.bytes self.old.disk) self.old k) }
         ensures cause { IsErrOf result LogError.Device →
             HasFailed (D.failed self.old.disk) (D.failed self.new.disk) }
         ensures kept { IfErr result (λ e. e ≢ LogError.Device →
@@ -208,7 +221,8 @@ impl<D: Disk> VoteLog<D> {
             × Untouched D.Disk self.old.disk self.new.disk }
         ensures first_refusal { IfErr result (IsExportRefusal self.old first most) }
         ensures part { OnErr result (IfSome (D.bytes self.old.disk) (λ _.
-            WrotePart (W.text sink.old) (W.text sink.new) (export_of self.old.entries first most))) }
+            WrotePart (W.text sink.old) (W.text sink.new)
+            (export_of self.old.entries first most))) }
         ensures unwritten { IfErr result (λ e. e ≢ ExportError.Device → e ≢ ExportError.Sink →
             sink.new ≡ sink.old) }
         ensures cause { Blames (D.failed self.old.disk) (D.failed self.new.disk)
@@ -241,7 +255,8 @@ impl<D: Disk> VoteLog<D> {
     pub fn steps(&self) -> &[Stored]
         ensures value { result.now ≡ self.now.steps }
         ensures legal { IsLegal self.now.genesis self.now.steps }
-        ensures listed { IfSome (D.bytes self.now.disk) (λ _. AreListed self.now.entries self.now.steps) }
+        ensures listed { IfSome (D.bytes self.now.disk) (λ _.
+            AreListed self.now.entries self.now.steps) }
         ensures durable { self.now.stopped ≡ false → IfSome (D.bytes self.now.disk) (λ _.
             LeavesEntries (D.images self.now.disk) self.now.entries) }
     {
@@ -258,7 +273,8 @@ impl<D: Disk> VoteLog<D> {
 
     /// Whether an entry is legal after the others, as `append` asks.
     pub fn allows(&self, entry: &Entry) -> bool
-        ensures { IsTrue result ↔ IsLegal self.now.genesis (self.now.steps ++ stored_in entry.now ∷ []) }
+        ensures { IsTrue result ↔ IsLegal self.now.genesis (self.now.steps ++ stored_in entry.now
+            ∷ []) }
     {
         self.replayed().allows(&entry.stored())
     }

@@ -50,7 +50,7 @@ impl LogError {
     }
 }
 
-// An entry has at most 46,809 bytes, so that `TooLong` does not come.
+// An entry has at most `LONGEST_ENTRY` bytes, so that `TooLong` does not come.
 impl From<JournalError> for LogError {
     ghost from_gives = { λ refusal e. e ≡ log_error refusal };
 

@@ -1,13 +1,13 @@
 //! Carries a log from before votes named their keys over to the form of today. The old log is only read.
 
-ghost use Rattle.std.specs.Prelude.{◌≡◌, ◌≢◌, ◌<◌, ◌⊎◌, ◌↔◌, ℕ, List, [], Some, false, length, IfErr, IfOk, IfSome, IsErrOf, IsSome, OnErr, OnOk};
+ghost use Rattle.std.specs.Prelude.{◌≡◌, ◌≢◌, ◌<◌, ◌⊎◌, ◌↔◌, ℕ, List, [], Some, false, length, IfErr, IfOk, IfSome, IsErrOf, IsSome, MatchResult, OnErr, OnOk};
 ghost use Rattle.blocks.specs.Headers.{IsGenesis};
 ghost use Rattle.blocks.specs.Replay.{IsLegal, IsLegalEntry, replay_entry};
-ghost use Rattle.faults.specs.Counting.{HasFailed};
+ghost use Rattle.streams.specs.Counting.{HasFailed};
 ghost use Rattle.stable_log.specs.Devices.{Untouched};
 ghost use Rattle.log_format.specs.EntryText.{Entry as EntryValue, stored_in};
 ghost use Rattle.vote_log.specs.Logs.{LeavesEntries, steps_of};
-ghost use Rattle.vote_log.specs.Migrations.{GivesOther, IsMigrateRefusal, IsOldReadRefusal, IsOldStepsRefusal};
+ghost use Rattle.vote_log.specs.Migrations.{AreCarriedOver, BlamesOne, GivesOther, IsMigrateRefusal, IsOnlyRead, IsRunningLog, IsOldReadRefusal, IsOldStepsRefusal};
 ghost use Rattle.vote_log.specs.OldEntries.{AreOldTexts, IsOldEntryAt, IsOldLog};
 
 use crate::old_entry::read_old;
@@ -25,13 +25,15 @@ fn next_entry<D: Disk>(
     durable: &mut Durable,
 ) -> Result<Entry, LogError>
     requires { (old.old.stopped ≡ false) × (k < length old.old.payloads) }
-    ensures ok { IfOk result (λ e. IfSome (D.bytes old.old.disk) (λ _. IsOldEntryAt old.old.payloads k e)) }
+    ensures ok { IfOk result (λ e.
+        IfSome (D.bytes old.old.disk) (λ _. IsOldEntryAt old.old.payloads k e)) }
     ensures legal { IfOk result (λ e. IsLegalEntry durable.old (stored_in e).voted e.block e.parent
         × (durable.new ≡ replay_entry durable.old (stored_in e).voted e.block e.parent)) }
     ensures same { (old.new.payloads ≡ old.old.payloads) × (old.new.stopped ≡ false)
         × Untouched D.Disk old.old.disk old.new.disk }
     ensures no_failure { OnOk result (D.failed old.new.disk ≡ D.failed old.old.disk) }
-    ensures first_refusal { IfErr result (IsOldReadRefusal durable.old (D.bytes old.old.disk) old.old.payloads k) }
+    ensures first_refusal { IfErr result
+        (IsOldReadRefusal durable.old (D.bytes old.old.disk) old.old.payloads k) }
     ensures cause { IsErrOf result LogError.Device →
         HasFailed (D.failed old.old.disk) (D.failed old.new.disk) }
     ensures kept { IfErr result (λ e. e ≢ LogError.Device →
@@ -58,7 +60,8 @@ fn judge<D: Disk>(alloc: Global, old: &mut Journal<D>, genesis: &Header) -> Resu
     ensures same { (old.new.payloads ≡ old.old.payloads) × (old.new.stopped ≡ false)
         × Untouched D.Disk old.old.disk old.new.disk }
     ensures no_failure { OnOk result (D.failed old.new.disk ≡ D.failed old.old.disk) }
-    ensures first_refusal { IfErr result (IsOldStepsRefusal genesis.now (D.bytes old.old.disk) old.old.payloads) }
+    ensures first_refusal { IfErr result
+        (IsOldStepsRefusal genesis.now (D.bytes old.old.disk) old.old.payloads) }
     ensures cause { IsErrOf result LogError.Device →
         HasFailed (D.failed old.old.disk) (D.failed old.new.disk) }
     ensures kept { IfErr result (λ e. e ≢ LogError.Device →
@@ -71,7 +74,6 @@ fn judge<D: Disk>(alloc: Global, old: &mut Journal<D>, genesis: &Header) -> Resu
     Ok(())
 }
 
-// Whether the disk is empty.
 fn check_empty<D: Disk>(disk: &mut D) -> Result<(), LogError>
     ensures ok { OnOk result (IfSome (D.bytes disk.old) (λ bytes. bytes ≡ [])) }
     ensures same { Untouched D.Disk disk.old disk.new }
@@ -93,13 +95,14 @@ fn check_empty<D: Disk>(disk: &mut D) -> Result<(), LogError>
 fn copy<D: Disk>(alloc: Global, old: &mut Journal<D>, log: &mut VoteLog<D>) -> Result<(), LogError>
     requires running { (old.old.stopped ≡ false) × (log.old.stopped ≡ false) }
     requires empty { (log.old.entries ≡ []) × (log.old.steps ≡ []) }
-    requires durable { IfSome (D.bytes log.old.disk) (λ _. LeavesEntries (D.images log.old.disk) []) }
+    requires durable { IfSome (D.bytes log.old.disk) (λ _.
+        LeavesEntries (D.images log.old.disk) []) }
     requires judged { (bs : List ℕ) → D.bytes old.old.disk ≡ Some bs →
         (entries : List EntryValue) × IsOldLog log.old.genesis old.old.payloads entries }
     ensures ok { OnOk result (IfSome (D.bytes old.old.disk) (λ _. (entries : List EntryValue)
         × AreOldTexts old.old.payloads entries × (log.new.steps ≡ steps_of entries))) }
-    ensures listed { OnOk result (IfSome (D.bytes old.old.disk) (λ _. IfSome (D.bytes log.old.disk) (λ _.
-        AreOldTexts old.old.payloads log.new.entries))) }
+    ensures listed { OnOk result (IfSome (D.bytes old.old.disk) (λ _.
+        IfSome (D.bytes log.old.disk) (λ _. AreOldTexts old.old.payloads log.new.entries))) }
     ensures counted { OnOk result (length log.new.steps ≡ length old.old.payloads) }
     ensures running { OnOk result (log.new.stopped ≡ false) }
     ensures genesis { log.new.genesis ≡ log.old.genesis }
@@ -134,9 +137,9 @@ fn copy<D: Disk>(alloc: Global, old: &mut Journal<D>, log: &mut VoteLog<D>) -> R
 /// each crash leaves all of it, and `VoteLog::recover` reads it.
 ///
 /// An entry in the old form is the kind (1 byte at 0, 1 with the replica's own vote and 2 without), the block's header
-/// (84 at 1), its parent's (84 at 85), with kind 1 the own vote (1,492 at 169: the view, 8, the id, 32 at 177, and the
-/// signature, 1,452 at 209), and the parent's certificate (at 1,661, with kind 2 at 169): 42 bytes, and for each of its
-/// votes the number of the replica, 2, and the signature, 1,452. There are at most 46,777 bytes.
+/// (84 at 1), its parent's (84 at 85), with kind 1 the own vote (from 169 on: the view, 8, the id, 32 at 177, and the
+/// signature, from 209 on), and the parent's certificate (behind the vote, with kind 2 at 169): 42 bytes, and for each
+/// of its votes the number of the replica, 2, and the signature.
 ///
 /// A refusal hands back the old journal, as it was, and the disk. In this order: `Memory`, `Stopped`, where the old
 /// journal is stopped, `Device`, where one of the two disks failed, `NotAJournal`, where the disk is not empty, and
@@ -156,35 +159,30 @@ pub fn migrate<D: Disk>(
 
     // Entry by entry, the new log is what the old one spells.
     ensures ok { IfOk result (λ r. IfSome (D.bytes old.disk) (λ _. IfSome (D.bytes disk) (λ _.
-        AreOldTexts old.payloads r.0.entries))) }
-    ensures only { IfOk result (λ r. IfSome (D.bytes old.disk) (λ _. IfSome (D.bytes disk) (λ _.
-        (entries : List EntryValue) → AreOldTexts old.payloads entries → entries ≡ r.0.entries))) }
+        AreCarriedOver old.payloads r.0.entries))) }
     ensures steps { IfOk result (λ r. IfSome (D.bytes old.disk) (λ _. (entries : List EntryValue)
         × AreOldTexts old.payloads entries × (r.0.steps ≡ steps_of entries))) }
-    ensures counted { IfOk result (λ r. length r.0.steps ≡ length old.payloads) }
-    ensures running { IfOk result (λ r. (r.0.stopped ≡ false) × (r.0.genesis ≡ genesis)) }
+    ensures running { IfOk result (λ r. IsRunningLog genesis (length old.payloads) r.0) }
     ensures durable { IfOk result (λ r. IfSome (D.bytes disk) (λ _.
         LeavesEntries (D.images r.0.disk) r.0.entries)) }
-    ensures exact { OnOk result ((old.stopped ≡ false) × IfSome (D.bytes disk) (λ bytes. bytes ≡ [])) }
-    ensures tells { IfOk result (λ r. IsSome (D.bytes r.0.disk) ↔ IsSome (D.bytes disk)) }
-    ensures no_failure { IfOk result (λ r. (D.failed r.0.disk ≡ D.failed disk)
-        × (D.failed r.1.disk ≡ D.failed old.disk)) }
+    ensures exact { OnOk result ((old.stopped ≡ false)
+        × IfSome (D.bytes disk) (λ bytes. bytes ≡ [])) }
 
     // Nothing is written to the old log, and a crash at any moment leaves it.
-    ensures same { IfOk result (λ r. (r.1.payloads ≡ old.payloads) × (r.1.stopped ≡ old.stopped)
-        × Untouched D.Disk old.disk r.1.disk) }
-    ensures err { IfErr result (λ e. (e.1.payloads ≡ old.payloads) × (e.1.stopped ≡ old.stopped)
-        × Untouched D.Disk old.disk e.1.disk) }
+    ensures same { MatchResult result (λ r. IsOnlyRead D.Disk old r.1)
+        (λ e. IsOnlyRead D.Disk old e.1) }
+    ensures tells { MatchResult result (λ r. IsSome (D.bytes r.0.disk) ↔ IsSome (D.bytes disk))
+        (λ e. IsSome (D.bytes e.2) ↔ IsSome (D.bytes disk)) }
 
-    ensures first_refusal { IfErr result (λ e. IsMigrateRefusal genesis (D.bytes old.disk) old (D.bytes disk) e.0) }
+    ensures first_refusal { IfErr result (λ e.
+        IsMigrateRefusal genesis (D.bytes old.disk) old (D.bytes disk) e.0) }
     ensures stopped { IfErr result (λ e. e.0 ≡ LogError.Stopped → e.2 ≡ disk) }
     ensures unwritten { IfErr result (λ e. e.0 ≢ LogError.Memory → e.0 ≢ LogError.Device →
         IfSome (D.bytes old.disk) (λ _. IfSome (D.bytes disk) (λ _. Untouched D.Disk disk e.2))) }
-    ensures err_tells { IfErr result (λ e. IsSome (D.bytes e.2) ↔ IsSome (D.bytes disk)) }
-    ensures cause { IfErr result (λ e. e.0 ≡ LogError.Device →
-        HasFailed (D.failed old.disk) (D.failed e.1.disk) ⊎ HasFailed (D.failed disk) (D.failed e.2)) }
-    ensures kept { IfErr result (λ e. e.0 ≢ LogError.Device →
-        (D.failed e.1.disk ≡ D.failed old.disk) × (D.failed e.2 ≡ D.failed disk)) }
+    ensures cause { MatchResult result (λ r.
+        BlamesOne ⊥ (D.failed old.disk) (D.failed r.1.disk) (D.failed disk) (D.failed r.0.disk))
+        (λ e. BlamesOne (e.0 ≡ LogError.Device) (D.failed old.disk) (D.failed e.1.disk)
+        (D.failed disk) (D.failed e.2)) }
 {
     let mut old = old;
     let mut disk = disk;

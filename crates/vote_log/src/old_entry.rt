@@ -3,9 +3,13 @@
 ghost use Rattle.std.specs.Prelude.{◌≡◌, ◌+◌, ◌*◌, ◌≤◌, ◌↔◌, ◌++◌, ◌⊎◌, true, None, length, drop, IfErr, IfOk, IfSome, IsTrue, OnOk, slice_index};
 ghost use Rattle.log_format.specs.EntryText.{Entry as EntryValue};
 ghost use Rattle.vote_log.specs.OldEntries.{IsOldEntryOf};
+ghost use Rattle.vote_log.specs.declared.old_entry.TheConstants.{OLD_ENDORSEMENT_LEN};
 ghost use Rattle.vote_log.specs.Renewing.{HasOldForm, IsOldKind, IsOldWhole, is_old_voted, old_place, renewed, renewed_certificate, renewed_endorsement, renewed_endorsements, renewed_kind, renewed_own};
 
 use crate::{Entry, EntryRefusal, LogError};
+use blocks::HEADER_LEN;
+use certificates::CERTIFICATE_HEAD_LEN;
+use lms_tree::SIGNATURE_LEN;
 use std::alloc::{AllocError, Global};
 use wire::{append, u16_at};
 
@@ -22,23 +26,24 @@ const VOTED: u8 = 3;
 const RAISED: u8 = 4;
 
 /// Where the own vote begins, and where the certificate does in an entry without one.
-const VOTE_AT: usize = 169;
+const VOTE_AT: usize = 1 + 2 * HEADER_LEN;
+
+/// The length of an old own vote: the view, the block's id and the signature.
+pub(crate) const OLD_VOTE_LEN: usize = 8 + 32 + SIGNATURE_LEN;
 
 /// Where the certificate begins behind an own vote.
-const BEHIND_VOTE: usize = 1661;
-
-/// The length of what stands in a certificate before its entries.
-const HEAD_LEN: usize = 42;
+pub(crate) const BEHIND_VOTE: usize = VOTE_AT + OLD_VOTE_LEN;
 
 /// The length of an entry of an old certificate: the number of a replica, and a signature.
-const ENDORSEMENT_LEN: usize = 1454;
+pub(crate) const OLD_ENDORSEMENT_LEN: usize = 2 + SIGNATURE_LEN;
 
 /// The number of the key that stands for each vote of an old entry.
 const KEY: u8 = 0;
 
 // Whether the own vote stands in the entry, where the first byte is a kind of the old form.
 fn is_voted(bytes: &[u8]) -> Option<bool>
-    ensures some { IfSome result (λ voted. (is_old_voted bytes.now ≡ voted) × IsOldKind (slice_index bytes.now 0)) }
+    ensures some { IfSome result (λ voted. (is_old_voted bytes.now ≡ voted)
+        × IsOldKind (slice_index bytes.now 0)) }
     ensures none { result ≡ None → IsOldKind (slice_index bytes.now 0) → ⊥ }
 {
     match bytes.first() {
@@ -48,7 +53,6 @@ fn is_voted(bytes: &[u8]) -> Option<bool>
     }
 }
 
-// Where the certificate begins.
 fn certificate_place(voted: bool) -> usize
     ensures { result ≡ old_place voted }
 {
@@ -59,10 +63,10 @@ fn certificate_place(voted: bool) -> usize
 fn is_whole(rest: &[u8]) -> bool
     ensures { IsTrue result ↔ IsOldWhole rest.now }
 {
-    if rest.len() < HEAD_LEN {
+    if rest.len() < CERTIFICATE_HEAD_LEN {
         return false;
     }
-    rest.len() == HEAD_LEN + ENDORSEMENT_LEN * u16_at(rest, 40) as usize
+    rest.len() == CERTIFICATE_HEAD_LEN + OLD_ENDORSEMENT_LEN * u16_at(rest, 40) as usize
 }
 
 // Whether a whole old certificate begins at this place.
@@ -107,30 +111,34 @@ fn put_endorsement(text: &mut Vec<u8>, old: &[u8]) -> Result<(), AllocError>
 
 // Adds so many entries of a certificate.
 fn put_endorsements(text: &mut Vec<u8>, old: &[u8], count: usize) -> Result<(), AllocError>
-    requires { length old.now ≡ 1454 * count }
+    requires { length old.now ≡ OLD_ENDORSEMENT_LEN * count }
     ensures { OnOk result (text.new.items ≡ text.old.items ++ renewed_endorsements old.now count) }
 {
     for k in 0..count {
-        let at = ENDORSEMENT_LEN * k;
-        put_endorsement(text, &old[at..at + ENDORSEMENT_LEN])?;
+        let at = OLD_ENDORSEMENT_LEN * k;
+        put_endorsement(text, &old[at..at + OLD_ENDORSEMENT_LEN])?;
     }
     Ok(())
 }
 
-// Adds the certificate.
 fn put_certificate(text: &mut Vec<u8>, rest: &[u8]) -> Result<(), AllocError>
     requires { IsOldWhole rest.now }
     ensures { OnOk result (text.new.items ≡ text.old.items ++ renewed_certificate rest.now) }
 {
-    append(text, &rest[..HEAD_LEN])?;
-    put_endorsements(text, &rest[HEAD_LEN..], u16_at(rest, 40) as usize)?;
+    append(text, &rest[..CERTIFICATE_HEAD_LEN])?;
+    put_endorsements(
+        text,
+        &rest[CERTIFICATE_HEAD_LEN..],
+        u16_at(rest, 40) as usize,
+    )?;
     Ok(())
 }
 
 // The bytes in the form of today, with key 0 at each vote; none where the kind or the length is not one of the old
 // form.
 fn renewed(alloc: Global, bytes: &[u8]) -> Result<Option<Vec<u8>>, AllocError>
-    ensures some { IfOk result (λ o. IfSome o (λ text. HasOldForm bytes.now × (text.items ≡ renewed bytes.now))) }
+    ensures some { IfOk result (λ o. IfSome o (λ text. HasOldForm bytes.now
+        × (text.items ≡ renewed bytes.now))) }
     ensures none { IfOk result (λ o. o ≡ None → HasOldForm bytes.now → ⊥) }
 {
     let Some(voted) = is_voted(bytes) else {

@@ -3,7 +3,7 @@
 ghost use Rattle.std.specs.Prelude.{◌≡◌, ◌≢◌, ℕ, List, false, length, Some, IfErr, IfOk, IfSome, IsErrOf, OnOk};
 ghost use Rattle.blocks.specs.Replay.{IsLegal, replay};
 ghost use Rattle.stable_log.specs.Devices.{Untouched};
-ghost use Rattle.faults.specs.Counting.{HasFailed};
+ghost use Rattle.streams.specs.Counting.{HasFailed};
 ghost use Rattle.stable_log.specs.Refusals.{MayRead};
 ghost use Rattle.vote_log.specs.LogRefusals.{IsEntryReadRefusal, IsStepsRefusal};
 ghost use Rattle.vote_log.specs.Logs.{AreTexts, IsEntryAt};
@@ -27,7 +27,8 @@ pub(crate) fn read_entry<D: Disk>(
         × (journal.new.stopped ≡ journal.old.stopped)
         × Untouched D.Disk journal.old.disk journal.new.disk }
     ensures no_failure { OnOk result (D.failed journal.new.disk ≡ D.failed journal.old.disk) }
-    ensures first_refusal { IfErr result (IsEntryReadRefusal (D.bytes journal.old.disk) journal.old k) }
+    ensures first_refusal { IfErr result
+        (IsEntryReadRefusal (D.bytes journal.old.disk) journal.old k) }
     ensures cause { IsErrOf result LogError.Device →
         HasFailed (D.failed journal.old.disk) (D.failed journal.new.disk) }
     ensures kept { IfErr result (λ e. e ≢ LogError.Device →

@@ -1,15 +1,17 @@
 //! Fields at fixed places in a text of bytes, read and written in place, numbers with the highest byte first; how
-//! long a log and its payloads may be; and in `specs/` the words for refusals in their order. Needs no threads, files
-//! or network.
+//! long a log and its payloads may be; the numbers of a replica's keys; and in `specs/` the words for refusals in their
+//! order. Needs no threads, files or network.
 #![tactic(auto)]
 
+mod key_number;
 mod limits;
 
 ghost use Rattle.std.specs.Prelude.{◌≡◌, ◌+◌, ◌≤◌, ◌++◌, length, take, drop, OnErr, OnOk};
 ghost use Rattle.wire.specs.Pieces.{piece, number_at};
 
 use byteorder::{BigEndian, ByteOrder};
-pub use limits::{LONGEST_PAYLOAD, MOST_ENTRIES, limits_are_those_of_the_formats};
+pub use key_number::KeyNumber;
+pub use limits::{LONGEST_PAYLOAD, MOST_ENTRIES, MOST_KEYS, limits_are_those_of_the_formats};
 use std::alloc::AllocError;
 
 /// The number in the two bytes from place `at` on, which must be there.

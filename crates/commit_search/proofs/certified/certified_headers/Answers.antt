@@ -2,7 +2,7 @@ use Rattle.std.proofs.Common.{◌≡◌, ◌<◌, List, length, get_or, subst}
 use Rattle.std.proofs.lemmas.Bool.{iff_false}
 use Rattle.blocks.specs.Headers.{Header}
 use Rattle.blocks.specs.Weights.{committee_of}
-use Rattle.accountability.specs.Commits.{IsCertified}
+use Rattle.commit_search.specs.Commits.{IsCertified}
 use Rattle.commit_search.proofs.Choices.{chosen_over, chosen_more}
 use Rattle.commit_search.proofs.certified.certified_headers.Goals as goal
 use Rattle.commit_search.proofs.certified.certified_headers.Goals.{then-is_certified+in_ok-push, else-is_certified}

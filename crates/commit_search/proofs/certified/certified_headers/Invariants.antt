@@ -1,6 +1,6 @@
 use Rattle.std.proofs.Common.{take}
 use Rattle.blocks.specs.Weights.{committee_of}
-use Rattle.accountability.specs.Commits.{IsCertified}
+use Rattle.commit_search.specs.Commits.{IsCertified}
 use Rattle.commit_search.specs.Chosen.{AreThose}
 use Rattle.commit_search.proofs.certified.certified_headers.Given as goal
 

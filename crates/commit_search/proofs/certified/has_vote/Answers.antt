@@ -1,7 +1,7 @@
 use Rattle.std.proofs.Common.{List, ℕ, ◌∙◌, ap, rules}
 use Rattle.std.proofs.lemmas.Fn.{always_returns_same}
 use Rattle.blocks.specs.Headers.{Header}
-use Rattle.accountability.specs.Commits.{has_vote}
+use Rattle.commit_search.specs.Commits.{has_vote}
 use Rattle.commit_search.proofs.Ballots.{ballot_of, finds_vote}
 use Rattle.commit_search.proofs.certified.has_vote.Goals as goal
 

@@ -3,7 +3,7 @@ use Rattle.std.specs.List.{All, AllPairs, Contains}
 use Rattle.std.proofs.lemmas.List.Elements.{All-drop, All-tail}
 use Rattle.blocks.specs.Headers.{Header}
 use Rattle.ancestry.specs.Known.{all_of}
-use Rattle.accountability.specs.Commits.{IsLowerBlock}
+use Rattle.commit_search.specs.Commits.{IsLowerBlock}
 use Rattle.commit_search.specs.Pairs.{Agree, AreFirstIn}
 use Rattle.commit_search.proofs.ConflictFacts.{split, rises_later, none_before, found_here, found_later}
 use Rattle.commit_search.proofs.OneChain.{all_behind, rises_behind, none_behind_trunk, found_behind_trunk}

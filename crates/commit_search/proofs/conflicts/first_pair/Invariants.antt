@@ -2,7 +2,7 @@ use Rattle.std.proofs.Common.{length}
 use Rattle.std.specs.List.{All, AllPairs, Contains}
 use Rattle.blocks.specs.Headers.{Header}
 use Rattle.ancestry.specs.Known.{all_of}
-use Rattle.accountability.specs.Commits.{IsLowerBlock}
+use Rattle.commit_search.specs.Commits.{IsLowerBlock}
 use Rattle.commit_search.specs.Pairs.{Agree, AreFirstIn}
 use Rattle.commit_search.proofs.conflicts.first_pair.Given as goal
 

@@ -9,6 +9,6 @@ returns-clause-accepted c =
     let e = c.args.evidence.now in
     let r = c.args.replica in
     let o = c.args.offence.now in
-    let bytes = c.in_ok-write_verdict.field-0.items in
-    let spells : IsVerdictOf bytes (parts_of e r o.earlier o.later o.headers) = search rules in
-    proof_of e r o.earlier o.later o.headers bytes c.committee.ensures.is_evidence c.requires.named c.requires.shown spells
+    let bytes = c.in_ok-bytes.bytes.items in
+    let spells : IsVerdictOf bytes (parts_of e r o.earlier o.later o.shown) = search rules in
+    proof_of e r o.earlier o.later o.shown bytes c.committee.ensures.is_evidence c.requires.named c.requires.shown spells

@@ -1,5 +1,5 @@
 use Rattle.std.proofs.Common.{◌≡◌, rules}
-use Rattle.key_files.specs.declared.key_number.KeyNumber.TheVariants.{Zero}
+use Rattle.wire.specs.declared.key_number.KeyNumber.TheVariants.{Zero}
 use Rattle.key_files.proofs.Looking.{log_looked}
 use Rattle.key_files.proofs.keygen.look_for_files.Goals as goal
 

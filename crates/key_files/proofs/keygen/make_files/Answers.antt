@@ -2,8 +2,8 @@ use Rattle.std.proofs.Common.{◌≡◌, ◌∙◌, ◌++◌, rules, ◌∷◌, 
 use Rattle.stable_log.specs.Image.{empty_journal}
 use Rattle.key_files.specs.declared.folder.Readers.TheVariants.{Owner, All}
 use Rattle.key_files.specs.declared.files.KeyFile.TheVariants.{Seed, PublicKey, Indices, Log}
-use Rattle.key_files.specs.declared.key_number.KeyNumber.{KeyNumber}
-use Rattle.key_files.specs.declared.key_number.KeyNumber.TheVariants.{Zero}
+use Rattle.wire.specs.declared.key_number.KeyNumber.{KeyNumber}
+use Rattle.wire.specs.declared.key_number.KeyNumber.TheVariants.{Zero}
 use Rattle.key_files.specs.KeyFiles.{FolderFile, Made, file_name, files_with}
 use Rattle.key_files.proofs.Making.{made_more, leaves_some}
 use Rattle.key_files.proofs.keygen.make_files.Goals as goal
@@ -30,7 +30,7 @@ returns-in_err-make_store-clause-err g c =
     let number = c.args.number in
     let secret = c.args.secret.now in
     let zero : number ≡ Zero = search rules in
-    let keys = keys_made number _ _ _ secret.key_id secret.seed _ c.args.public_key.now c.seed_bytes-secret_key.ensures c.in_ok-make.ensures.ok c.in_ok-make-2.ensures.ok in
+    let keys = keys_made number _ _ _ secret.key_id secret.seed _ c.args.public_key.now c.to_bytes-secret_key.ensures c.in_ok-make.ensures.ok c.in_ok-make-2.ensures.ok in
     let left = leaves_some number _ _ _ _ _ _ Indices c.in_err-make_store.field-0.0 (files_with number secret.key_id secret.seed c.args.public_key.now)
     (sym zero) keys (c.in_ok-make-2.ensures.kept ∙ c.in_ok-make.ensures.kept) c.in_err-make_store.ensures.err in
     search rules
@@ -40,7 +40,7 @@ returns-in_err-make_store-2-clause-err g c =
     let number = c.args.number in
     let secret = c.args.secret.now in
     let zero : number ≡ Zero = search rules in
-    let keys = keys_made number _ _ _ secret.key_id secret.seed _ c.args.public_key.now c.seed_bytes-secret_key.ensures c.in_ok-make.ensures.ok c.in_ok-make-2.ensures.ok in
+    let keys = keys_made number _ _ _ secret.key_id secret.seed _ c.args.public_key.now c.to_bytes-secret_key.ensures c.in_ok-make.ensures.ok c.in_ok-make-2.ensures.ok in
     let index = index_made number _ _ _ secret.key_id secret.seed c.args.public_key.now zero keys c.in_ok-make_store.ensures.ok in
     let left = leaves_some number _ _ _ _ _ _ Log c.in_err-make_store-2.field-0.0 (files_with number secret.key_id secret.seed c.args.public_key.now)
     (sym zero) index (c.in_ok-make_store.ensures.kept ∙ c.in_ok-make-2.ensures.kept ∙ c.in_ok-make.ensures.kept) c.in_err-make_store-2.ensures.err in

@@ -1,5 +1,5 @@
 use Rattle.std.proofs.lemmas.Result.{on_ok_weaker}
-use Rattle.log_server.proofs.Serving.{is_answer}
+use Rattle.log_server.proofs.ServedRequests.{is_answer}
 use Rattle.log_server.proofs.answering.answer.Goals as goal
 
 pub returns-clause-told : goal.returns-clause-told

@@ -1,6 +1,6 @@
 use Rattle.std.proofs.Common.{List, length, rules, ap, ◌∙◌}
 use Rattle.blocks.specs.Replica.{Stored}
-use Rattle.log_server.proofs.Serving.{may_before, served_more}
+use Rattle.log_server.proofs.ServedRequests.{may_before, served_more}
 use Rattle.log_server.proofs.service.answer_all.Goals as goal
 
 pub loop-preserved : goal.loop-preserved

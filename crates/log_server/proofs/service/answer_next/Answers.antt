@@ -1,7 +1,7 @@
 use Rattle.std.specs.Prelude.{Err}
 use Rattle.std.proofs.lemmas.Result.{on_ok_weaker}
-use Rattle.log_serving.specs.declared.error.ServeError.TheVariants.{Source}
-use Rattle.log_server.proofs.Serving.{may_answer}
+use Rattle.log_server.specs.declared.error.ServeError.TheVariants.{Source}
+use Rattle.log_server.proofs.ServedRequests.{may_answer}
 use Rattle.log_server.proofs.service.answer_next.Goals as goal
 
 pub returns-in-Ok-clause-served : goal.returns-in-Ok-clause-served

@@ -10,4 +10,4 @@ returns g c =
     let slice = ap (λ it. it.slice.now) votes ∙ c.par_iter.ensures in
     let h = c.in_ok-collect.ensures in
     let chain = h.1 in
-    answers_of g.N.Naming.committee c.args.votes.now h.0 c.in_ok-collect.field-0 (slice-AllZip chain.0 c.args.votes.now (chain.1 ∙ slice) (IsAnswerIfAny g.N.Naming.committee) h.0 chain.2) h.2
+    answers_of g.N.BoardNaming.committee c.args.votes.now h.0 c.in_ok-collect.field-0 (slice-AllZip chain.0 c.args.votes.now (chain.1 ∙ slice) (IsAnswerIfAny g.N.BoardNaming.committee) h.0 chain.2) h.2

@@ -13,7 +13,7 @@ loop-number-preserved-in-Continue-branch-2 g c =
     let s = c.in-Some-2.ensures.steps in
     let one = dealt_one_more requests c.loop-number.number-iterator.count c.next-in-loop-number.new.self.count c.in-Some-2.number c.in-Some-2.request
     c.loop-number.number-iterator.iter.rest.items c.next-in-loop-number.new.self.iter.rest.items c.loop-number.invariant.0 s.0.0 s.1 s.2 in
-    let IsDealt = λ (w : Work g.row.N.Denot g.N.Naming). All (IsRequestIn requests) w.requests.items in
+    let IsDealt = λ (w : Work g.row.N.Denot g.N.DeskNaming). All (IsRequestIn requests) w.requests.items in
     let asked : Asked = record { number = c.in-Some-2.number; request = c.in-Some-2.request } in
     let work = c.in-Some-get_mut.work.now in
     let v = c.in-Some-get_mut.ensures in

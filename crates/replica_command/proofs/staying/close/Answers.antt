@@ -14,7 +14,7 @@ loop-one-preserved g c =
     let s = c.in-Some.ensures.steps in (
       search (rules, append_assoc),
       rw c.in_ok-push.ensures.items
-          (map_push_both (λ (x : Session g.row.N.Denot g.N.Naming). x.receipts.items) (λ (d : Done g.row.N.Denot g.N.Naming). d.session.receipts.items)
+          (map_push_both (λ (x : Session g.row.N.Denot g.N.DeskNaming). x.receipts.items) (λ (d : Done g.row.N.Denot g.N.DeskNaming). d.session.receipts.items)
           c.loop-one.sessions.items c.loop-one.yielded c.in-Some.one.session c.in-Some.one c.loop-one.invariant.1 refl),
     )
 
@@ -24,5 +24,5 @@ returns-in-Ok-clause-receipts g c =
     let none : c.loop-one.one-iterator.rest.items ≡ [] = grind (arith, common_steps) in
     let whole = all_yielded c.loop-one.yielded c.loop-one.one-iterator.rest.items c.args.done.items none c.loop-one.invariant.0 in
     subst (λ (rs : List (List Receipt)). IsPermutation (receipts_of rs) c.in-Ok.closed.receipts.items)
-    (c.loop-one.invariant.1 ∙ ap (λ (ds : List (Done g.row.N.Denot g.N.Naming)). map (λ (d : Done g.row.N.Denot g.N.Naming). d.session.receipts.items) ds) whole)
+    (c.loop-one.invariant.1 ∙ ap (λ (ds : List (Done g.row.N.Denot g.N.DeskNaming)). map (λ (d : Done g.row.N.Denot g.N.DeskNaming). d.session.receipts.items) ds) whole)
     c.in-Ok.ensures.receipts

@@ -9,9 +9,9 @@ use Rattle.replica_command.proofs.staying.stay.Goals as goal
 
 pub returns-clause-printed : goal.returns-clause-printed
 returns-clause-printed g c =
-    let asked_of = λ (w : Work g.row.N.Denot g.N.Naming). w.requests.items in
-    let answered_of = λ (d : Done g.row.N.Denot g.N.Naming). d.outcomes.items in
-    let receipts_in = λ (d : Done g.row.N.Denot g.N.Naming). d.session.receipts.items in
+    let asked_of = λ (w : Work g.row.N.Denot g.N.DeskNaming). w.requests.items in
+    let answered_of = λ (d : Done g.row.N.Denot g.N.DeskNaming). d.outcomes.items in
+    let receipts_in = λ (d : Done g.row.N.Denot g.N.DeskNaming). d.session.receipts.items in
     let before = g.W.Sink.text c.args.out.now in
     let mid = g.W.Sink.text c.print_outcomes.new.out in
     let after = g.W.Sink.text c.print_count.new.out in
@@ -20,7 +20,7 @@ returns-clause-printed g c =
     let closed = c.in_ok-closed.closed in
     let ending = c.in_ok-ending.ending in
     let many : count ≡ length c.args.requests.items = search rules in
-    stay_printed g.N.Naming.committee g.N.Naming.replica c.args.requests.items closed.receipts.items asked_of answered_of receipts_in before mid after c.in_ok-work.work.items
+    stay_printed g.N.DeskNaming.committee g.N.DeskNaming.replica c.args.requests.items closed.receipts.items asked_of answered_of receipts_in before mid after c.in_ok-work.work.items
     done count (length closed.parts.log.steps) ending many c.in_ok-work.ensures c.in_ok-done.ensures
-    (subst (λ (ds : List (Done g.row.N.Denot g.N.Naming)). IsPrinted before mid (map answered_of ds) count ending) c.deref.ensures.value c.in_ok-ending.ensures.printed)
+    (subst (λ (ds : List (Done g.row.N.Denot g.N.DeskNaming)). IsPrinted before mid (map answered_of ds) count ending) c.deref.ensures.value c.in_ok-ending.ensures.printed)
     c.in_ok-closed.ensures.receipts (subst (λ (n : ℕ). Wrote mid after (closed_line n)) c.count.ensures.value c.in_ok-print_count.ensures.printed)

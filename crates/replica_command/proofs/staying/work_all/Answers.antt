@@ -20,8 +20,8 @@ loop-one-preserved g c =
 
 pub returns : goal.returns
 returns g c =
-    let Gives = λ (w : Work g.row.N.Denot g.N.Naming) (d : Done g.row.N.Denot g.N.Naming).
-    AreWorked g.N.Naming.committee g.N.Naming.replica w.requests.items d.session.receipts.items d.outcomes.items in
+    let Gives = λ (w : Work g.row.N.Denot g.N.DeskNaming) (d : Done g.row.N.Denot g.N.DeskNaming).
+    AreWorked g.N.DeskNaming.committee g.N.DeskNaming.replica w.requests.items d.session.receipts.items d.outcomes.items in
     let s = c.in-None.ensures.steps in
     let calls = c.in_ok-done.ensures in
     let results = c.in_ok-done.done.items in
@@ -30,10 +30,10 @@ returns g c =
     let none : c.loop-one.one-iterator.rest.items ≡ [] = grind (arith, common_steps) in
     let whole = all_yielded c.loop-one.yielded c.loop-one.one-iterator.rest.items results none (c.loop-one.invariant.0 ∙ start.0) in
     let same : length results ≡ length jobs = omega (arith, calls.len) in
-    let zip : AllZip (λ (r : Result (Done g.row.N.Denot g.N.Naming) AllocError) (d : Done g.row.N.Denot g.N.Naming). r ≡ Ok d) results c.loop-one.all.items =
-    subst (λ (rs : List (Result (Done g.row.N.Denot g.N.Naming) AllocError)). AllZip (λ (r : Result (Done g.row.N.Denot g.N.Naming) AllocError) (d : Done g.row.N.Denot g.N.Naming). r ≡ Ok d) rs c.loop-one.all.items)
+    let zip : AllZip (λ (r : Result (Done g.row.N.Denot g.N.DeskNaming) AllocError) (d : Done g.row.N.Denot g.N.DeskNaming). r ≡ Ok d) results c.loop-one.all.items =
+    subst (λ (rs : List (Result (Done g.row.N.Denot g.N.DeskNaming) AllocError)). AllZip (λ (r : Result (Done g.row.N.Denot g.N.DeskNaming) AllocError) (d : Done g.row.N.Denot g.N.DeskNaming). r ≡ Ok d) rs c.loop-one.all.items)
     whole c.loop-one.invariant.1 in
     gathered Gives jobs results c.loop-one.all.items same
     (λ i j r within.
     let call = (calls.each i r within).1 in let met = call.call.met in
-    subst (λ (w : Work g.row.N.Denot g.N.Naming). IfOk (get_or results i r) (Gives w)) (sym (call.job_is j)) (search rules)) zip
+    subst (λ (w : Work g.row.N.Denot g.N.DeskNaming). IfOk (get_or results i r) (Gives w)) (sym (call.job_is j)) (search rules)) zip

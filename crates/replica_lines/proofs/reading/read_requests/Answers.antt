@@ -1,6 +1,6 @@
 use Rattle.std.proofs.Common.{◌≡◌, ◌+◌, ◌<◌, ◌∙◌, ℕ, ap, arith, length, refl, rules, take}
 use Rattle.std.proofs.lemmas.Result.{IfOk-weaker}
-use Rattle.faults.specs.Counting.{one_more}
+use Rattle.streams.specs.Counting.{one_more}
 use Rattle.replica_lines.specs.declared.reading.TheConstants.{MOST_LINES}
 use Rattle.replica_lines.proofs.Giving.{at_end, at_failure, at_most, goes_on}
 use Rattle.replica_lines.proofs.reading.read_requests.Goals as goal

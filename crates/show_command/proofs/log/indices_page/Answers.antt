@@ -1,7 +1,7 @@
 use Rattle.std.proofs.Common.{◌≡◌, ℕ, List, Bool, Some, sym, subst}
 use Rattle.key_index_store.specs.Indices.{limit_of}
 use Rattle.key_index_store.specs.Refusals.{HasNoBoundary, IsIndexRecoverRefusal}
-use Rattle.key_index_store.specs.declared.store.TheConstants.{MOST_KEYS}
+use Rattle.wire.specs.declared.limits.TheConstants.{MOST_KEYS}
 use Rattle.key_index_store.specs.declared.error.IndexError.{IndexError}
 use Rattle.stable_log.proofs.Told.{ok_both}
 use Rattle.show_command.specs.Files.{IsWholeOrElse, IsIndicesText, IsNoIndicesText}

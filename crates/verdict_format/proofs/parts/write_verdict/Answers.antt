@@ -8,9 +8,9 @@ returns-clause-spells c = record {
     replica = c.in_ok-put_head.ensures.replica;
     earlier = c.put_vote.ensures.is_vote;
     later = c.put_vote-2.ensures.is_vote;
-    headers = c.in_ok-put_headers.ensures.are_headers;
+    shown = c.in_ok-put_shown.ensures.has_bytes;
   };
   text =
-      written c.args.parts.now c.in_ok-text.text.items c.put_head.new.text.items c.put_vote.new.text.items c.put_vote-2.new.text.items c.put_headers.new.text.items
-      c.in_ok-text.ensures.items c.in_ok-put_head.ensures.text c.in_ok-put_vote.ensures.text c.in_ok-put_vote-2.ensures.text c.in_ok-put_headers.ensures.text;
+      written c.args.parts.now c.in_ok-text.text.items c.put_head.new.text.items c.put_vote.new.text.items c.put_vote-2.new.text.items c.put_shown.new.text.items
+      c.in_ok-text.ensures.items c.in_ok-put_head.ensures.text c.in_ok-put_vote.ensures.text c.in_ok-put_vote-2.ensures.text c.in_ok-put_shown.ensures.text;
 }

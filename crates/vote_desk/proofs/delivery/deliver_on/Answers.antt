@@ -25,8 +25,8 @@ returns-in-Vote-clause-ok g c =
     let e = c.in_ok-plan.ensures in
     let r = c.in_ok-receipt-in-Vote.receipt in
     let v = c.in_ok-receipt-in-Vote.ensures in
-    delivered g.D.Disk.bytes g.N.Naming.committee g.N.Naming.replica o m n c.args.block p (Voted r) e.core e.plan e.block c.in-Vote.is v.stored.headers v.stored.genesis v.stored.state (v.stored.seeds ∙ e.same.0)
-    (votes g.D.Disk.bytes g.N.Naming.committee g.N.Naming.replica o m n c.args.block p r e.same.0 e.same.1 e.same.2 e.block v.number v.vote v.index v.good v.stored.adds v.drawn)
+    delivered g.D.Disk.bytes g.N.DeskNaming.committee g.N.DeskNaming.replica o m n c.args.block p (Voted r) e.core e.plan e.block c.in-Vote.is v.stored.headers v.stored.genesis v.stored.state (v.stored.seeds ∙ e.same.0)
+    (votes g.D.Disk.bytes g.N.DeskNaming.committee g.N.DeskNaming.replica o m n c.args.block p r e.same.0 e.same.1 e.same.2 e.block v.number v.vote v.index v.good v.stored.adds v.drawn)
     (v.released ∙ ap (λ (k : ℕ). k + 1) e.same.3)
 
 pub returns-in-Vote-clause-committed : goal.returns-in-Vote-clause-committed
@@ -56,11 +56,11 @@ returns-in-Vote-clause-any_moment g c =
     let n = c.vote.new.self in
     let m = c.plan.new.self in
     let p = c.in_ok-plan.plan in
-    let signed = signed_in (vote_under (chain_id_of g.N.Naming.committee) g.N.Naming.replica m.seeds m.indices.mark p.block) in
+    let signed = signed_in (vote_under (chain_id_of g.N.DeskNaming.committee) g.N.DeskNaming.replica m.seeds m.indices.mark p.block) in
     let entry = entry_for c.args.block p.parent (Some signed) in
     λ running.
-    weaker (g.D.Disk.bytes o.log.disk) g.D.Disk.moment g.D.Disk.images_since o.log.disk n.log.disk (IsLeftWith o.log.entries entry) (IsLeftBy g.N.Naming.committee g.N.Naming.replica o c.args.block)
-    (voted_image g.N.Naming.committee g.N.Naming.replica o m.core c.args.block p signed e.core e.plan e.block c.in-Vote.is e.legal (same_signature g.N.Naming.committee g.N.Naming.replica o m p.block c.args.block.header e.same.0 e.same.1 e.block))
+    weaker (g.D.Disk.bytes o.log.disk) g.D.Disk.moment g.D.Disk.images_since o.log.disk n.log.disk (IsLeftWith o.log.entries entry) (IsLeftBy g.N.DeskNaming.committee g.N.DeskNaming.replica o c.args.block)
+    (voted_image g.N.DeskNaming.committee g.N.DeskNaming.replica o m.core c.args.block p signed e.core e.plan e.block c.in-Vote.is e.legal (same_signature g.N.DeskNaming.committee g.N.DeskNaming.replica o m p.block c.args.block.header e.same.0 e.same.1 e.block))
     (subst (λ (l : LogState _). IfSome (g.D.Disk.bytes l.disk) (λ _. LeavesOnly g.D.Disk.moment g.D.Disk.images_since l.disk n.log.disk (IsLeftWith l.entries entry))) e.same.2 c.in_ok-receipt-in-Vote.ensures.any_moment)
 
 pub returns-in_err-receipt-in-Vote-clause-any_moment :
@@ -71,11 +71,11 @@ returns-in_err-receipt-in-Vote-clause-any_moment g c =
     let n = c.vote.new.self in
     let m = c.plan.new.self in
     let p = c.in_ok-plan.plan in
-    let signed = signed_in (vote_under (chain_id_of g.N.Naming.committee) g.N.Naming.replica m.seeds m.indices.mark p.block) in
+    let signed = signed_in (vote_under (chain_id_of g.N.DeskNaming.committee) g.N.DeskNaming.replica m.seeds m.indices.mark p.block) in
     let entry = entry_for c.args.block p.parent (Some signed) in
     λ running.
-    weaker (g.D.Disk.bytes o.log.disk) g.D.Disk.moment g.D.Disk.images_since o.log.disk n.log.disk (IsLeftWith o.log.entries entry) (IsLeftBy g.N.Naming.committee g.N.Naming.replica o c.args.block)
-    (voted_image g.N.Naming.committee g.N.Naming.replica o m.core c.args.block p signed e.core e.plan e.block c.in-Vote.is e.legal (same_signature g.N.Naming.committee g.N.Naming.replica o m p.block c.args.block.header e.same.0 e.same.1 e.block))
+    weaker (g.D.Disk.bytes o.log.disk) g.D.Disk.moment g.D.Disk.images_since o.log.disk n.log.disk (IsLeftWith o.log.entries entry) (IsLeftBy g.N.DeskNaming.committee g.N.DeskNaming.replica o c.args.block)
+    (voted_image g.N.DeskNaming.committee g.N.DeskNaming.replica o m.core c.args.block p signed e.core e.plan e.block c.in-Vote.is e.legal (same_signature g.N.DeskNaming.committee g.N.DeskNaming.replica o m p.block c.args.block.header e.same.0 e.same.1 e.block))
     (subst (λ (l : LogState _). IfSome (g.D.Disk.bytes l.disk) (λ _. LeavesOnly g.D.Disk.moment g.D.Disk.images_since l.disk n.log.disk (IsLeftWith l.entries entry))) e.same.2 c.in_err-receipt-in-Vote.ensures.any_moment)
 
 pub returns-in_err-receipt-in-Vote-clause-first_refusal :
@@ -99,7 +99,7 @@ returns-in-Raise-clause-ok g c =
     let p = c.in_ok-plan.plan in
     let e = c.in_ok-plan.ensures in
     let v = c.in_ok-raise-in-Raise.ensures in
-    delivered g.D.Disk.bytes g.N.Naming.committee g.N.Naming.replica o m n c.args.block p Raised e.core e.plan e.block c.in-Raise.is v.stored.headers v.stored.genesis v.stored.state (v.stored.seeds ∙ e.same.0)
+    delivered g.D.Disk.bytes g.N.DeskNaming.committee g.N.DeskNaming.replica o m n c.args.block p Raised e.core e.plan e.block c.in-Raise.is v.stored.headers v.stored.genesis v.stored.state (v.stored.seeds ∙ e.same.0)
     (record {
       adds = subst (λ (l : LogState _). AddsEntry g.D.Disk.bytes l n.log (entry_for c.args.block p.parent None)) e.same.2 v.stored.adds;
       undrawn = v.same.0 ∙ e.same.1;
@@ -123,8 +123,8 @@ returns-in-Raise-clause-any_moment g c =
     let n = c.raise.new.self in
     let entry = entry_for c.args.block c.in_ok-plan.plan.parent None in
     λ running.
-    weaker (g.D.Disk.bytes o.log.disk) g.D.Disk.moment g.D.Disk.images_since o.log.disk n.log.disk (IsLogBeforeOrAfter o.log.entries entry) (IsLeftBy g.N.Naming.committee g.N.Naming.replica o c.args.block)
-    (raised_image g.N.Naming.committee g.N.Naming.replica o c.plan.new.self.core c.args.block c.in_ok-plan.plan e.core e.plan e.block c.in-Raise.is e.legal c.raise.ensures.is_entry)
+    weaker (g.D.Disk.bytes o.log.disk) g.D.Disk.moment g.D.Disk.images_since o.log.disk n.log.disk (IsLogBeforeOrAfter o.log.entries entry) (IsLeftBy g.N.DeskNaming.committee g.N.DeskNaming.replica o c.args.block)
+    (raised_image g.N.DeskNaming.committee g.N.DeskNaming.replica o c.plan.new.self.core c.args.block c.in_ok-plan.plan e.core e.plan e.block c.in-Raise.is e.legal c.raise.ensures.is_entry)
     (subst (λ (l : LogState _). IfSome (g.D.Disk.bytes l.disk) (λ _. LeavesOnly g.D.Disk.moment g.D.Disk.images_since l.disk n.log.disk (IsLogBeforeOrAfter l.entries entry))) e.same.2 c.in_ok-raise-in-Raise.ensures.any_moment)
 
 pub returns-in_err-raise-in-Raise-clause-any_moment :
@@ -135,8 +135,8 @@ returns-in_err-raise-in-Raise-clause-any_moment g c =
     let n = c.raise.new.self in
     let entry = entry_for c.args.block c.in_ok-plan.plan.parent None in
     λ running.
-    weaker (g.D.Disk.bytes o.log.disk) g.D.Disk.moment g.D.Disk.images_since o.log.disk n.log.disk (IsLogBeforeOrAfter o.log.entries entry) (IsLeftBy g.N.Naming.committee g.N.Naming.replica o c.args.block)
-    (raised_image g.N.Naming.committee g.N.Naming.replica o c.plan.new.self.core c.args.block c.in_ok-plan.plan e.core e.plan e.block c.in-Raise.is e.legal c.raise.ensures.is_entry)
+    weaker (g.D.Disk.bytes o.log.disk) g.D.Disk.moment g.D.Disk.images_since o.log.disk n.log.disk (IsLogBeforeOrAfter o.log.entries entry) (IsLeftBy g.N.DeskNaming.committee g.N.DeskNaming.replica o c.args.block)
+    (raised_image g.N.DeskNaming.committee g.N.DeskNaming.replica o c.plan.new.self.core c.args.block c.in_ok-plan.plan e.core e.plan e.block c.in-Raise.is e.legal c.raise.ensures.is_entry)
     (subst (λ (l : LogState _). IfSome (g.D.Disk.bytes l.disk) (λ _. LeavesOnly g.D.Disk.moment g.D.Disk.images_since l.disk n.log.disk (IsLogBeforeOrAfter l.entries entry))) e.same.2 c.in_err-raise-in-Raise.ensures.any_moment)
 
 pub returns-in_err-raise-in-Raise-clause-first_refusal :
@@ -160,7 +160,7 @@ returns-in-Pass-clause-ok g c =
     let p = c.in_ok-plan.plan in
     let e = c.in_ok-plan.ensures in
     let v = c.pass.ensures in
-    delivered g.D.Disk.bytes g.N.Naming.committee g.N.Naming.replica o m n c.args.block p Held e.core e.plan e.block c.in-Pass.is v.headers v.genesis v.state (v.same.0 ∙ e.same.0)
+    delivered g.D.Disk.bytes g.N.DeskNaming.committee g.N.DeskNaming.replica o m n c.args.block p Held e.core e.plan e.block c.in-Pass.is v.headers v.genesis v.state (v.same.0 ∙ e.same.0)
     (record { log = v.same.2 ∙ e.same.2; undrawn = v.same.1 ∙ e.same.1 })
     (let k : n.released ≡ o.released = v.same.3 ∙ e.same.3 in omega arith)
 
@@ -181,5 +181,5 @@ returns-in-Pass-clause-any_moment g c =
     let o = c.args.state.now in
     let e = c.in_ok-plan.ensures in
     λ running.
-    subst (λ (l : LogState _). IfSome (g.D.Disk.bytes o.log.disk) (λ _. LeavesOnly g.D.Disk.moment g.D.Disk.images_since o.log.disk l.disk (IsLeftBy g.N.Naming.committee g.N.Naming.replica o c.args.block))) (sym c.pass.ensures.same.2)
-    (weaker (g.D.Disk.bytes o.log.disk) g.D.Disk.moment g.D.Disk.images_since o.log.disk c.plan.new.self.log.disk (λ image. StandsForEntries image o.log.entries) (IsLeftBy g.N.Naming.committee g.N.Naming.replica o c.args.block) (λ image s. inl s) (e.unmoved running))
+    subst (λ (l : LogState _). IfSome (g.D.Disk.bytes o.log.disk) (λ _. LeavesOnly g.D.Disk.moment g.D.Disk.images_since o.log.disk l.disk (IsLeftBy g.N.DeskNaming.committee g.N.DeskNaming.replica o c.args.block))) (sym c.pass.ensures.same.2)
+    (weaker (g.D.Disk.bytes o.log.disk) g.D.Disk.moment g.D.Disk.images_since o.log.disk c.plan.new.self.log.disk (λ image. StandsForEntries image o.log.entries) (IsLeftBy g.N.DeskNaming.committee g.N.DeskNaming.replica o c.args.block) (λ image s. inl s) (e.unmoved running))

@@ -6,7 +6,7 @@ use Rattle.vote_desk.proofs.opening.deal.Goals as goal
 
 pub loop-i-preserved : goal.loop-i-preserved
 loop-i-preserved g c =
-    let S = Session g.row.N.Denot g.N.Naming in
+    let S = Session g.row.N.Denot g.N.DeskNaming in
     let i = c.loop-i.invariant in
     let p = c.in_ok-push.ensures in
     let s = c.split_off-share.ensures in (

@@ -10,7 +10,7 @@ invariant_of-result g c =
     let d = c.in-Ok.journal.disk in
     let read = c.in-Ok-read_reservations.ensures in
     store_read c.args.keys (g.D.Disk.bytes c.args.disk) (g.D.Disk.bytes d) c.in-Ok.journal.payloads c.in-Ok-read_reservations.count c.in-Ok.ensures.same.same c.in-Ok.ensures.ok read.ok (g.D.Disk.images d) c.in-Ok.ensures.durable read.counted.1
-    (g.D.Disk.bytes c.read_reservations.new.journal.disk) (g.D.Disk.images c.read_reservations.new.journal.disk) c.read_reservations.new.journal.payloads read.same.2.same read.same.0 read.counted.0 c.requires.some c.requires.most read.same.2.no_new
+    (g.D.Disk.bytes c.read_reservations.new.journal.disk) (g.D.Disk.images c.read_reservations.new.journal.disk) c.read_reservations.new.journal.payloads read.same.2.same read.same.0 read.counted.0 c.requires read.same.2.no_new
 
 pub returns-in-Ok-read_reservations-clause-not_again :
     goal.returns-in-Ok-read_reservations-clause-not_again

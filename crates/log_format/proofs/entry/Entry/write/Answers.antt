@@ -1,4 +1,5 @@
 use Rattle.std.proofs.Common.{◌≡◌, ◌<◌, ◌≤◌, ◌++◌, ◌∷◌, [], List, ℕ, length, ap, subst, sym, ◌∙◌}
+use Rattle.blocks.specs.Headers.{header_text}
 use Rattle.log_format.specs.EntryText.{Entry, IsEntry, entry_text}
 use Rattle.log_format.proofs.EntryLaws.{length-entry_text, written}
 use Rattle.log_format.proofs.entry.Entry.write.Goals as goal
@@ -13,7 +14,7 @@ returns-clause-text c =
     let made : c.append-4.new.text.items ≡ entry_text e =
     written e c.new-text.result.items first second third fourth c.append-4.new.text.items c.new-text.ensures.items
     (c.in_ok-append.ensures.ok ∙ ap (λ (k : ℕ). c.new-text.result.items ++ k ∷ []) c.entry_kind.ensures)
-    (c.in_ok-append-2.ensures.ok ∙ ap (λ (t : List ℕ). first ++ t) c.to_bytes.ensures.text)
+    (c.in_ok-append-2.ensures.ok ∙ ap (λ (t : List ℕ). first ++ t) (c.to_bytes.ensures.text ∙ ap header_text c.header.ensures))
     (c.in_ok-append-3.ensures.ok ∙ ap (λ (t : List ℕ). second ++ t) c.to_bytes-2.ensures.text)
     c.in_ok-put_own_vote.ensures
     (c.in_ok-append-4.ensures.ok ∙ ap (λ (t : List ℕ). fourth ++ t) (c.deref.ensures.value ∙ c.in_ok-certificate.ensures.text)) in

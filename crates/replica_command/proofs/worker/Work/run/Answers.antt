@@ -5,8 +5,8 @@ use Rattle.replica_command.proofs.worker.Work.run.Goals as goal
 
 pub loop-number-preserved : goal.loop-number-preserved
 loop-number-preserved g c =
-    let committee = g.N.Naming.committee in
-    let replica = g.N.Naming.replica in
+    let committee = g.N.DeskNaming.committee in
+    let replica = g.N.DeskNaming.replica in
     let outcome = c.in_ok-outcome.outcome in
     let asked = c.in-Some.field-0 in
     let answered : Answered = record { number = asked.number; outcome = outcome } in

@@ -15,7 +15,7 @@ returns-in-Some-clause-same g c =
 pub invariant_of-self-2 : goal.invariant_of-self-2
 invariant_of-self-2 g c =
     let none : get vote_cmp c.self.inside.posted c.args.vote ≡ None = search rules in
-    still_are g.N.Naming.committee c.self.inside.posted.entries c.insert.new.self.entries (answers_stay c.self.inside.posted c.insert.new.self c.args.vote none c.in_ok-insert.ensures.updates) c.self.invariant
+    still_are g.N.BoardNaming.committee c.self.inside.posted.entries c.insert.new.self.entries (answers_stay c.self.inside.posted c.insert.new.self c.args.vote none c.in_ok-insert.ensures.updates) c.self.invariant
 
 pub returns-clause-answers : goal.returns-clause-answers
 returns-clause-answers g c v =

@@ -5,4 +5,4 @@ use Rattle.vote_board.proofs.memo.Memo.recall.Goals as goal
 
 pub returns-clause-answer : goal.returns-clause-answer
 returns-clause-answer g c =
-    recalled g.N.Naming.committee c.self.inside.posted.entries c.args.vote.now c.flatten.result c.self.invariant (c.flatten.ensures ∙ ap option_flatten (c.copied.ensures ∙ c.get.ensures.value))
+    recalled g.N.BoardNaming.committee c.self.inside.posted.entries c.args.vote.now c.flatten.result c.self.invariant (c.flatten.ensures ∙ ap option_flatten (c.copied.ensures ∙ c.get.ensures.value))

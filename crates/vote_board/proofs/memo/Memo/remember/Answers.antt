@@ -6,7 +6,7 @@ use Rattle.vote_board.proofs.memo.Memo.remember.Goals as goal
 
 pub invariant_of-self-2 : goal.invariant_of-self-2
 invariant_of-self-2 g c =
-    still_answers g.N.Naming.committee c.self.inside.posted c.insert.new.self c.args.vote c.args.is_good c.in_ok-insert.ensures.updates c.self.invariant c.requires
+    still_answers g.N.BoardNaming.committee c.self.inside.posted c.insert.new.self c.args.vote c.args.is_good c.in_ok-insert.ensures.updates c.self.invariant c.requires
 
 pub returns-clause-others : goal.returns-clause-others
 returns-clause-others g c v other =

@@ -9,7 +9,7 @@ invariant_of-self g c =
     let plan = rw (← c.self.view_is) at c.requires.plan in
     let done = c.apply.ensures in
     record {
-      desk = keeps_passed g.D.Disk.bytes g.D.Disk.images g.N.Naming.committee g.N.Naming.replica g.N.Naming.opening d c.self.invariant.desk c.apply.new.self c.args.plan plan c.requires.act done.headers done.genesis done.state;
+      desk = keeps_passed g.D.Disk.bytes g.D.Disk.images g.N.DeskNaming.committee g.N.DeskNaming.replica g.N.DeskNaming.opening d c.self.invariant.desk c.apply.new.self c.args.plan plan c.requires.act done.headers done.genesis done.state;
       replica_is = c.self.invariant.replica_is;
       chain_is = c.self.invariant.chain_is;
       opened_is = c.self.invariant.opened_is;

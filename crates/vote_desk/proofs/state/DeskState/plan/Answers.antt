@@ -20,4 +20,4 @@ returns-clause-legal g c =
     let i = c.self.inside in
     let d : DeskView _ = record { core = i.core; seeds = i.trees.items; indices = i.indices; log = i.log; released = i.book.total } in
     let e = c.in-Ok.ensures in
-    rw (← c.self.view_is) (plan_legal g.D.Disk.bytes g.D.Disk.images g.N.Naming.committee g.N.Naming.replica g.N.Naming.opening d c.self.invariant.desk c.admit.new.self c.in-Ok.plan e.same e.plan)
+    rw (← c.self.view_is) (plan_legal g.D.Disk.bytes g.D.Disk.images g.N.DeskNaming.committee g.N.DeskNaming.replica g.N.DeskNaming.opening d c.self.invariant.desk c.admit.new.self c.in-Ok.plan e.same e.plan)

@@ -7,7 +7,7 @@ invariant_of-self g c =
     let i = c.self.inside in
     let d : DeskView _ = record { core = i.core; seeds = i.trees.items; indices = i.indices; log = i.log; released = i.book.total } in
     record {
-      desk = keeps_timed_out g.D.Disk.bytes g.D.Disk.images g.N.Naming.committee g.N.Naming.replica g.N.Naming.opening d c.self.invariant.desk c.timeout.new.self c.args.view c.timeout.ensures;
+      desk = keeps_timed_out g.D.Disk.bytes g.D.Disk.images g.N.DeskNaming.committee g.N.DeskNaming.replica g.N.DeskNaming.opening d c.self.invariant.desk c.timeout.new.self c.args.view c.timeout.ensures;
       replica_is = c.self.invariant.replica_is;
       chain_is = c.self.invariant.chain_is;
       opened_is = c.self.invariant.opened_is;

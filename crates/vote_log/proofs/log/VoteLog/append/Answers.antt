@@ -57,7 +57,7 @@ invariant_of-self-2 g c =
     c.push_reserved.ensures.items ∙ ap (λ (l : List Stored). l ++ c.stored.result ∷ []) c.reserve.ensures.items ∙ ap (λ (s : Stored). steps ++ s ∷ []) c.stored.ensures in
     subst (λ (l : List Stored). KeepsLog (g.D.Disk.bytes n.disk) (g.D.Disk.images n.disk) n.payloads n.stopped c.self.inside.genesis l) (sym pushed)
     (kept_appended (g.D.Disk.bytes j.disk) (g.D.Disk.bytes n.disk) (g.D.Disk.images j.disk) (g.D.Disk.images n.disk) j.payloads n.payloads j.stopped n.stopped c.self.inside.genesis steps c.deref.result.now c.args.entry.now
-    c.self.invariant legal is added.ok added.counted added.tells added.durable)
+    c.self.invariant legal is added.ok added.grows.counted added.tells added.durable)
 
 pub returns-clause-listed : goal.returns-clause-listed
 returns-clause-listed g c =

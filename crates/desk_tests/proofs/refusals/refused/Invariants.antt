@@ -1,7 +1,0 @@
-use Rattle.desk_tests.proofs.refusals.refused.Given as goal
-
-abbrev pub ghosts-starts-N-Naming : goal.ghosts-starts-N-Naming
-ghosts-starts-N-Naming g a = record { committee = a.committee.now; replica = a.replica; opening = a.parts.log.steps }
-
-abbrev pub ghosts-starts-N-Ledger : goal.ghosts-starts-N-Ledger
-ghosts-starts-N-Ledger g a = record { name = a.blank.name; parts = a.blank.parts }

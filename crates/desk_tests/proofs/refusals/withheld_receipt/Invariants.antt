@@ -1,7 +1,0 @@
-use Rattle.desk_tests.proofs.refusals.withheld_receipt.Given as goal
-
-abbrev pub ghosts-withholds-N-Naming : goal.ghosts-withholds-N-Naming
-ghosts-withholds-N-Naming g a = record { committee = a.committee.now; replica = 0; opening = a.parts.log.steps }
-
-abbrev pub ghosts-withholds-N-Ledger : goal.ghosts-withholds-N-Ledger
-ghosts-withholds-N-Ledger g a = record { name = a.blank.name; parts = a.blank.parts }

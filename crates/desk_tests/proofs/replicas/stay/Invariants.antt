@@ -1,7 +1,0 @@
-use Rattle.desk_tests.proofs.replicas.stay.Given as goal
-
-abbrev pub ghosts-stays-N-Naming : goal.ghosts-stays-N-Naming
-ghosts-stays-N-Naming g a = record { committee = a.committee.now; replica = 0; opening = a.parts.log.steps }
-
-abbrev pub ghosts-stays-N-Ledger : goal.ghosts-stays-N-Ledger
-ghosts-stays-N-Ledger g a = record { name = a.blank.name; parts = a.blank.parts }

@@ -1,0 +1,211 @@
+//! One stay of a replica at its desk.
+
+ghost use Rattle.std.specs.Prelude.{◌≡◌};
+
+use crate::choosing::{Operation, choose};
+use crate::counts::one_more;
+use crate::desk_model::{Expected, Outcome};
+use crate::failure::{Failure, same};
+use crate::keys::Signers;
+use crate::round::{Round, Run};
+use crate::tree::BlockTree;
+use blocks::CommitteeView;
+use replica_core::Core;
+use stable_log::MemoryDisk;
+use std::alloc::Global;
+use std::marker::Brand;
+use std::sync::Wait;
+use std::sync::ledger::Blank;
+use vote_desk::{Answer, Desk, DeskError, DeskNaming, Parts, Receipt, Reply, Session};
+
+// The number of the receipt's key index.
+fn index_of(receipt: &Receipt) -> u32 {
+    let [a, b, c, d, ..] = receipt.vote.signature;
+    u32::from_be_bytes([a, b, c, d])
+}
+
+fn outcome_of(act: &Answer) -> Outcome {
+    match act {
+        Answer::Voted(receipt) => Outcome::Voted {
+            entry: receipt.number as usize,
+            index: index_of(receipt),
+        },
+        Answer::Raised => Outcome::Raised,
+        Answer::Held => Outcome::Held,
+    }
+}
+
+fn answered(tree: &BlockTree, reply: &Result<Reply, DeskError>) -> Expected {
+    match reply {
+        Ok(reply) => Expected {
+            outcome: outcome_of(&reply.act),
+            committed: reply
+                .committed
+                .map(|id| tree.number_of(&id).unwrap_or(usize::MAX)),
+        },
+        Err(refusal) => Expected {
+            outcome: Outcome::Refused(*refusal),
+            committed: None,
+        },
+    }
+}
+
+// Keeps what was answered.
+fn keep(round: &mut Round, reply: &Result<Reply, DeskError>) -> Result<(), Failure> {
+    match reply {
+        Ok(reply) => {
+            if let Answer::Voted(receipt) = reply.act {
+                round.released.push(receipt)?;
+            }
+        }
+        Err(DeskError::KeySpent) => round.spent = round.spent.saturating_add(1),
+        Err(_) => {}
+    }
+    Ok(())
+}
+
+// Delivers a block, which is to be answered as the model says.
+fn deliver<N: DeskNaming, R: Wait>(
+    rt: &R,
+    alloc: Global,
+    desk: &Desk<N, MemoryDisk>,
+    session: &mut Session<N>,
+    committee: &CommitteeView,
+    round: &mut Round,
+    run: &mut Run,
+    block: usize,
+) -> Result<(), Failure>
+    requires { committee.now ≡ N.committee }
+{
+    let checked = round.tree.checked(alloc, committee, block)?;
+    let reply = desk.deliver(rt, session, checked);
+    let want = round.desk.deliver(&round.tree, block)?;
+    let got = answered(&round.tree, &reply);
+    run.counts.answer(&got.outcome);
+    same(alloc, "a delivery", &want, &got)?;
+    keep(round, &reply)
+}
+
+// Gives up on views.
+fn time_out<N: DeskNaming, R: Wait>(
+    rt: &R,
+    alloc: Global,
+    desk: &Desk<N, MemoryDisk>,
+    round: &mut Round,
+    run: &mut Run,
+    view: u64,
+) -> Result<(), Failure> {
+    one_more(&mut run.counts.timeouts);
+    let got = desk.timeout(rt, view);
+    let want = round.desk.time_out(view);
+    same(alloc, "a timeout", &want, &got)
+}
+
+// Operations on a desk, up to one that leaves it, or to the round's end.
+fn work<N: DeskNaming, R: Wait>(
+    rt: &R,
+    alloc: Global,
+    desk: &Desk<N, MemoryDisk>,
+    session: &mut Session<N>,
+    committee: &CommitteeView,
+    signers: &Signers,
+    round: &mut Round,
+    run: &mut Run,
+) -> Result<(), Failure>
+    requires { committee.now ≡ N.committee }
+{
+    for _ in 0..u64::MAX {
+        if round.is_over(run) {
+            break;
+        }
+        run.left = run.left.saturating_sub(1);
+        match choose(alloc, signers, round, run)? {
+            Operation::Deliver(block) => {
+                deliver(rt, alloc, desk, session, committee, round, run, block)?;
+            }
+            Operation::TimeOut(view) => time_out(rt, alloc, desk, round, run, view)?,
+            Operation::Leave => break,
+        }
+    }
+    Ok(())
+}
+
+// The core that a desk leaves has the model's state, and holds the same blocks.
+fn judge(alloc: Global, round: &Round, core: &Core) -> Result<(), Failure> {
+    let Round { tree, desk, .. } = round;
+    let replica = &desk.replica;
+    let views = [replica.vote_view(), replica.stored_vote_view()];
+    let got = [core.vote_view(), core.stored_vote_view()];
+    same(alloc, "the vote view and the stored one", &views, &got)?;
+    let lock = tree.number_of(&core.lock().id);
+    same(alloc, "the lock", &Some(replica.lock()), &lock)?;
+    for number in 0..tree.count() {
+        if core.holds(&tree.block(number).id) != replica.holds(number) {
+            return Err(Failure::Refused("a core holds the blocks of the model"));
+        }
+    }
+    Ok(())
+}
+
+// A desk is opened with one session and closed again, with work in between.
+fn works<N: DeskNaming, R: Wait>(
+    rt: &R,
+    alloc: Global,
+    blank: Blank,
+    committee: &CommitteeView,
+    signers: &Signers,
+    parts: Parts<MemoryDisk>,
+    round: &mut Round,
+    run: &mut Run,
+) -> Result<Parts<MemoryDisk>, Failure>
+    requires name { blank.name ≡ N.name }
+    requires ledger { (blank.parts ≡ N.parts) × (N.parts ≡ 1) }
+    requires committee { committee.now ≡ N.committee }
+    requires replica { 0 ≡ N.replica }
+    requires opening { parts.log.steps ≡ N.opening }
+{
+    let Ok((desk, mut sessions)) = Desk::<N, MemoryDisk>::start(
+        alloc, blank, committee, 0, parts, 1,
+    ) else {
+        return Err(Failure::Refused("a desk is opened"));
+    };
+    work(
+        rt,
+        alloc,
+        &desk,
+        &mut sessions[0],
+        committee,
+        signers,
+        round,
+        run,
+    )?;
+    match desk.close(alloc, sessions) {
+        Ok(closed) => {
+            judge(alloc, round, &closed.core)?;
+            Ok(closed.parts)
+        }
+        Err(_) => Err(Failure::Refused("a desk is closed")),
+    }
+}
+
+/// One stay of replica 0 at a desk of its own.
+pub(crate) fn stay<R: Wait>(
+    rt: &R,
+    alloc: Global,
+    committee: &CommitteeView,
+    signers: &Signers,
+    parts: Parts<MemoryDisk>,
+    round: &mut Round,
+    run: &mut Run,
+) -> Result<Parts<MemoryDisk>, Failure> {
+    works::<Brand, R>(
+        rt,
+        alloc,
+        Blank::new(1),
+        committee,
+        signers,
+        parts,
+        round,
+        run,
+    )
+}

@@ -1,7 +1,0 @@
-use Rattle.memory_runs.proofs.closing.close_desk.Given as goal
-
-abbrev pub ghosts-closes-N-Naming : goal.ghosts-closes-N-Naming
-ghosts-closes-N-Naming g a = record { committee = a.committee.now; replica = 0; opening = a.parts.log.steps }
-
-abbrev pub ghosts-closes-N-Ledger : goal.ghosts-closes-N-Ledger
-ghosts-closes-N-Ledger g a = record { name = a.blank.name; parts = a.blank.parts }

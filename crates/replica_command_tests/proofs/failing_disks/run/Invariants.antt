@@ -1,7 +1,0 @@
-use Rattle.replica_command_tests.proofs.failing_disks.run.Given as goal
-
-abbrev pub ghosts-stay-N-Naming : goal.ghosts-stay-N-Naming
-ghosts-stay-N-Naming g a = record { committee = a.committee.now; replica = 0; opening = a.parts.log.steps }
-
-abbrev pub ghosts-stay-N-Ledger : goal.ghosts-stay-N-Ledger
-ghosts-stay-N-Ledger g a = record { name = a.blank.name; parts = a.blank.parts }

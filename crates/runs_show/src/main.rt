@@ -1,0 +1,33 @@
+//! Runs scenarios of the program that shows files: the script on standard input, over the files of `data`.
+#![tactic(auto)]
+
+use runs_script::run_script;
+use show_command::run_show;
+use std::fs::{File, Files};
+use std::io;
+use streams::MemorySink;
+
+// The program that shows files alone.
+fn run_named<R: Files<File = File> + AllocGlobal>(
+    rt: &R,
+    name: &str,
+    words: &[String],
+    _input: &[u8],
+    out: &mut MemorySink,
+    faults: &mut MemorySink,
+) -> Option<u8> {
+    let alloc = rt.alloc();
+    match name {
+        "hs_show" => Some(run_show(rt, alloc, words, out, faults)),
+        _ => None,
+    }
+}
+
+fn main(rt: HostRuntime) -> io::Result<()> {
+    run_script(
+        &rt,
+        &|name: &str, words: &[String], input: &[u8], out: &mut MemorySink, faults: &mut MemorySink| {
+            run_named(&rt, name, words, input, out, faults)
+        },
+    )
+}

@@ -1,0 +1,93 @@
+//! Runs scenarios of the operator's tool: the script on standard input, over the files of `data`.
+#![tactic(auto)]
+
+mod frames;
+
+use check_command::run_program;
+use frames::make_frames;
+use runs_script::{FailingFiles, Failure, run_script};
+use std::alloc::Global;
+use std::fs::{File, Files};
+use std::io;
+use std::net::{Net, TcpListener, TcpStream};
+use std::sync::Wait;
+use std::thread::Threads;
+use std::time::Clock;
+use streams::{MemoryFeed, MemorySink};
+use tool_commands::{Host, run_tool};
+
+// The operator's tool, also where memory is refused or the disk is full, the checker, and a maker of long exports.
+fn run_named<
+    R: Files<File = File>
+        + Threads
+        + Wait
+        + Clock
+        + Net<Listener = TcpListener, Stream = TcpStream>
+        + Sync
+        + AllocGlobal,
+>(
+    rt: &R,
+    name: &str,
+    words: &[String],
+    input: &[u8],
+    out: &mut MemorySink,
+    faults: &mut MemorySink,
+) -> Option<u8>
+where
+    R::Dir: Send,
+{
+    let alloc = rt.alloc();
+    match name {
+        "hs_tool" => Some(tool(rt, rt, alloc, words, out, faults)),
+        "hs_tool_without_memory" => {
+            let files = FailingFiles {
+                rt,
+                failure: Failure::Memory,
+            };
+            Some(tool(&files, rt, alloc, words, out, faults))
+        }
+        "hs_tool_on_a_full_disk" => {
+            let files = FailingFiles {
+                rt,
+                failure: Failure::FullDisk,
+            };
+            Some(tool(&files, rt, alloc, words, out, faults))
+        }
+        "hs_check" => Some(run_program(rt, alloc, words, input, out, faults)),
+        "frames" => Some(make_frames(rt, words)),
+        _ => None,
+    }
+}
+
+fn tool<
+    F: Files<File = File> + Sync,
+    T: Threads + Wait + Clock + Net<Listener = TcpListener, Stream = TcpStream> + Sync,
+>(
+    files: &F,
+    rt: &T,
+    alloc: Global,
+    words: &[String],
+    out: &mut MemorySink,
+    faults: &mut MemorySink,
+) -> u8
+where
+    F::Dir: Send,
+{
+    let host = Host {
+        files,
+        rt,
+        alloc,
+        console: None,
+    };
+    let mut lines = MemoryFeed::new(Vec::new(alloc));
+    run_tool(&host, words, &mut lines, out, faults)
+}
+
+fn main(rt: HostRuntime) -> io::Result<()> {
+    run_script(
+        &rt,
+        &|name: &str, words: &[String], input: &[u8], out: &mut MemorySink, faults: &mut MemorySink| {
+            run_named(&rt, name, words, input, out, faults)
+        },
+    )
+}

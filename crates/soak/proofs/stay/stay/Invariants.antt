@@ -1,7 +1,0 @@
-use Rattle.soak.proofs.stay.stay.Given as goal
-
-abbrev pub ghosts-works-N-Naming : goal.ghosts-works-N-Naming
-ghosts-works-N-Naming g a = record { committee = a.committee.now; replica = 0; opening = a.parts.log.steps }
-
-abbrev pub ghosts-works-N-Ledger : goal.ghosts-works-N-Ledger
-ghosts-works-N-Ledger g a = record { name = a.blank.name; parts = a.blank.parts }

@@ -1,7 +1,0 @@
-use Rattle.std.specs.List.{All}
-use Rattle.log_transfer.specs.declared.place.TheConstants.{MOST_TRIES}
-use Rattle.parallel_verify.specs.Collections.{MayBeTried}
-use Rattle.source_tests.proofs.sources.sources.Given as goal
-
-abbrev pub invariant-loop-log : goal.invariant-loop-log
-invariant-loop-log l = All (MayBeTried (λ c. MOST_TRIES)) l.sources.items

@@ -1,0 +1,7 @@
+use Rattle.test_replica_command.proofs.failing_disks.run.Given as goal
+
+abbrev pub ghosts-stay-N-DeskNaming : goal.ghosts-stay-N-DeskNaming
+ghosts-stay-N-DeskNaming g a = record { committee = a.committee.now; replica = 0; opening = a.parts.log.steps }
+
+abbrev pub ghosts-stay-N-Ledger : goal.ghosts-stay-N-Ledger
+ghosts-stay-N-Ledger g a = record { name = a.blank.name; parts = a.blank.parts }

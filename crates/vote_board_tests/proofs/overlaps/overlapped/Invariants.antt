@@ -1,4 +1,0 @@
-use Rattle.vote_board_tests.proofs.overlaps.overlapped.Given as goal
-
-abbrev pub ghosts-ask_both : goal.ghosts-ask_both
-ghosts-ask_both g a = record { committee = a.committee.now }
