@@ -31,7 +31,7 @@ pub record IsOnlyRead {D : Type 0} (disk : Ghosts D) (old new : JournalState D) 
   pub untouched : Untouched disk old.disk new.disk
 
 -- a call that blames one of two disks was failed by one, and else neither failed
-pub record BlamesOne (blamed : Type 0) (old old_after new new_after : ℕ) : Type 0 where
+pub record BlamesADisk (blamed : Type 0) (old old_after new new_after : ℕ) : Type 0 where
   pub cause : blamed → HasFailed old old_after ⊎ HasFailed new new_after
   pub kept : (blamed → ⊥) → (old_after ≡ old) × (new_after ≡ new)
 

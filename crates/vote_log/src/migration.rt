@@ -7,7 +7,7 @@ ghost use Rattle.streams.specs.Counting.{HasFailed};
 ghost use Rattle.stable_log.specs.Devices.{Untouched};
 ghost use Rattle.log_format.specs.EntryText.{Entry as EntryValue, stored_in};
 ghost use Rattle.vote_log.specs.Logs.{LeavesEntries, steps_of};
-ghost use Rattle.vote_log.specs.Migrations.{AreCarriedOver, BlamesOne, GivesOther, IsMigrateRefusal, IsOnlyRead, IsRunningLog, IsOldReadRefusal, IsOldStepsRefusal};
+ghost use Rattle.vote_log.specs.Migrations.{AreCarriedOver, BlamesADisk, GivesOther, IsMigrateRefusal, IsOnlyRead, IsRunningLog, IsOldReadRefusal, IsOldStepsRefusal};
 ghost use Rattle.vote_log.specs.OldEntries.{AreOldTexts, IsOldEntryAt, IsOldLog};
 
 use crate::old_entry::read_old;
@@ -180,8 +180,8 @@ pub fn migrate<D: Disk>(
     ensures unwritten { IfErr result (λ e. e.0 ≢ LogError.Memory → e.0 ≢ LogError.Device →
         IfSome (D.bytes old.disk) (λ _. IfSome (D.bytes disk) (λ _. Untouched D.Disk disk e.2))) }
     ensures cause { MatchResult result (λ r.
-        BlamesOne ⊥ (D.failed old.disk) (D.failed r.1.disk) (D.failed disk) (D.failed r.0.disk))
-        (λ e. BlamesOne (e.0 ≡ LogError.Device) (D.failed old.disk) (D.failed e.1.disk)
+        BlamesADisk ⊥ (D.failed old.disk) (D.failed r.1.disk) (D.failed disk) (D.failed r.0.disk))
+        (λ e. BlamesADisk (e.0 ≡ LogError.Device) (D.failed old.disk) (D.failed e.1.disk)
         (D.failed disk) (D.failed e.2)) }
 {
     let mut old = old;
