@@ -6,7 +6,6 @@ mod ballot;
 mod committee;
 mod header;
 mod laws;
-mod refusal_text;
 
 pub use ballot::Ballot;
 pub use committee::{

@@ -94,23 +94,6 @@ fn refusals_of_keys(rt: HostRuntime) -> Result<(), Fail> {
 }
 
 #[test]
-fn refusals_as_printed(rt: HostRuntime) -> Result<(), Fail> {
-    let printed = [
-        (CommitteeRefusal::Length, "1 Length"),
-        (CommitteeRefusal::Magic, "2 Magic"),
-        (CommitteeRefusal::Size, "3 Size"),
-        (CommitteeRefusal::Key(2), "4 Key 2"),
-        (CommitteeRefusal::SameKey(1, 3), "5 SameKey 1 3"),
-        (CommitteeRefusal::Weight(2), "6 Weight 2"),
-    ];
-    for (refusal, text) in printed {
-        let line = format!(in rt.alloc(); "{refusal}")?;
-        assert_eq!(rt; line.as_str(), text);
-    }
-    Ok(())
-}
-
-#[test]
 fn chain_of_a_committee(rt: HostRuntime) -> Result<(), Fail> {
     let bytes = committee(rt.alloc())?;
     let committee = CommitteeView::parse(&bytes)
