@@ -1,11 +1,15 @@
-//! Lines that a program prints: built in place, and those that say of a file or a committee why it gives up. Needs no
-//! threads, files or network.
+//! Lines that a program prints or reads: built in place, cut from a text, and those that say of a file or a committee
+//! why it gives up. Needs no threads, files or network.
 #![tactic(auto)]
 
 mod committee;
+mod cutting;
+mod digits;
 mod line;
 mod path;
 
 pub use committee::{committee_fault, refusal_text};
+pub use cutting::cut;
+pub use digits::{id_digits, put_id, put_number};
 pub use line::Line;
 pub use path::{write_file_fault, write_printed};
