@@ -38,6 +38,8 @@ pub(crate) const BEHIND_VOTE: usize = VOTE_AT + BOUND_VOTE_LEN;
 
 /// The greatest length of an entry in bytes.
 pub const LONGEST_ENTRY: usize = BEHIND_VOTE + LONGEST_CERTIFICATE;
+// As docs/FORMATS.md says.
+const _: () = prove!(LONGEST_ENTRY == 46_809);
 
 /// The signature of a replica's own vote, and the number of the key that signed it.
 #[derive(Clone, Copy)]
