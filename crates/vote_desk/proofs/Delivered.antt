@@ -22,6 +22,7 @@ use Rattle.log_format.specs.declared.entry.KeyedSignature.{KeyedSignature}
 use Rattle.vote_log.specs.Logs.{IsLogBeforeOrAfter, LeavesEntries, LogState}
 use Rattle.vote_desk.specs.declared.desk_error.DeskError.{DeskError}
 use Rattle.vote_desk.specs.declared.desk_error.DeskError.TheVariants as error
+use Rattle.vote_desk.specs.declared.planned_block.PlannedBlock.{PlannedBlock}
 use Rattle.vote_desk.specs.declared.reply.Answer.{Answer}
 use Rattle.vote_desk.specs.declared.reply.Receipt.{Receipt}
 use Rattle.vote_desk.specs.Deliveries.{AddsEntry, CommitsIn, HasEffect, IsDelivered, IsLeftBy, IsLeftWith, IsLegalPlan, IsStored, Votes, act_of, entry_for, planned_entry, released_by, signed_in, vote_under}
@@ -30,6 +31,10 @@ use Rattle.vote_desk.specs.Desks.{DeskView, KeepsDesk, index_of}
 use Rattle.vote_desk.proofs.Keeping.{legal_next}
 use Rattle.vote_desk.proofs.Plans.{asks_to_store, planned_back}
 use Rattle.vote_desk.proofs.Steps.{allowed_on, root_of}
+
+-- a planned block that is this block has its plan
+pub plan_is_of : (planned : PlannedBlock) (b : CheckedBlock) → planned.block ≡ b → planned.plan.block ≡ b.header
+plan_is_of planned b is = planned.of_block ∙ ap (λ (x : CheckedBlock). x.header) is
 
 -- a plan's entry is legal
 pub plan_legal : {D : Type 0} (bytes : D → Option (List ℕ)) (images : D → List ℕ → Type 0) (committee : List ℕ) (replica : ℕ) (opening : List Stored) (old : DeskView D) → KeepsDesk bytes images committee replica opening old

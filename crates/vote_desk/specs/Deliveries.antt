@@ -21,6 +21,7 @@ use Rattle.log_format.specs.EntryText.{Entry, IsEntry, stored_in}
 use Rattle.log_format.specs.declared.entry.KeyedSignature.{KeyedSignature}
 use Rattle.key_index_store.specs.Indices.{key_of, q_of}
 use Rattle.vote_log.specs.Logs.{LogState, StandsForEntries, LeavesEntries}
+use Rattle.vote_desk.specs.declared.planned_block.PlannedBlock.{PlannedBlock}
 use Rattle.vote_desk.specs.declared.reply.Receipt.{Receipt}
 use Rattle.vote_desk.specs.declared.reply.Answer.{Answer}
 use Rattle.vote_desk.specs.declared.reply.Answer.TheVariants.{Voted, Raised, Held}
@@ -62,6 +63,10 @@ signed_in vote = record { key = vote.key; signature = vote.signature }
 -- the entry of a block on this parent, with what it keeps of the own vote, if there is one
 abbrev pub entry_for : CheckedBlock → Header → Option KeyedSignature → Entry
 entry_for b p own = record { block = b.header; parent = p; own = own; certificate = b.certificate }
+
+-- the entry of a planned block, with what it keeps of the own vote, if there is one
+abbrev pub entry_of : PlannedBlock → Option KeyedSignature → Entry
+entry_of planned own = entry_for planned.block planned.plan.parent own
 
 -- the log's list is the old one and this entry
 pub record AddsEntry {D : Type 0} (bytes : D → Option (List ℕ)) (old new : LogState D) (e : Entry) : Type 0 where

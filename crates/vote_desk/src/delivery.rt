@@ -93,25 +93,25 @@ pub fn deliver_on<N: DeskNaming, D: Disk>(
 {
     // For the proof: each image that a crash leaves is found after the stay.
     state.crash_is_found(&block);
-    let plan = state.plan(&block)?;
-    let committed = plan.committed;
-    match plan.act {
+    let planned = state.plan(block)?;
+    let committed = planned.plan.committed;
+    match planned.plan.act {
         Act::Vote => {
-            let receipt = state.vote(session, block, plan)?;
+            let receipt = state.vote(session, planned)?;
             return Ok(Reply {
                 act: Answer::Voted(receipt),
                 committed,
             });
         }
         Act::Raise => {
-            state.raise(block, plan)?;
+            state.raise(planned)?;
             return Ok(Reply {
                 act: Answer::Raised,
                 committed,
             });
         }
         Act::Pass => {
-            state.pass(plan);
+            state.pass(planned.plan);
             return Ok(Reply {
                 act: Answer::Held,
                 committed,

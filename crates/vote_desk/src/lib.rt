@@ -10,6 +10,7 @@ mod desk_error;
 mod naming;
 mod opening;
 mod parts;
+mod planned_block;
 mod receipts;
 mod reply;
 mod session;

@@ -14,7 +14,7 @@ ghost use Rattle.log_format.specs.EntryText.{IsEntry};
 ghost use Rattle.vote_log.specs.Logs.{AreListed, IsLogBeforeOrAfter, LeavesEntries, StandsForEntries};
 ghost use Rattle.wire.specs.declared.limits.TheConstants.{MOST_ENTRIES, MOST_KEYS};
 ghost use Rattle.key_index_store.specs.Indices.{limit_of};
-ghost use Rattle.vote_desk.specs.Deliveries.{DrawsAtMostOne, FailsLog, FailsNone, FailsOne, IsKept, IsLeftBy, IsLeftWith, IsLegalPlan, IsStored, entry_for, signed_in, vote_under};
+ghost use Rattle.vote_desk.specs.Deliveries.{DrawsAtMostOne, FailsLog, FailsNone, FailsOne, IsKept, IsLeftBy, IsLeftWith, IsLegalPlan, IsStored, entry_of, signed_in, vote_under};
 ghost use Rattle.vote_desk.specs.DeskRefusals.{HasRoom, HasRoomTo, IsPlanRefusal, IsRunning, IsStopped, IsStorageRefusal};
 ghost use Rattle.vote_desk.specs.Desks.{AreKeysOf, KeepsDesk, desk_of, index_of, left_of};
 ghost use Rattle.vote_desk.specs.Stays.{IsImageAfter, IsStay, stay_in};
@@ -22,6 +22,7 @@ ghost use Rattle.vote_desk.specs.Stays.{IsImageAfter, IsStay, stay_in};
 use crate::desk_error::DeskError;
 use crate::naming::DeskNaming;
 use crate::parts::{Left, Parts};
+use crate::planned_block::PlannedBlock;
 use crate::reply::Receipt;
 use crate::session::Session;
 use crate::signing::draw;
@@ -158,20 +159,25 @@ impl<N: DeskNaming, D: Disk> DeskState<N, D> {
     }
 
     // What to do with a block, where the desk runs and there is room for it. Core and log stay as they are.
-    pub(crate) fn plan(&mut self, block: &CheckedBlock) -> Result<Plan, DeskError>
-        ensures plan { IfOk result (IsPlan self.new.core) }
+    pub(crate) fn plan<'a>(
+        &mut self,
+        block: CheckedBlock<'a>,
+    ) -> Result<PlannedBlock<'a>, DeskError>
+        ensures plan { IfOk result (λ planned. IsPlan self.new.core planned.plan) }
         ensures durable { OnOk result (IfSome (D.bytes self.old.log.disk) (λ _.
             LeavesEntries (D.images self.old.log.disk) self.old.log.entries)) }
         ensures chain { OnOk result (self.old.core.genesis ≡ genesis_of N.committee) }
-        ensures block { IfOk result (λ plan. plan.block ≡ block.now.header) }
-        ensures legal { IfOk result (IsLegalPlan self.old.core.genesis self.old.log.steps) }
-        ensures passes { OnOk result (IsAdmissible self.old.core block.now.header) }
+        ensures block { IfOk result (λ planned. planned.block ≡ block.entry) }
+        ensures legal { IfOk result (λ planned.
+            IsLegalPlan self.old.core.genesis self.old.log.steps planned.plan) }
+        ensures passes { OnOk result (IsAdmissible self.old.core block.entry.header) }
         ensures running { OnOk result (IsRunning self.old) }
-        ensures room { IfOk result (λ plan. HasRoomTo self.old.log self.old.indices plan.act) }
+        ensures room { IfOk result (λ planned.
+            HasRoomTo self.old.log self.old.indices planned.plan.act) }
         ensures core { IsSameCore self.old.core self.new.core }
         ensures same { (self.new.seeds ≡ self.old.seeds) × (self.new.indices ≡ self.old.indices)
             × (self.new.log ≡ self.old.log) × (self.new.released ≡ self.old.released) }
-        ensures first_refusal { IfErr result (IsPlanRefusal self.old block.now.header) }
+        ensures first_refusal { IfErr result (IsPlanRefusal self.old block.entry.header) }
 
         // While nothing is called a crash leaves the list.
         ensures unmoved { IsRunning self.old → IfSome (D.bytes self.old.log.disk) (λ _.
@@ -181,13 +187,13 @@ impl<N: DeskNaming, D: Disk> DeskState<N, D> {
         if self.stopped() {
             return Err(DeskError::Stopped);
         }
-        let plan = match self.core.admit(block) {
+        let plan = match self.core.admit(&block) {
             Ok(plan) => plan,
             Err(CoreRefusal::Memory) => return Err(DeskError::Memory),
             Err(refusal) => return Err(DeskError::Core(refusal)),
         };
         check_room(&self.log, &self.indices, plan.act)?;
-        Ok(plan)
+        Ok(PlannedBlock { block, plan })
     }
 
     // Holds the block of a plan to do nothing.
@@ -204,14 +210,13 @@ impl<N: DeskNaming, D: Disk> DeskState<N, D> {
     }
 
     // Stores the entry of a plan to raise the lock, and raises it. After `Device` the log is stopped.
-    pub(crate) fn raise(&mut self, block: CheckedBlock, plan: Plan) -> Result<(), DeskError>
-        requires plan { IsPlan self.old.core plan }
-        requires block { plan.block ≡ block.header }
-        requires act { plan.act ≡ Act.Raise }
+    pub(crate) fn raise(&mut self, planned: PlannedBlock) -> Result<(), DeskError>
+        requires plan { IsPlan self.old.core planned.plan }
+        requires act { planned.plan.act ≡ Act.Raise }
         requires running { self.old.log.stopped ≡ false }
         requires room { HasRoom self.old.log }
-        ensures stored { OnOk result (IsStored D.bytes D.images self.old self.new plan
-            (entry_for block.entry plan.parent None)) }
+        ensures stored { OnOk result (IsStored D.bytes D.images self.old self.new
+            planned.entry.plan (entry_of planned.entry None)) }
         ensures same { (self.new.indices ≡ self.old.indices)
             × (self.new.released ≡ self.old.released) }
         ensures tells { IsSome (D.bytes self.new.log.disk) ↔ IsSome (D.bytes self.old.log.disk) }
@@ -223,10 +228,10 @@ impl<N: DeskNaming, D: Disk> DeskState<N, D> {
         ensures first_refusal { IfErr result IsStorageRefusal }
         ensures any_moment { IfSome (D.bytes self.old.log.disk) (λ _.
             AtAnyMoment D.Disk self.old.log.disk self.new.log.disk
-            (IsLogBeforeOrAfter self.old.log.entries (entry_for block.entry plan.parent None))) }
-        ensures is_entry { IsEntry (entry_for block.entry plan.parent None) }
+            (IsLogBeforeOrAfter self.old.log.entries (entry_of planned.entry None))) }
+        ensures is_entry { IsEntry (entry_of planned.entry None) }
     {
-        store(&mut self.core, &mut self.log, block, plan, None)?;
+        store(&mut self.core, &mut self.log, planned, None)?;
         Ok(())
     }
 
@@ -235,22 +240,20 @@ impl<N: DeskNaming, D: Disk> DeskState<N, D> {
     pub(crate) fn vote(
         &mut self,
         session: &mut Session<N>,
-        block: CheckedBlock,
-        plan: Plan,
+        planned: PlannedBlock,
     ) -> Result<Receipt, DeskError>
-        requires plan { IsPlan self.old.core plan }
-        requires block { plan.block ≡ block.header }
-        requires act { plan.act ≡ Act.Vote }
+        requires plan { IsPlan self.old.core planned.plan }
+        requires act { planned.plan.act ≡ Act.Vote }
         requires running { IsRunning self.old }
         requires room { HasRoomTo self.old.log self.old.indices Act.Vote }
         ensures number { IfOk result (λ r. r.number ≡ length self.old.log.steps) }
         ensures vote { IfOk result (λ r.
             r.vote ≡ vote_under (chain_id_of N.committee) N.replica self.old.seeds
-            self.old.indices.mark plan.block) }
+            self.old.indices.mark planned.entry.plan.block) }
         ensures index { IfOk result (λ r. index_of (signed_in r.vote) ≡ self.old.indices.mark) }
         ensures good { IfOk result (λ r. IsGoodVote N.committee r.vote) }
-        ensures stored { IfOk result (λ r. IsStored D.bytes D.images self.old self.new plan
-            (entry_for block.entry plan.parent (Some (signed_in r.vote)))) }
+        ensures stored { IfOk result (λ r. IsStored D.bytes D.images self.old self.new
+            planned.entry.plan (entry_of planned.entry (Some (signed_in r.vote)))) }
         ensures drawn { OnOk result (self.new.indices.mark ≡ self.old.indices.mark + 1) }
         ensures keys { self.new.indices.keys ≡ self.old.indices.keys }
         ensures undisturbed { IfErr result (λ e. e ≢ DeskError.Device
@@ -275,9 +278,9 @@ impl<N: DeskNaming, D: Disk> DeskState<N, D> {
         ensures any_moment { IfSome (D.bytes self.old.log.disk) (λ _.
             AtAnyMoment D.Disk self.old.log.disk self.new.log.disk
             (IsLeftWith self.old.log.entries
-            (entry_for block.entry plan.parent
+            (entry_of planned.entry
             (Some (signed_in (vote_under (chain_id_of N.committee) N.replica self.old.seeds
-            self.old.indices.mark plan.block)))))) }
+            self.old.indices.mark planned.entry.plan.block)))))) }
     {
         let number = self.log.count() as u32;
         session.reserve()?;
@@ -286,9 +289,9 @@ impl<N: DeskNaming, D: Disk> DeskState<N, D> {
             &mut self.indices,
             self.replica,
             &self.chain,
-            &plan.block,
+            &planned.plan.block,
         )?;
-        store(&mut self.core, &mut self.log, block, plan, Some(vote))?;
+        store(&mut self.core, &mut self.log, planned, Some(vote))?;
         let receipt = Receipt { number, vote };
         session.release(&mut self.book, &receipt);
         Ok(receipt)

@@ -13,12 +13,13 @@ ghost use Rattle.wire.specs.declared.limits.TheConstants.{MOST_ENTRIES};
 ghost use Rattle.log_format.specs.EntryText.{IsEntry, own_of, stored_in};
 ghost use Rattle.vote_log.specs.Logs.{IsLogBeforeOrAfter, LeavesEntries};
 ghost use Rattle.vote_desk.specs.DeskRefusals.{HasRoomTo, IsRoomRefusal, IsStorageRefusal};
-ghost use Rattle.vote_desk.specs.Deliveries.{AddsEntry, entry_for};
+ghost use Rattle.vote_desk.specs.Deliveries.{AddsEntry, entry_of};
 
 use crate::desk_error::DeskError;
-use certificates::{CheckedBlock, SignedVote};
+use crate::planned_block::PlannedBlock;
+use certificates::SignedVote;
 use key_index_store::IndexStore;
-use replica_core::{Act, Core, Plan};
+use replica_core::{Act, Core};
 use stable_log::Disk;
 use vote_log::{Entry, MOST_ENTRIES, VoteLog};
 
@@ -48,40 +49,40 @@ pub(crate) fn check_room<D: Disk>(
     Ok(())
 }
 
-/// Stores the entry of a block, with the replica's own vote if there is one, and only then does what was planned. After
-/// `Device` the log is stopped and the core as it was.
+/// Stores the entry of a planned block, with the replica's own vote if there is one, and only then does what was planned.
+/// After `Device` the log is stopped and the core as it was.
 pub(crate) fn store<D: Disk>(
     core: &mut Core,
     log: &mut VoteLog<D>,
-    block: CheckedBlock,
-    plan: Plan,
+    planned: PlannedBlock,
     vote: Option<SignedVote>,
 ) -> Result<(), DeskError>
-    requires plan { IsPlan core.old plan }
-    requires block { plan.block ≡ block.header }
-    requires on_block { ForSome vote (IsVoteFor block.header.view (header_id block.header)) }
+    requires plan { IsPlan core.old planned.plan }
+    requires on_block { ForSome vote
+        (IsVoteFor planned.block.header.view (header_id planned.block.header)) }
     requires running { log.old.stopped ≡ false }
     requires room { length log.old.steps < MOST_ENTRIES }
     requires legal { IsLegal log.old.genesis
-        (log.old.steps ++ stored_in (entry_for block plan.parent (own_of vote)) ∷ []) }
+        (log.old.steps ++ stored_in (entry_of planned (own_of vote)) ∷ []) }
 
     ensures adds { OnOk result
-        (AddsEntry D.bytes log.old log.new (entry_for block.entry plan.parent (own_of vote))) }
-    ensures is_entry { IsEntry (entry_for block.entry plan.parent (own_of vote)) }
+        (AddsEntry D.bytes log.old log.new (entry_of planned.entry (own_of vote))) }
+    ensures is_entry { IsEntry (entry_of planned.entry (own_of vote)) }
     ensures running { OnOk result (log.new.stopped ≡ false) }
     ensures genesis { log.new.genesis ≡ log.old.genesis }
     ensures durable { OnOk result (IfSome (D.bytes log.old.disk) (λ _.
         LeavesEntries (D.images log.new.disk) (log.old.entries
-        ++ entry_for block.entry plan.parent (own_of vote) ∷ []))) }
+        ++ entry_of planned.entry (own_of vote) ∷ []))) }
     ensures tells { IsSome (D.bytes log.new.disk) ↔ IsSome (D.bytes log.old.disk) }
     ensures no_failure { OnOk result (D.failed log.new.disk ≡ D.failed log.old.disk) }
-    ensures headers { OnOk result (HoldsAlso core.old.headers core.new.headers plan.block) }
+    ensures headers { OnOk result
+        (HoldsAlso core.old.headers core.new.headers planned.entry.plan.block) }
     ensures same_genesis { core.new.genesis ≡ core.old.genesis }
-    ensures state { OnOk result (TakesEvent core.old plan core.new.state) }
+    ensures state { OnOk result (TakesEvent core.old planned.entry.plan core.new.state) }
 
     ensures any_moment { IfSome (D.bytes log.old.disk) (λ _.
         AtAnyMoment D.Disk log.old.disk log.new.disk
-        (IsLogBeforeOrAfter log.old.entries (entry_for block.entry plan.parent (own_of vote)))) }
+        (IsLogBeforeOrAfter log.old.entries (entry_of planned.entry (own_of vote)))) }
 
     ensures first_refusal { IfErr result IsStorageRefusal }
     ensures core { OnErr result (core.new ≡ core.old) }
@@ -91,6 +92,7 @@ pub(crate) fn store<D: Disk>(
     ensures cause { IsErrOf result DeskError.Device →
         HasFailed (D.failed log.old.disk) (D.failed log.new.disk) }
 {
+    let PlannedBlock { block, plan } = planned;
     let entry = Entry::of(block, plan.parent, vote);
     log.append(&entry)?;
     core.apply(plan);

@@ -9,7 +9,7 @@ use Rattle.vote_desk.specs.declared.reply.Answer.TheVariants.{Voted, Raised, Hel
 use Rattle.vote_desk.specs.DeskRefusals.{HasRoomTo}
 use Rattle.blocks.specs.Genesis.{chain_id_of}
 use Rattle.vote_desk.specs.Deliveries.{signed_in, vote_under, AddsEntry, CommitsIn, IsLeftBy, IsLeftWith, entry_for}
-use Rattle.vote_desk.proofs.Delivered.{asks_for, committed_in, delivered, durable_now, raised_image, same_signature, storage_refused, voted_image, votes}
+use Rattle.vote_desk.proofs.Delivered.{asks_for, committed_in, delivered, durable_now, plan_is_of, raised_image, same_signature, storage_refused, voted_image, votes}
 use Rattle.certificates.specs.declared.vote.SignedVote.{SignedVote}
 use Rattle.vote_desk.proofs.Steps.{weaker}
 use Rattle.vote_desk.proofs.delivery.deliver_on.Goals as goal
@@ -21,70 +21,76 @@ returns-in-Vote-clause-ok g c =
     let o = c.args.state.now in
     let m = c.plan.new.self in
     let n = c.vote.new.self in
-    let p = c.in_ok-plan.plan in
-    let e = c.in_ok-plan.ensures in
+    let b = c.in_ok-planned.planned in
+    let p = b.plan in
+    let e = c.in_ok-planned.ensures in
     let r = c.in_ok-receipt-in-Vote.receipt in
     let v = c.in_ok-receipt-in-Vote.ensures in
-    delivered g.D.Disk.bytes g.N.DeskNaming.committee g.N.DeskNaming.replica o m n c.args.block p (Voted r) e.core e.plan e.block c.in-Vote.is v.stored.headers v.stored.genesis v.stored.state (v.stored.seeds ∙ e.same.0)
-    (votes g.D.Disk.bytes g.N.DeskNaming.committee g.N.DeskNaming.replica o m n c.args.block p r e.same.0 e.same.1 e.same.2 e.block v.number v.vote v.index v.good v.stored.adds v.drawn)
-    (v.released ∙ ap (λ (k : ℕ). k + 1) e.same.3)
+    rw (← e.block) (delivered g.D.Disk.bytes g.N.DeskNaming.committee g.N.DeskNaming.replica o m n b.block p (Voted r) e.core e.plan b.of_block c.in-Vote.is v.stored.headers v.stored.genesis v.stored.state (v.stored.seeds ∙ e.same.0)
+    (votes g.D.Disk.bytes g.N.DeskNaming.committee g.N.DeskNaming.replica o m n b.block p r e.same.0 e.same.1 e.same.2 b.of_block v.number v.vote v.index v.good v.stored.adds v.drawn)
+    (v.released ∙ ap (λ (k : ℕ). k + 1) e.same.3))
 
 pub returns-in-Vote-clause-committed : goal.returns-in-Vote-clause-committed
 returns-in-Vote-clause-committed g c =
-    let e = c.in_ok-plan.ensures in
-    subst (λ (h : Header). IfSome c.in_ok-plan.plan.committed (CommitsIn h c.args.block.header)) e.chain
-    (committed_in c.args.state.now.core c.plan.new.self.core c.in_ok-plan.plan c.args.block.header e.core e.plan e.block)
+    let e = c.in_ok-planned.ensures in
+    let is = plan_is_of c.in_ok-planned.planned c.args.block e.block in
+    subst (λ (h : Header). IfSome c.in_ok-planned.planned.plan.committed (CommitsIn h c.args.block.header)) e.chain
+    (committed_in c.args.state.now.core c.plan.new.self.core c.in_ok-planned.planned.plan c.args.block.header e.core e.plan is)
 
 pub returns-in-Vote-clause-answer : goal.returns-in-Vote-clause-answer
 returns-in-Vote-clause-answer g c =
-    let e = c.in_ok-plan.ensures in
+    let e = c.in_ok-planned.ensures in
+    let is = plan_is_of c.in_ok-planned.planned c.args.block e.block in
     let v = c.in_ok-receipt-in-Vote.ensures in (
       ap (λ (x : SignedVote). x.replica) v.vote,
-      ap (λ (x : SignedVote). x.view) v.vote ∙ ap (λ (h : Header). h.view) e.block,
-      ap (λ (x : SignedVote). x.id) v.vote ∙ ap header_id e.block,
+      ap (λ (x : SignedVote). x.view) v.vote ∙ ap (λ (h : Header). h.view) is,
+      ap (λ (x : SignedVote). x.id) v.vote ∙ ap header_id is,
       v.good,
     )
 
 pub returns-in-Vote-clause-durable : goal.returns-in-Vote-clause-durable
 returns-in-Vote-clause-durable g c =
-    durable_now g.D.Disk.bytes g.D.Disk.images c.args.state.now c.plan.new.self c.vote.new.self c.in_ok-plan.plan _ c.in_ok-plan.ensures.same.2 c.in_ok-receipt-in-Vote.ensures.stored
+    durable_now g.D.Disk.bytes g.D.Disk.images c.args.state.now c.plan.new.self c.vote.new.self c.in_ok-planned.planned.plan _ c.in_ok-planned.ensures.same.2 c.in_ok-receipt-in-Vote.ensures.stored
 
 pub returns-in-Vote-clause-any_moment : goal.returns-in-Vote-clause-any_moment
 returns-in-Vote-clause-any_moment g c =
     let o = c.args.state.now in
-    let e = c.in_ok-plan.ensures in
+    let e = c.in_ok-planned.ensures in
     let n = c.vote.new.self in
     let m = c.plan.new.self in
-    let p = c.in_ok-plan.plan in
+    let b = c.in_ok-planned.planned in
+    let p = b.plan in
     let signed = signed_in (vote_under (chain_id_of g.N.DeskNaming.committee) g.N.DeskNaming.replica m.seeds m.indices.mark p.block) in
-    let entry = entry_for c.args.block p.parent (Some signed) in
-    λ running.
-    weaker (g.D.Disk.bytes o.log.disk) g.D.Disk.moment g.D.Disk.images_since o.log.disk n.log.disk (IsLeftWith o.log.entries entry) (IsLeftBy g.N.DeskNaming.committee g.N.DeskNaming.replica o c.args.block)
-    (voted_image g.N.DeskNaming.committee g.N.DeskNaming.replica o m.core c.args.block p signed e.core e.plan e.block c.in-Vote.is e.legal (same_signature g.N.DeskNaming.committee g.N.DeskNaming.replica o m p.block c.args.block.header e.same.0 e.same.1 e.block))
-    (subst (λ (l : LogState _). IfSome (g.D.Disk.bytes l.disk) (λ _. LeavesOnly g.D.Disk.moment g.D.Disk.images_since l.disk n.log.disk (IsLeftWith l.entries entry))) e.same.2 c.in_ok-receipt-in-Vote.ensures.any_moment)
+    let entry = entry_for b.block p.parent (Some signed) in
+    rw (← e.block) (λ running.
+    weaker (g.D.Disk.bytes o.log.disk) g.D.Disk.moment g.D.Disk.images_since o.log.disk n.log.disk (IsLeftWith o.log.entries entry) (IsLeftBy g.N.DeskNaming.committee g.N.DeskNaming.replica o b.block)
+    (voted_image g.N.DeskNaming.committee g.N.DeskNaming.replica o m.core b.block p signed e.core e.plan b.of_block c.in-Vote.is e.legal (same_signature g.N.DeskNaming.committee g.N.DeskNaming.replica o m p.block b.block.header e.same.0 e.same.1 b.of_block))
+    (subst (λ (l : LogState _). IfSome (g.D.Disk.bytes l.disk) (λ _. LeavesOnly g.D.Disk.moment g.D.Disk.images_since l.disk n.log.disk (IsLeftWith l.entries entry))) e.same.2 c.in_ok-receipt-in-Vote.ensures.any_moment))
 
 pub returns-in_err-receipt-in-Vote-clause-any_moment :
     goal.returns-in_err-receipt-in-Vote-clause-any_moment
 returns-in_err-receipt-in-Vote-clause-any_moment g c =
     let o = c.args.state.now in
-    let e = c.in_ok-plan.ensures in
+    let e = c.in_ok-planned.ensures in
     let n = c.vote.new.self in
     let m = c.plan.new.self in
-    let p = c.in_ok-plan.plan in
+    let b = c.in_ok-planned.planned in
+    let p = b.plan in
     let signed = signed_in (vote_under (chain_id_of g.N.DeskNaming.committee) g.N.DeskNaming.replica m.seeds m.indices.mark p.block) in
-    let entry = entry_for c.args.block p.parent (Some signed) in
-    λ running.
-    weaker (g.D.Disk.bytes o.log.disk) g.D.Disk.moment g.D.Disk.images_since o.log.disk n.log.disk (IsLeftWith o.log.entries entry) (IsLeftBy g.N.DeskNaming.committee g.N.DeskNaming.replica o c.args.block)
-    (voted_image g.N.DeskNaming.committee g.N.DeskNaming.replica o m.core c.args.block p signed e.core e.plan e.block c.in-Vote.is e.legal (same_signature g.N.DeskNaming.committee g.N.DeskNaming.replica o m p.block c.args.block.header e.same.0 e.same.1 e.block))
-    (subst (λ (l : LogState _). IfSome (g.D.Disk.bytes l.disk) (λ _. LeavesOnly g.D.Disk.moment g.D.Disk.images_since l.disk n.log.disk (IsLeftWith l.entries entry))) e.same.2 c.in_err-receipt-in-Vote.ensures.any_moment)
+    let entry = entry_for b.block p.parent (Some signed) in
+    rw (← e.block) (λ running.
+    weaker (g.D.Disk.bytes o.log.disk) g.D.Disk.moment g.D.Disk.images_since o.log.disk n.log.disk (IsLeftWith o.log.entries entry) (IsLeftBy g.N.DeskNaming.committee g.N.DeskNaming.replica o b.block)
+    (voted_image g.N.DeskNaming.committee g.N.DeskNaming.replica o m.core b.block p signed e.core e.plan b.of_block c.in-Vote.is e.legal (same_signature g.N.DeskNaming.committee g.N.DeskNaming.replica o m p.block b.block.header e.same.0 e.same.1 b.of_block))
+    (subst (λ (l : LogState _). IfSome (g.D.Disk.bytes l.disk) (λ _. LeavesOnly g.D.Disk.moment g.D.Disk.images_since l.disk n.log.disk (IsLeftWith l.entries entry))) e.same.2 c.in_err-receipt-in-Vote.ensures.any_moment))
 
 pub returns-in_err-receipt-in-Vote-clause-first_refusal :
     goal.returns-in_err-receipt-in-Vote-clause-first_refusal
 returns-in_err-receipt-in-Vote-clause-first_refusal g c =
     let o = c.args.state.now in
     let m = c.plan.new.self in
-    let e = c.in_ok-plan.ensures in
-    let asks = asks_for o m.core c.in_ok-plan.plan c.args.block.header act.Vote e.running e.passes e.core e.plan e.block c.in-Vote.is in
+    let e = c.in_ok-planned.ensures in
+    let is = plan_is_of c.in_ok-planned.planned c.args.block e.block in
+    let asks = asks_for o m.core c.in_ok-planned.planned.plan c.args.block.header act.Vote e.running e.passes e.core e.plan is c.in-Vote.is in
     let room = subst (λ (a : Act). HasRoomTo o.log o.indices a) c.in-Vote.is e.room in
     let p = err_from_is_err_and c.from_residual-in_err-receipt-in-Vote.result c.from_residual-in_err-receipt-in-Vote.ensures.1 in
     rw (p.1, p.2) (storage_refused o c.args.block.header c.in_err-receipt-in-Vote.field-0.0 e.running e.passes (inl (asks, room)) c.in_err-receipt-in-Vote.ensures.first_refusal)
@@ -96,56 +102,61 @@ returns-in-Raise-clause-ok g c =
     let o = c.args.state.now in
     let m = c.plan.new.self in
     let n = c.raise.new.self in
-    let p = c.in_ok-plan.plan in
-    let e = c.in_ok-plan.ensures in
+    let b = c.in_ok-planned.planned in
+    let p = b.plan in
+    let e = c.in_ok-planned.ensures in
     let v = c.in_ok-raise-in-Raise.ensures in
-    delivered g.D.Disk.bytes g.N.DeskNaming.committee g.N.DeskNaming.replica o m n c.args.block p Raised e.core e.plan e.block c.in-Raise.is v.stored.headers v.stored.genesis v.stored.state (v.stored.seeds ∙ e.same.0)
+    rw (← e.block) (delivered g.D.Disk.bytes g.N.DeskNaming.committee g.N.DeskNaming.replica o m n b.block p Raised e.core e.plan b.of_block c.in-Raise.is v.stored.headers v.stored.genesis v.stored.state (v.stored.seeds ∙ e.same.0)
     (record {
-      adds = subst (λ (l : LogState _). AddsEntry g.D.Disk.bytes l n.log (entry_for c.args.block p.parent None)) e.same.2 v.stored.adds;
+      adds = subst (λ (l : LogState _). AddsEntry g.D.Disk.bytes l n.log (entry_for b.block p.parent None)) e.same.2 v.stored.adds;
       undrawn = v.same.0 ∙ e.same.1;
     })
-    (let k : n.released ≡ o.released = v.same.1 ∙ e.same.3 in omega arith)
+    (let k : n.released ≡ o.released = v.same.1 ∙ e.same.3 in omega arith))
 
 pub returns-in-Raise-clause-committed : goal.returns-in-Raise-clause-committed
 returns-in-Raise-clause-committed g c =
-    let e = c.in_ok-plan.ensures in
-    subst (λ (h : Header). IfSome c.in_ok-plan.plan.committed (CommitsIn h c.args.block.header)) e.chain
-    (committed_in c.args.state.now.core c.plan.new.self.core c.in_ok-plan.plan c.args.block.header e.core e.plan e.block)
+    let e = c.in_ok-planned.ensures in
+    let is = plan_is_of c.in_ok-planned.planned c.args.block e.block in
+    subst (λ (h : Header). IfSome c.in_ok-planned.planned.plan.committed (CommitsIn h c.args.block.header)) e.chain
+    (committed_in c.args.state.now.core c.plan.new.self.core c.in_ok-planned.planned.plan c.args.block.header e.core e.plan is)
 
 pub returns-in-Raise-clause-durable : goal.returns-in-Raise-clause-durable
 returns-in-Raise-clause-durable g c =
-    durable_now g.D.Disk.bytes g.D.Disk.images c.args.state.now c.plan.new.self c.raise.new.self c.in_ok-plan.plan _ c.in_ok-plan.ensures.same.2 c.in_ok-raise-in-Raise.ensures.stored
+    durable_now g.D.Disk.bytes g.D.Disk.images c.args.state.now c.plan.new.self c.raise.new.self c.in_ok-planned.planned.plan _ c.in_ok-planned.ensures.same.2 c.in_ok-raise-in-Raise.ensures.stored
 
 pub returns-in-Raise-clause-any_moment : goal.returns-in-Raise-clause-any_moment
 returns-in-Raise-clause-any_moment g c =
     let o = c.args.state.now in
-    let e = c.in_ok-plan.ensures in
+    let e = c.in_ok-planned.ensures in
     let n = c.raise.new.self in
-    let entry = entry_for c.args.block c.in_ok-plan.plan.parent None in
-    λ running.
-    weaker (g.D.Disk.bytes o.log.disk) g.D.Disk.moment g.D.Disk.images_since o.log.disk n.log.disk (IsLogBeforeOrAfter o.log.entries entry) (IsLeftBy g.N.DeskNaming.committee g.N.DeskNaming.replica o c.args.block)
-    (raised_image g.N.DeskNaming.committee g.N.DeskNaming.replica o c.plan.new.self.core c.args.block c.in_ok-plan.plan e.core e.plan e.block c.in-Raise.is e.legal c.raise.ensures.is_entry)
-    (subst (λ (l : LogState _). IfSome (g.D.Disk.bytes l.disk) (λ _. LeavesOnly g.D.Disk.moment g.D.Disk.images_since l.disk n.log.disk (IsLogBeforeOrAfter l.entries entry))) e.same.2 c.in_ok-raise-in-Raise.ensures.any_moment)
+    let b = c.in_ok-planned.planned in
+    let entry = entry_for b.block b.plan.parent None in
+    rw (← e.block) (λ running.
+    weaker (g.D.Disk.bytes o.log.disk) g.D.Disk.moment g.D.Disk.images_since o.log.disk n.log.disk (IsLogBeforeOrAfter o.log.entries entry) (IsLeftBy g.N.DeskNaming.committee g.N.DeskNaming.replica o b.block)
+    (raised_image g.N.DeskNaming.committee g.N.DeskNaming.replica o c.plan.new.self.core b.block b.plan e.core e.plan b.of_block c.in-Raise.is e.legal c.raise.ensures.is_entry)
+    (subst (λ (l : LogState _). IfSome (g.D.Disk.bytes l.disk) (λ _. LeavesOnly g.D.Disk.moment g.D.Disk.images_since l.disk n.log.disk (IsLogBeforeOrAfter l.entries entry))) e.same.2 c.in_ok-raise-in-Raise.ensures.any_moment))
 
 pub returns-in_err-raise-in-Raise-clause-any_moment :
     goal.returns-in_err-raise-in-Raise-clause-any_moment
 returns-in_err-raise-in-Raise-clause-any_moment g c =
     let o = c.args.state.now in
-    let e = c.in_ok-plan.ensures in
+    let e = c.in_ok-planned.ensures in
     let n = c.raise.new.self in
-    let entry = entry_for c.args.block c.in_ok-plan.plan.parent None in
-    λ running.
-    weaker (g.D.Disk.bytes o.log.disk) g.D.Disk.moment g.D.Disk.images_since o.log.disk n.log.disk (IsLogBeforeOrAfter o.log.entries entry) (IsLeftBy g.N.DeskNaming.committee g.N.DeskNaming.replica o c.args.block)
-    (raised_image g.N.DeskNaming.committee g.N.DeskNaming.replica o c.plan.new.self.core c.args.block c.in_ok-plan.plan e.core e.plan e.block c.in-Raise.is e.legal c.raise.ensures.is_entry)
-    (subst (λ (l : LogState _). IfSome (g.D.Disk.bytes l.disk) (λ _. LeavesOnly g.D.Disk.moment g.D.Disk.images_since l.disk n.log.disk (IsLogBeforeOrAfter l.entries entry))) e.same.2 c.in_err-raise-in-Raise.ensures.any_moment)
+    let b = c.in_ok-planned.planned in
+    let entry = entry_for b.block b.plan.parent None in
+    rw (← e.block) (λ running.
+    weaker (g.D.Disk.bytes o.log.disk) g.D.Disk.moment g.D.Disk.images_since o.log.disk n.log.disk (IsLogBeforeOrAfter o.log.entries entry) (IsLeftBy g.N.DeskNaming.committee g.N.DeskNaming.replica o b.block)
+    (raised_image g.N.DeskNaming.committee g.N.DeskNaming.replica o c.plan.new.self.core b.block b.plan e.core e.plan b.of_block c.in-Raise.is e.legal c.raise.ensures.is_entry)
+    (subst (λ (l : LogState _). IfSome (g.D.Disk.bytes l.disk) (λ _. LeavesOnly g.D.Disk.moment g.D.Disk.images_since l.disk n.log.disk (IsLogBeforeOrAfter l.entries entry))) e.same.2 c.in_err-raise-in-Raise.ensures.any_moment))
 
 pub returns-in_err-raise-in-Raise-clause-first_refusal :
     goal.returns-in_err-raise-in-Raise-clause-first_refusal
 returns-in_err-raise-in-Raise-clause-first_refusal g c =
     let o = c.args.state.now in
     let m = c.plan.new.self in
-    let e = c.in_ok-plan.ensures in
-    let asks = asks_for o m.core c.in_ok-plan.plan c.args.block.header act.Raise e.running e.passes e.core e.plan e.block c.in-Raise.is in
+    let e = c.in_ok-planned.ensures in
+    let is = plan_is_of c.in_ok-planned.planned c.args.block e.block in
+    let asks = asks_for o m.core c.in_ok-planned.planned.plan c.args.block.header act.Raise e.running e.passes e.core e.plan is c.in-Raise.is in
     let room = subst (λ (a : Act). HasRoomTo o.log o.indices a) c.in-Raise.is e.room in
     let p = err_from_is_err_and c.from_residual-in_err-raise-in-Raise.result c.from_residual-in_err-raise-in-Raise.ensures.1 in
     rw (p.1, p.2) (storage_refused o c.args.block.header c.in_err-raise-in-Raise.field-0.0 e.running e.passes (inr (asks, room)) c.in_err-raise-in-Raise.ensures.first_refusal)
@@ -157,29 +168,31 @@ returns-in-Pass-clause-ok g c =
     let o = c.args.state.now in
     let m = c.plan.new.self in
     let n = c.pass.new.self in
-    let p = c.in_ok-plan.plan in
-    let e = c.in_ok-plan.ensures in
+    let p = c.in_ok-planned.planned.plan in
+    let e = c.in_ok-planned.ensures in
+    let is = plan_is_of c.in_ok-planned.planned c.args.block e.block in
     let v = c.pass.ensures in
-    delivered g.D.Disk.bytes g.N.DeskNaming.committee g.N.DeskNaming.replica o m n c.args.block p Held e.core e.plan e.block c.in-Pass.is v.headers v.genesis v.state (v.same.0 ∙ e.same.0)
+    delivered g.D.Disk.bytes g.N.DeskNaming.committee g.N.DeskNaming.replica o m n c.args.block p Held e.core e.plan is c.in-Pass.is v.headers v.genesis v.state (v.same.0 ∙ e.same.0)
     (record { log = v.same.2 ∙ e.same.2; undrawn = v.same.1 ∙ e.same.1 })
     (let k : n.released ≡ o.released = v.same.3 ∙ e.same.3 in omega arith)
 
 pub returns-in-Pass-clause-committed : goal.returns-in-Pass-clause-committed
 returns-in-Pass-clause-committed g c =
-    let e = c.in_ok-plan.ensures in
-    subst (λ (h : Header). IfSome c.in_ok-plan.plan.committed (CommitsIn h c.args.block.header)) e.chain
-    (committed_in c.args.state.now.core c.plan.new.self.core c.in_ok-plan.plan c.args.block.header e.core e.plan e.block)
+    let e = c.in_ok-planned.ensures in
+    let is = plan_is_of c.in_ok-planned.planned c.args.block e.block in
+    subst (λ (h : Header). IfSome c.in_ok-planned.planned.plan.committed (CommitsIn h c.args.block.header)) e.chain
+    (committed_in c.args.state.now.core c.plan.new.self.core c.in_ok-planned.planned.plan c.args.block.header e.core e.plan is)
 
 pub returns-in-Pass-clause-durable : goal.returns-in-Pass-clause-durable
 returns-in-Pass-clause-durable g c =
     let o = c.args.state.now in
-    let e = c.in_ok-plan.ensures in
+    let e = c.in_ok-planned.ensures in
     subst (λ (l : LogState _). IfSome (g.D.Disk.bytes o.log.disk) (λ _. LeavesEntries (g.D.Disk.images l.disk) l.entries)) (sym (c.pass.ensures.same.2 ∙ e.same.2)) e.durable
 
 pub returns-in-Pass-clause-any_moment : goal.returns-in-Pass-clause-any_moment
 returns-in-Pass-clause-any_moment g c =
     let o = c.args.state.now in
-    let e = c.in_ok-plan.ensures in
+    let e = c.in_ok-planned.ensures in
     λ running.
     subst (λ (l : LogState _). IfSome (g.D.Disk.bytes o.log.disk) (λ _. LeavesOnly g.D.Disk.moment g.D.Disk.images_since o.log.disk l.disk (IsLeftBy g.N.DeskNaming.committee g.N.DeskNaming.replica o c.args.block))) (sym c.pass.ensures.same.2)
     (weaker (g.D.Disk.bytes o.log.disk) g.D.Disk.moment g.D.Disk.images_since o.log.disk c.plan.new.self.log.disk (λ image. StandsForEntries image o.log.entries) (IsLeftBy g.N.DeskNaming.committee g.N.DeskNaming.replica o c.args.block) (λ image s. inl s) (e.unmoved running))

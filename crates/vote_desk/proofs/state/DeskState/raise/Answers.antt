@@ -15,9 +15,9 @@ store-requires-clause-legal g c =
     let i = c.self.inside in
     let d : DeskView _ = record { core = i.core; seeds = i.trees.items; indices = i.indices; log = i.log; released = i.book.total } in
     let plan = rw (← c.self.view_is) at c.requires.plan in
-    let legal = plan_is_legal g.D.Disk.bytes g.D.Disk.images g.N.DeskNaming.committee g.N.DeskNaming.replica g.N.DeskNaming.opening d c.self.invariant.desk c.args.plan false plan c.requires.act in
-    let same : planned_entry c.args.plan false ≡ stored_in (entry_for c.args.block c.args.plan.parent None) =
-    ap (λ (b : Header). let x : Stored = record { voted = false; block = b; parent = c.args.plan.parent } in x) c.requires.block in
+    let legal = plan_is_legal g.D.Disk.bytes g.D.Disk.images g.N.DeskNaming.committee g.N.DeskNaming.replica g.N.DeskNaming.opening d c.self.invariant.desk c.args.planned.plan false plan c.requires.act in
+    let same : planned_entry c.args.planned.plan false ≡ stored_in (entry_for c.args.planned.block c.args.planned.plan.parent None) =
+    ap (λ (b : Header). let x : Stored = record { voted = false; block = b; parent = c.args.planned.plan.parent } in x) c.args.planned.of_block in
     subst (λ (x : Stored). IsLegal i.log.genesis (i.log.steps ++ x ∷ [])) same legal
 
 pub invariant_of-self : goal.invariant_of-self
@@ -26,10 +26,10 @@ invariant_of-self g c =
     let d : DeskView _ = record { core = i.core; seeds = i.trees.items; indices = i.indices; log = i.log; released = i.book.total } in
     let plan = rw (← c.self.view_is) at c.requires.plan in
     let refused = c.in_err-store.ensures in
-    let same : stored_in (entry_for c.args.block c.args.plan.parent None) ≡ planned_entry c.args.plan false =
-    ap (λ (b : Header). let x : Stored = record { voted = false; block = b; parent = c.args.plan.parent } in x) (sym c.requires.block) in
+    let same : stored_in (entry_for c.args.planned.block c.args.planned.plan.parent None) ≡ planned_entry c.args.planned.plan false =
+    ap (λ (b : Header). let x : Stored = record { voted = false; block = b; parent = c.args.planned.plan.parent } in x) (sym c.args.planned.of_block) in
     record {
-      desk = keeps_refused g.D.Disk.bytes g.D.Disk.images g.N.DeskNaming.committee g.N.DeskNaming.replica g.N.DeskNaming.opening d c.self.invariant.desk c.store.new.core c.store.new.log c.args.plan false (entry_for c.args.block c.args.plan.parent None) c.in_err-store.field-0.0 g.D.Disk.moment g.D.Disk.images_since
+      desk = keeps_refused g.D.Disk.bytes g.D.Disk.images g.N.DeskNaming.committee g.N.DeskNaming.replica g.N.DeskNaming.opening d c.self.invariant.desk c.store.new.core c.store.new.log c.args.planned.plan false (entry_for c.args.planned.block c.args.planned.plan.parent None) c.in_err-store.field-0.0 g.D.Disk.moment g.D.Disk.images_since
           plan c.requires.act same refused.is_entry g.met.D.Disk.counts_now refused.core refused.genesis refused.tells (λ e. refused.device (ap (λ (x : DeskError). Err x) e)) refused.err refused.any_moment;
       replica_is = c.self.invariant.replica_is;
       chain_is = c.self.invariant.chain_is;
@@ -42,13 +42,13 @@ invariant_of-self-2 g c =
     let d : DeskView _ = record { core = i.core; seeds = i.trees.items; indices = i.indices; log = i.log; released = i.book.total } in
     let plan = rw (← c.self.view_is) at c.requires.plan in
     let done = c.in_ok-store.ensures in
-    let e : Entry = entry_for c.args.block c.args.plan.parent None in
-    let same : stored_in e ≡ planned_entry c.args.plan false =
-    ap (λ (b : Header). let x : Stored = record { voted = false; block = b; parent = c.args.plan.parent } in x) (sym c.requires.block) in
+    let e : Entry = entry_for c.args.planned.block c.args.planned.plan.parent None in
+    let same : stored_in e ≡ planned_entry c.args.planned.plan false =
+    ap (λ (b : Header). let x : Stored = record { voted = false; block = b; parent = c.args.planned.plan.parent } in x) (sym c.args.planned.of_block) in
     record {
-      desk = keeps_stored g.D.Disk.bytes g.D.Disk.images g.N.DeskNaming.committee g.N.DeskNaming.replica g.N.DeskNaming.opening d c.self.invariant.desk c.store.new.core c.store.new.log i.indices i.book.total c.args.plan false e
+      desk = keeps_stored g.D.Disk.bytes g.D.Disk.images g.N.DeskNaming.committee g.N.DeskNaming.replica g.N.DeskNaming.opening d c.self.invariant.desk c.store.new.core c.store.new.log i.indices i.book.total c.args.planned.plan false e
           plan c.requires.act same done.is_entry done.adds done.genesis done.durable done.tells done.headers done.same_genesis done.state
-          (λ n long r. rising_raise n i.indices.mark i.log.entries e long refl r) (λ long. vote_same _ i.log.steps (planned_entry c.args.plan false) long refl ∙ c.self.invariant.desk.list.counted) refl;
+          (λ n long r. rising_raise n i.indices.mark i.log.entries e long refl r) (λ long. vote_same _ i.log.steps (planned_entry c.args.planned.plan false) long refl ∙ c.self.invariant.desk.list.counted) refl;
       replica_is = c.self.invariant.replica_is;
       chain_is = c.self.invariant.chain_is;
       opened_is = c.self.invariant.opened_is;

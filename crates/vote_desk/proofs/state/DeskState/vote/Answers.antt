@@ -19,8 +19,8 @@ pub returns-in_err-reserve-clause-any_moment : goal.returns-in_err-reserve-claus
 returns-in_err-reserve-clause-any_moment g c =
     let i = c.self.inside in
     let d : DeskView _ = record { core = i.core; seeds = i.trees.items; indices = i.indices; log = i.log; released = i.book.total } in
-    let wanted = signed_in (vote_under (chain_id_of g.N.DeskNaming.committee) g.N.DeskNaming.replica i.trees.items i.indices.mark c.args.plan.block) in
-    let entry : Entry = entry_for c.args.block c.args.plan.parent (Some wanted) in
+    let wanted = signed_in (vote_under (chain_id_of g.N.DeskNaming.committee) g.N.DeskNaming.replica i.trees.items i.indices.mark c.args.planned.plan.block) in
+    let entry : Entry = entry_for c.args.planned.block c.args.planned.plan.parent (Some wanted) in
     rw (← c.self.view_is)
     (unmoved g.D.Disk.bytes g.D.Disk.images g.N.DeskNaming.committee g.N.DeskNaming.replica g.N.DeskNaming.opening d c.self.invariant.desk g.D.Disk.moment g.D.Disk.images_since
     (IsLeftWith i.log.entries entry) (g.met.D.Disk.only_now i.log.disk) (rw (← c.self.view_is) at c.requires.running.log) (λ image s. inl s))
@@ -29,8 +29,8 @@ pub returns-in_err-vote-clause-any_moment : goal.returns-in_err-vote-clause-any_
 returns-in_err-vote-clause-any_moment g c =
     let i = c.self.inside in
     let d : DeskView _ = record { core = i.core; seeds = i.trees.items; indices = i.indices; log = i.log; released = i.book.total } in
-    let wanted = signed_in (vote_under (chain_id_of g.N.DeskNaming.committee) g.N.DeskNaming.replica i.trees.items i.indices.mark c.args.plan.block) in
-    let entry : Entry = entry_for c.args.block c.args.plan.parent (Some wanted) in
+    let wanted = signed_in (vote_under (chain_id_of g.N.DeskNaming.committee) g.N.DeskNaming.replica i.trees.items i.indices.mark c.args.planned.plan.block) in
+    let entry : Entry = entry_for c.args.planned.block c.args.planned.plan.parent (Some wanted) in
     rw (← c.self.view_is)
     (unmoved g.D.Disk.bytes g.D.Disk.images g.N.DeskNaming.committee g.N.DeskNaming.replica g.N.DeskNaming.opening d c.self.invariant.desk g.D.Disk.moment g.D.Disk.images_since
     (IsLeftWith i.log.entries entry) (g.met.D.Disk.only_now i.log.disk) (rw (← c.self.view_is) at c.requires.running.log) (λ image s. inl s))
@@ -40,9 +40,9 @@ store-requires-clause-legal g c =
     let i = c.self.inside in
     let d : DeskView _ = record { core = i.core; seeds = i.trees.items; indices = i.indices; log = i.log; released = i.book.total } in
     let plan = rw (← c.self.view_is) at c.requires.plan in
-    let legal = plan_is_legal g.D.Disk.bytes g.D.Disk.images g.N.DeskNaming.committee g.N.DeskNaming.replica g.N.DeskNaming.opening d c.self.invariant.desk c.args.plan true plan c.requires.act in
-    let same : planned_entry c.args.plan true ≡ stored_in (entry_for c.args.block c.args.plan.parent (Some (signed_in c.in_ok-vote.vote))) =
-    ap (λ (b : Header). let x : Stored = record { voted = true; block = b; parent = c.args.plan.parent } in x) c.requires.block in
+    let legal = plan_is_legal g.D.Disk.bytes g.D.Disk.images g.N.DeskNaming.committee g.N.DeskNaming.replica g.N.DeskNaming.opening d c.self.invariant.desk c.args.planned.plan true plan c.requires.act in
+    let same : planned_entry c.args.planned.plan true ≡ stored_in (entry_for c.args.planned.block c.args.planned.plan.parent (Some (signed_in c.in_ok-vote.vote))) =
+    ap (λ (b : Header). let x : Stored = record { voted = true; block = b; parent = c.args.planned.plan.parent } in x) c.args.planned.of_block in
     subst (λ (x : Stored). IsLegal i.log.genesis (i.log.steps ++ x ∷ [])) same legal
 
 pub invariant_of-self-in_err-store : goal.invariant_of-self-in_err-store
@@ -54,11 +54,11 @@ invariant_of-self-in_err-store g c =
     let keeps = keeps_drawn g.D.Disk.bytes g.D.Disk.images g.N.DeskNaming.committee g.N.DeskNaming.replica g.N.DeskNaming.opening d c.self.invariant.desk c.draw.new.indices up c.in_ok-vote.ensures.keys in
     let plan = rw (← c.self.view_is) at c.requires.plan in
     let refused = c.in_err-store.ensures in
-    let e : Entry = entry_for c.args.block c.args.plan.parent (Some (signed_in c.in_ok-vote.vote)) in
-    let same : stored_in e ≡ planned_entry c.args.plan true =
-    ap (λ (b : Header). let x : Stored = record { voted = true; block = b; parent = c.args.plan.parent } in x) (sym c.requires.block) in
+    let e : Entry = entry_for c.args.planned.block c.args.planned.plan.parent (Some (signed_in c.in_ok-vote.vote)) in
+    let same : stored_in e ≡ planned_entry c.args.planned.plan true =
+    ap (λ (b : Header). let x : Stored = record { voted = true; block = b; parent = c.args.planned.plan.parent } in x) (sym c.args.planned.of_block) in
     record {
-      desk = keeps_refused g.D.Disk.bytes g.D.Disk.images g.N.DeskNaming.committee g.N.DeskNaming.replica g.N.DeskNaming.opening drawn keeps c.store.new.core c.store.new.log c.args.plan true e c.in_err-store.field-0.0 g.D.Disk.moment g.D.Disk.images_since
+      desk = keeps_refused g.D.Disk.bytes g.D.Disk.images g.N.DeskNaming.committee g.N.DeskNaming.replica g.N.DeskNaming.opening drawn keeps c.store.new.core c.store.new.log c.args.planned.plan true e c.in_err-store.field-0.0 g.D.Disk.moment g.D.Disk.images_since
           plan c.requires.act same refused.is_entry g.met.D.Disk.counts_now refused.core refused.genesis refused.tells (λ e. refused.device (ap (λ (x : DeskError). Err x) e)) refused.err refused.any_moment;
       replica_is = c.self.invariant.replica_is;
       chain_is = c.self.invariant.chain_is;
@@ -72,15 +72,15 @@ invariant_of-self-2 g c =
     let plan = rw (← c.self.view_is) at c.requires.plan in
     let done = c.in_ok-store.ensures in
     let own = signed_in c.in_ok-vote.vote in
-    let e : Entry = entry_for c.args.block c.args.plan.parent (Some own) in
-    let same : stored_in e ≡ planned_entry c.args.plan true =
-    ap (λ (b : Header). let x : Stored = record { voted = true; block = b; parent = c.args.plan.parent } in x) (sym c.requires.block) in
+    let e : Entry = entry_for c.args.planned.block c.args.planned.plan.parent (Some own) in
+    let same : stored_in e ≡ planned_entry c.args.planned.plan true =
+    ap (λ (b : Header). let x : Stored = record { voted = true; block = b; parent = c.args.planned.plan.parent } in x) (sym c.args.planned.of_block) in
     let signed = c.in_ok-vote.ensures in
     record {
-      desk = keeps_stored g.D.Disk.bytes g.D.Disk.images g.N.DeskNaming.committee g.N.DeskNaming.replica g.N.DeskNaming.opening d c.self.invariant.desk c.store.new.core c.store.new.log c.draw.new.indices c.release.new.book.total c.args.plan true e
+      desk = keeps_stored g.D.Disk.bytes g.D.Disk.images g.N.DeskNaming.committee g.N.DeskNaming.replica g.N.DeskNaming.opening d c.self.invariant.desk c.store.new.core c.store.new.log c.draw.new.indices c.release.new.book.total c.args.planned.plan true e
           plan c.requires.act same done.is_entry done.adds done.genesis done.durable done.tells done.headers done.same_genesis done.state
           (λ n long r. subst (λ (m : ℕ). AreRising m (indices_in (drop n (i.log.entries ++ e ∷ [])))) (sym signed.drawn) (rising_vote n i.indices.mark i.log.entries e own long refl signed.index r))
-          (λ long. vote_more _ i.log.steps (planned_entry c.args.plan true) long refl ∙ ap (λ (n : ℕ). n + 1) c.self.invariant.desk.list.counted ∙ sym c.release.ensures.total) signed.keys;
+          (λ long. vote_more _ i.log.steps (planned_entry c.args.planned.plan true) long refl ∙ ap (λ (n : ℕ). n + 1) c.self.invariant.desk.list.counted ∙ sym c.release.ensures.total) signed.keys;
       replica_is = c.self.invariant.replica_is;
       chain_is = c.self.invariant.chain_is;
       opened_is = c.self.invariant.opened_is;
@@ -103,31 +103,31 @@ returns-clause-stored g c =
 pub returns-in_err-store-clause-any_moment : goal.returns-in_err-store-clause-any_moment
 returns-in_err-store-clause-any_moment g c =
     let i = c.self.inside in
-    let wanted = signed_in (vote_under (chain_id_of g.N.DeskNaming.committee) g.N.DeskNaming.replica i.trees.items i.indices.mark c.args.plan.block) in
-    let entry : Entry = entry_for c.args.block c.args.plan.parent (Some wanted) in
+    let wanted = signed_in (vote_under (chain_id_of g.N.DeskNaming.committee) g.N.DeskNaming.replica i.trees.items i.indices.mark c.args.planned.plan.block) in
+    let entry : Entry = entry_for c.args.planned.block c.args.planned.plan.parent (Some wanted) in
     let same : signed_in c.in_ok-vote.vote ≡ wanted =
     ap (λ (v : SignedVote). signed_in v) c.in_ok-vote.ensures.value
-    ∙ ap (λ (t : List PrivateSeed). signed_in (vote_under i.chain i.replica t i.indices.mark c.args.plan.block)) c.deref.ensures.value
-    ∙ ap (λ (k : List ℕ). signed_in (vote_under k i.replica i.trees.items i.indices.mark c.args.plan.block)) c.self.invariant.chain_is
-    ∙ ap (λ (n : ℕ). signed_in (vote_under (chain_id_of g.N.DeskNaming.committee) n i.trees.items i.indices.mark c.args.plan.block)) c.self.invariant.replica_is in
-    let left : (signed : KeyedSignature) → signed ≡ wanted → IsEntry (entry_for c.args.block c.args.plan.parent (Some signed)) → (image : List ℕ) → IsLogBeforeOrAfter i.log.entries (entry_for c.args.block c.args.plan.parent (Some signed)) image → IsLeftWith i.log.entries entry image =
-    λ signed is is_entry image left. subst (λ (x : KeyedSignature). IsLeftWith i.log.entries (entry_for c.args.block c.args.plan.parent (Some x)) image) is (left_with i.log.entries (entry_for c.args.block c.args.plan.parent (Some signed)) is_entry image left) in
+    ∙ ap (λ (t : List PrivateSeed). signed_in (vote_under i.chain i.replica t i.indices.mark c.args.planned.plan.block)) c.deref.ensures.value
+    ∙ ap (λ (k : List ℕ). signed_in (vote_under k i.replica i.trees.items i.indices.mark c.args.planned.plan.block)) c.self.invariant.chain_is
+    ∙ ap (λ (n : ℕ). signed_in (vote_under (chain_id_of g.N.DeskNaming.committee) n i.trees.items i.indices.mark c.args.planned.plan.block)) c.self.invariant.replica_is in
+    let left : (signed : KeyedSignature) → signed ≡ wanted → IsEntry (entry_for c.args.planned.block c.args.planned.plan.parent (Some signed)) → (image : List ℕ) → IsLogBeforeOrAfter i.log.entries (entry_for c.args.planned.block c.args.planned.plan.parent (Some signed)) image → IsLeftWith i.log.entries entry image =
+    λ signed is is_entry image left. subst (λ (x : KeyedSignature). IsLeftWith i.log.entries (entry_for c.args.planned.block c.args.planned.plan.parent (Some x)) image) is (left_with i.log.entries (entry_for c.args.planned.block c.args.planned.plan.parent (Some signed)) is_entry image left) in
     rw (← c.self.view_is)
-    (weaker (g.D.Disk.bytes i.log.disk) g.D.Disk.moment g.D.Disk.images_since i.log.disk c.store.new.log.disk (IsLogBeforeOrAfter i.log.entries (entry_for c.args.block c.args.plan.parent (Some (signed_in c.in_ok-vote.vote)))) (IsLeftWith i.log.entries entry)
+    (weaker (g.D.Disk.bytes i.log.disk) g.D.Disk.moment g.D.Disk.images_since i.log.disk c.store.new.log.disk (IsLogBeforeOrAfter i.log.entries (entry_for c.args.planned.block c.args.planned.plan.parent (Some (signed_in c.in_ok-vote.vote)))) (IsLeftWith i.log.entries entry)
     (left (signed_in c.in_ok-vote.vote) same c.in_err-store.ensures.is_entry) c.in_err-store.ensures.any_moment)
 
 pub returns-clause-any_moment : goal.returns-clause-any_moment
 returns-clause-any_moment g c =
     let i = c.self.inside in
-    let wanted = signed_in (vote_under (chain_id_of g.N.DeskNaming.committee) g.N.DeskNaming.replica i.trees.items i.indices.mark c.args.plan.block) in
-    let entry : Entry = entry_for c.args.block c.args.plan.parent (Some wanted) in
+    let wanted = signed_in (vote_under (chain_id_of g.N.DeskNaming.committee) g.N.DeskNaming.replica i.trees.items i.indices.mark c.args.planned.plan.block) in
+    let entry : Entry = entry_for c.args.planned.block c.args.planned.plan.parent (Some wanted) in
     let same : signed_in c.in_ok-vote.vote ≡ wanted =
     ap (λ (v : SignedVote). signed_in v) c.in_ok-vote.ensures.value
-    ∙ ap (λ (t : List PrivateSeed). signed_in (vote_under i.chain i.replica t i.indices.mark c.args.plan.block)) c.deref.ensures.value
-    ∙ ap (λ (k : List ℕ). signed_in (vote_under k i.replica i.trees.items i.indices.mark c.args.plan.block)) c.self.invariant.chain_is
-    ∙ ap (λ (n : ℕ). signed_in (vote_under (chain_id_of g.N.DeskNaming.committee) n i.trees.items i.indices.mark c.args.plan.block)) c.self.invariant.replica_is in
-    let left : (signed : KeyedSignature) → signed ≡ wanted → IsEntry (entry_for c.args.block c.args.plan.parent (Some signed)) → (image : List ℕ) → IsLogBeforeOrAfter i.log.entries (entry_for c.args.block c.args.plan.parent (Some signed)) image → IsLeftWith i.log.entries entry image =
-    λ signed is is_entry image left. subst (λ (x : KeyedSignature). IsLeftWith i.log.entries (entry_for c.args.block c.args.plan.parent (Some x)) image) is (left_with i.log.entries (entry_for c.args.block c.args.plan.parent (Some signed)) is_entry image left) in
+    ∙ ap (λ (t : List PrivateSeed). signed_in (vote_under i.chain i.replica t i.indices.mark c.args.planned.plan.block)) c.deref.ensures.value
+    ∙ ap (λ (k : List ℕ). signed_in (vote_under k i.replica i.trees.items i.indices.mark c.args.planned.plan.block)) c.self.invariant.chain_is
+    ∙ ap (λ (n : ℕ). signed_in (vote_under (chain_id_of g.N.DeskNaming.committee) n i.trees.items i.indices.mark c.args.planned.plan.block)) c.self.invariant.replica_is in
+    let left : (signed : KeyedSignature) → signed ≡ wanted → IsEntry (entry_for c.args.planned.block c.args.planned.plan.parent (Some signed)) → (image : List ℕ) → IsLogBeforeOrAfter i.log.entries (entry_for c.args.planned.block c.args.planned.plan.parent (Some signed)) image → IsLeftWith i.log.entries entry image =
+    λ signed is is_entry image left. subst (λ (x : KeyedSignature). IsLeftWith i.log.entries (entry_for c.args.planned.block c.args.planned.plan.parent (Some x)) image) is (left_with i.log.entries (entry_for c.args.planned.block c.args.planned.plan.parent (Some signed)) is_entry image left) in
     rw (← c.self.view_is)
-    (weaker (g.D.Disk.bytes i.log.disk) g.D.Disk.moment g.D.Disk.images_since i.log.disk c.store.new.log.disk (IsLogBeforeOrAfter i.log.entries (entry_for c.args.block c.args.plan.parent (Some (signed_in c.in_ok-vote.vote)))) (IsLeftWith i.log.entries entry)
+    (weaker (g.D.Disk.bytes i.log.disk) g.D.Disk.moment g.D.Disk.images_since i.log.disk c.store.new.log.disk (IsLogBeforeOrAfter i.log.entries (entry_for c.args.planned.block c.args.planned.plan.parent (Some (signed_in c.in_ok-vote.vote)))) (IsLeftWith i.log.entries entry)
     (left (signed_in c.in_ok-vote.vote) same c.in_ok-store.ensures.is_entry) c.in_ok-store.ensures.any_moment)
