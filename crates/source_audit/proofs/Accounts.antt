@@ -1,5 +1,5 @@
 -- Where complete sources prove a conflict, a run of the audit accounts for it.
-use Rattle.std.proofs.Common.{◌≡◌, ◌↔◌, ◌⊎◌, ◌∙◌, ◌≤◌, ◌+◌, ℕ, List, [], ◌∷◌, length, Bool, true, false, ◌||◌, Option, Some, None, Result, Ok, Err, inl, inr, refl, sym, ap, subst, arith}
+use Rattle.std.proofs.Common.{◌≡◌, ◌↔◌, ◌⊎◌, ◌∙◌, ℕ, List, [], ◌∷◌, Bool, true, false, ◌||◌, Option, Some, None, Result, Ok, Err, inl, inr, refl, sym, ap, subst, arith}
 use Rattle.std.specs.Prelude.{IfErr, IfOk, IsErrAnd, IsSome, MatchResult}
 use Rattle.std.specs.List.{All, AllZip, Contains, list_any}
 use Rattle.std.proofs.lemmas.List.Elements.{Contains-append_left}

@@ -30,18 +30,19 @@ use streams::Sink;
 fn read_sources<'a, R: Threads + Wait + Sync, C: Connector + Send, V: Verifier + Sync>(
     rt: &R,
     alloc: Global,
-    committee: &'a [u8],
+    committee: &CommitteeView<'a>,
     verifier: &V,
     sources: Vec<Source<C>>,
 ) -> Result<Evidence<'a>, RunError>
     requires tries { All (MayBeTried C.allowed) sources.items }
     ensures ok { IfOk result (IsEvidenceOfSources (MayGive C.gives) committee.now sources.items) }
     ensures cause { IfOk result (λ e. AllZip (IsStatusCaused C.failed) sources.items e.sources) }
-    ensures committee { OnOk result (IsCommittee committee.now) }
+    ensures committee { IsCommittee committee.now }
     ensures refused { IfErr result (IsRunRefusal (MayGive C.gives) committee.now sources.items) }
     ensures unwritten { IfErr result (λ e. e ≢ NotWritten) }
 {
-    let view = CommitteeView::parse(committee)?;
+    // For the proof: a view is of a committee.
+    let view = committee.again();
     let evidence = collect_by(rt, alloc, &view, verifier, sources)?;
     Ok(evidence)
 }
@@ -131,6 +132,40 @@ pub fn audit_run_by<R: Threads + Wait + Sync, C: Connector + Send, V: Verifier +
     ensures cause { IsErrOf result RunError.Sink
         → W.failed sink.new ≡ one_more (W.failed sink.old) }
     ensures accountability { (logs : List ReceivedLog) → IsCommittee committee.now
+        → AllZip (IsCompleteSource C.gives) sources.items logs → ProveAConflict committee.now logs
+        → MatchResult result (λ r. (e : EvidenceValue)
+        × IsAuditRun (MayGive C.gives) (IsStatusCaused C.failed) committee.now sources.items e r
+        × Wrote (W.text sink.old) (W.text sink.new) (report_text e.sources r)
+        × IsAccounted committee.now e r) IsMemoryOrSink }
+{
+    let view = CommitteeView::parse(committee)?;
+    audit_run_of(rt, alloc, &view, verifier, sources, sink)
+}
+
+/// The same as `audit_run_by`, under a committee that was read, so it is not refused.
+pub fn audit_run_of<R: Threads + Wait + Sync, C: Connector + Send, V: Verifier + Sync, W: Sink>(
+    rt: &R,
+    alloc: Global,
+    committee: &CommitteeView,
+    verifier: &V,
+    sources: Vec<Source<C>>,
+    sink: &mut W,
+) -> Result<Report, RunError>
+    requires tries { All (MayBeTried C.allowed) sources.items }
+    ensures ok { IfOk result (λ r. (e : EvidenceValue)
+        × IsAuditRun (MayGive C.gives) (IsStatusCaused C.failed) committee.now sources.items e r
+        × Wrote (W.text sink.old) (W.text sink.new) (report_text e.sources r)) }
+    ensures is_committee { IsCommittee committee.now }
+    ensures accepted { IfOk result (λ r. All (IsProof committee.now) r.verdicts) }
+    ensures no_failure { OnOk result (W.failed sink.new ≡ W.failed sink.old) }
+    ensures refused { IfErr result (IsRunRefusal (MayGive C.gives) committee.now sources.items) }
+    ensures unwritten { IfErr result (λ e. e ≢ NotWritten → sink.new ≡ sink.old) }
+    ensures sink { IsErrOf result RunError.Sink → (e : EvidenceValue) × (r : ReportValue)
+        × IsAuditRun (MayGive C.gives) (IsStatusCaused C.failed) committee.now sources.items e r
+        × WrotePart (W.text sink.old) (W.text sink.new) (report_text e.sources r) }
+    ensures cause { IsErrOf result RunError.Sink
+        → W.failed sink.new ≡ one_more (W.failed sink.old) }
+    ensures accountability { (logs : List ReceivedLog)
         → AllZip (IsCompleteSource C.gives) sources.items logs → ProveAConflict committee.now logs
         → MatchResult result (λ r. (e : EvidenceValue)
         × IsAuditRun (MayGive C.gives) (IsStatusCaused C.failed) committee.now sources.items e r
