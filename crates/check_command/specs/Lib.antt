@@ -3,3 +3,4 @@ pub mod Lines
 pub mod Texts
 pub mod Answers
 pub mod FaultLines
+pub mod Judgements

@@ -1,18 +1,16 @@
 //! The two texts that the program judges, from files or from standard input.
 
-ghost use Rattle.std.specs.IoError.{error_kind};
-ghost use Rattle.std.specs.Prelude.{◌≡◌, ◌≢◌, ◌++◌, ◌∷◌, ℕ, List, IfNone, IfSome};
-ghost use Rattle.std.specs.List.{Contains};
+ghost use Rattle.std.specs.Prelude.{◌≡◌, ◌≢◌, ℕ, List, Ok, IfErr, IfNone, IfOk, IfSome};
+ghost use Rattle.hex.specs.Hex.{decode_of};
+ghost use Rattle.check_command.specs.Judgements.{SpellsTexts};
 ghost use Rattle.check_command.specs.Lines.{AreTwoLines};
 
-use crate::fault::Fault;
-use file_input::{InputFault, read_at_most, read_file};
+use crate::fault::{CheckFault, Fault};
+use printed_lines::cut;
+use program_parts::{MOST_OF_A_SHORT_FILE, ProgramFault, read_at_most, read_committee, read_named};
 use std::alloc::Global;
 use std::fs::{File, Files};
-use std::io::{Error, ErrorKind, Read};
-
-/// How much of a file is read, in bytes. What lies behind is not read.
-const MOST_OF_A_FILE: u64 = 16_384;
+use std::io::Read;
 
 /// How long standard input may be, in bytes.
 const MOST_OF_STDIN: u64 = 65_536;
@@ -31,61 +29,63 @@ impl Texts {
         alloc: Global,
         committee: &'a str,
         verdict: &'a str,
-    ) -> Result<Texts, Fault<'a>> {
+    ) -> Result<Texts, Fault<'a>>
+        ensures { IfErr result (λ fault. fault ≢ ProgramFault.Output) }
+    {
         Ok(Texts {
-            committee: read(rt, alloc, committee)?,
-            verdict: read(rt, alloc, verdict)?,
+            committee: read_committee(rt, alloc, committee)?,
+            verdict: read_named(rt, alloc, verdict, MOST_OF_A_SHORT_FILE)?,
         })
     }
 
     /// The texts that two lines of hex digits spell, the committee's first.
-    pub fn from_lines<'a, R: Read + Drop>(alloc: Global, stdin: R) -> Result<Texts, Fault<'a>> {
-        let text = match read_at_most(alloc, stdin, MOST_OF_STDIN + 1) {
-            Ok(text) => text,
-            Err(InputFault::Memory) => return Err(Fault::Memory),
-            Err(InputFault::Unreadable) => return Err(Fault::Hex),
-        };
-        if text.len() as u64 > MOST_OF_STDIN {
-            return Err(Fault::Hex);
-        }
-        let Some((committee, verdict)) = two_lines(&text) else {
-            return Err(Fault::Hex);
-        };
-        Ok(Texts {
-            committee: decoded(alloc, committee)?,
-            verdict: decoded(alloc, verdict)?,
-        })
+    pub fn from_lines<'a, R: Read + Drop>(alloc: Global, stdin: R) -> Result<Texts, Fault<'a>>
+        ensures spelled { IfOk result (λ texts. IfSome (R.remaining stdin) (λ text.
+            SpellsTexts text texts.committee.items texts.verdict.items)) }
+        ensures unwritten { IfErr result (λ fault. fault ≢ ProgramFault.Output) }
+    {
+        let text = read_lines(alloc, stdin)?;
+        spelled_by(alloc, &text)
     }
 }
 
-fn read<'a, F: Files<File = File>>(
-    rt: &F,
-    alloc: Global,
-    path: &'a str,
-) -> Result<Vec<u8>, Fault<'a>> {
-    match read_file(rt, alloc, path, MOST_OF_A_FILE) {
-        Ok(bytes) => Ok(bytes),
-        Err(InputFault::Memory) => Err(Fault::Memory),
-        Err(InputFault::Unreadable) => Err(Fault::File(path)),
-    }
-}
-
-/// What a failed call is: want of memory is a fault of its own, and else it is this one.
-pub fn unless_memory<'a>(error: &Error, fault: Fault<'a>) -> Fault<'a>
-    ensures memory { error_kind error.now ≡ ErrorKind.OutOfMemory → result ≡ Fault.Memory }
-    ensures other { error_kind error.now ≢ ErrorKind.OutOfMemory → result ≡ fault.entry }
+// All of standard input.
+fn read_lines<'a, R: Read + Drop>(alloc: Global, stdin: R) -> Result<Vec<u8>, Fault<'a>>
+    ensures whole { IfOk result (λ text. IfSome (R.remaining stdin) (λ all. text.items ≡ all)) }
+    ensures unwritten { IfErr result (λ fault. fault ≢ ProgramFault.Output) }
 {
-    match error.kind() {
-        ErrorKind::OutOfMemory => Fault::Memory,
-        _ => fault,
+    let not_hex = Fault::Own(CheckFault::Hex);
+    match read_at_most(alloc, stdin, MOST_OF_STDIN + 1) {
+        Ok(text) if text.len() as u64 <= MOST_OF_STDIN => Ok(text),
+        Ok(_) => Err(not_hex),
+        Err(why) => Err(Fault::of_input(why, not_hex)),
     }
 }
 
-fn decoded<'a>(alloc: Global, digits: &[u8]) -> Result<Vec<u8>, Fault<'a>> {
+// The texts that the lines of a text spell.
+fn spelled_by<'a>(alloc: Global, text: &[u8]) -> Result<Texts, Fault<'a>>
+    ensures spelled { IfOk result (λ texts.
+        SpellsTexts text.now texts.committee.items texts.verdict.items) }
+    ensures unwritten { IfErr result (λ fault. fault ≢ ProgramFault.Output) }
+{
+    let Some((committee, verdict)) = two_lines(text) else {
+        return Err(Fault::Own(CheckFault::Hex));
+    };
+    Ok(Texts {
+        committee: decoded(alloc, committee)?,
+        verdict: decoded(alloc, verdict)?,
+    })
+}
+
+// The bytes that hex digits spell.
+fn decoded<'a>(alloc: Global, digits: &[u8]) -> Result<Vec<u8>, Fault<'a>>
+    ensures spelled { IfOk result (λ bytes. decode_of digits.now ≡ Ok bytes.items) }
+    ensures unwritten { IfErr result (λ fault. fault ≢ ProgramFault.Output) }
+{
     match hex::decode(alloc, digits) {
         Ok(bytes) => Ok(bytes),
         Err(hex::FromHexError::OutOfMemory) => Err(Fault::Memory),
-        Err(_) => Err(Fault::Hex),
+        Err(_) => Err(Fault::Own(CheckFault::Hex)),
     }
 }
 
@@ -103,14 +103,4 @@ fn two_lines(text: &[u8]) -> Option<(&[u8], &[u8])>
         Some((second, [])) => Some((first, second)),
         Some((_, [_, ..])) => None,
     }
-}
-
-// What stands before the first line feed, and what stands behind it.
-fn cut(text: &[u8]) -> Option<(&[u8], &[u8])>
-    ensures none { IfNone result (Contains text.now 10 → ⊥) }
-    ensures some { IfSome result (λ parts. (text.now ≡ parts.0.now ++ 10 ∷ parts.1.now)
-        × (Contains parts.0.now 10 → ⊥)) }
-{
-    let at = text.iter().position(|byte| *byte == b'\n')?;
-    Some((&text[..at], &text[at + 1..]))
 }

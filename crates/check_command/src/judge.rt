@@ -1,16 +1,19 @@
 //! The judgement of a verdict, as the program prints it.
 
-ghost use Rattle.std.specs.Prelude.{◌≡◌};
+ghost use Rattle.std.specs.Prelude.{◌≡◌, ◌≢◌};
+ghost use Rattle.streams.specs.Counting.{one_more};
 ghost use Rattle.blocks.specs.Committees.{IsCommittee};
 ghost use Rattle.verdict_format.specs.Proofs.{IsProof};
 ghost use Rattle.verdict_format.specs.RuleNumbers.{rule_number};
 ghost use Rattle.verdict_checker.specs.Checks.{IsRefused};
 ghost use Rattle.verdict_checker.specs.declared.refusal.Refusal.{Refusal as RefusalValue};
 ghost use Rattle.check_command.specs.Answers.{Answers};
+ghost use Rattle.check_command.specs.Judgements.{IsJudgementOf};
 ghost use Rattle.check_command.specs.Texts.{accepted_text, accepted_line, refused_line};
 
 use itoa::Buffer;
 use printed_lines::Line;
+use program_parts::FAULT;
 use streams::{Sink, write_all};
 use verdict_checker::{CommitteeView, Finding, Refusal, check};
 
@@ -19,9 +22,6 @@ pub const ACCEPTED: u8 = 0;
 
 /// The verdict was refused.
 pub const REFUSED: u8 = 1;
-
-/// There was nothing to judge, or not the whole line could be written.
-pub const FAULT: u8 = 2;
 
 /// Judges a verdict under a committee, both as bytes, and writes one line. Answers `ACCEPTED` or
 /// `REFUSED` after the whole line. Answers `FAULT` where the committee is unreadable, and nothing is
@@ -39,7 +39,24 @@ pub fn run_check<W: Sink>(committee: &[u8], verdict: &[u8], out: &mut W) -> u8
     let Ok(committee) = CommitteeView::parse(committee) else {
         return FAULT;
     };
-    match check(&committee, verdict) {
+    judge_verdict(&committee, verdict, out)
+}
+
+/// The same under a committee that was read: it answers `FAULT` only where a write failed.
+pub fn judge_verdict<W: Sink>(committee: &CommitteeView, verdict: &[u8], out: &mut W) -> u8
+    ensures accepts { IsProof committee.now verdict.now
+        → Answers (W.text out.old) (W.text out.new) (W.failed out.old) (W.failed out.new)
+        (accepted_line verdict.now) 0 result }
+    ensures refuses { (IsProof committee.now verdict.now → ⊥)
+        → (r : RefusalValue) × IsRefused committee.now verdict.now r
+        × Answers (W.text out.old) (W.text out.new) (W.failed out.old) (W.failed out.new)
+        (refused_line r) 1 result }
+    ensures judged { result ≢ 2
+        → IsJudgementOf committee.now verdict.now (W.text out.old) (W.text out.new) result }
+    ensures no_failure { result ≢ 2 → W.failed out.new ≡ W.failed out.old }
+    ensures failed { result ≡ 2 → W.failed out.new ≡ one_more (W.failed out.old) }
+{
+    match check(committee, verdict) {
         Ok(finding) => print(out, &accepted(&finding), ACCEPTED),
         Err(refusal) => print(out, &refused(refusal), REFUSED),
     }

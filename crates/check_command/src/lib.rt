@@ -7,7 +7,8 @@ mod input;
 mod judge;
 mod program;
 
-pub use fault::Fault;
-pub use input::{Texts, unless_memory};
-pub use judge::{ACCEPTED, FAULT, REFUSED, run_check};
+pub use fault::{CheckFault, Fault};
+pub use input::Texts;
+pub use judge::{ACCEPTED, REFUSED, judge_verdict, run_check};
 pub use program::run_program;
+pub use program_parts::FAULT;

@@ -21,5 +21,6 @@ mod words;
 pub use choosing::MOST_BLOCKS;
 pub use drawing::draw;
 pub use fault::Fault;
-pub use program::{DRAWN, FAULT, run_draw};
+pub use program::{DRAWN, run_draw};
+pub use program_parts::FAULT;
 pub use scene::{Block, Column, Culprit, Link, Mark, Place, Scene, Standing, Support};

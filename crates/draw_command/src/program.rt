@@ -2,16 +2,18 @@
 
 ghost use Rattle.std.specs.Prelude.{◌≡◌, ◌≢◌};
 ghost use Rattle.printed_lines.specs.Printed.{Told};
+ghost use Rattle.program_parts.specs.declared.program_fault.ProgramFault.{ProgramFault as FaultValue};
+ghost use Rattle.program_parts.specs.declared.source_fault.SourceFault.{SourceFault as OwnFaultValue};
 ghost use Rattle.draw_command.specs.FaultLines.{draw_fault_line};
-ghost use Rattle.draw_command.specs.declared.fault.Fault.{Fault as FaultValue};
 
 use crate::drawing::draw;
 use crate::fault::Fault;
 use crate::placing::scene_of;
-use crate::reading::{read_committee, read_evidence};
+use crate::reading::read_evidence;
 use crate::words::{SourceFile, Words, read_words};
 use blocks::CommitteeView;
 use culprit_search::audit;
+use program_parts::{FAULT, parse_committee, read_committee};
 use std::alloc::Global;
 use std::fs::{File, Files};
 use std::sync::Wait;
@@ -20,9 +22,6 @@ use streams::{Sink, write_all};
 
 /// The picture was written, or how the program is called.
 pub const DRAWN: u8 = 0;
-
-/// There is no picture, or not all of it.
-pub const FAULT: u8 = 2;
 
 /// How the program is called.
 const USAGE: &[u8] = b"hs_draw COMMITTEE R=file:PATH..\n";
@@ -40,7 +39,7 @@ pub fn run_draw<F: Files<File = File> + Sync, T: Threads + Wait + Sync, W: Sink,
 where
     F::Dir: Send,
     ensures silent { result ≢ 2 → faults.new ≡ faults.old }
-    ensures told { result ≡ 2 → (fault : FaultValue)
+    ensures told { result ≡ 2 → (fault : FaultValue OwnFaultValue)
         × Told (E.text faults.old) (E.text faults.new) (E.failed faults.old) (E.failed faults.new)
         (draw_fault_line fault) }
 {
@@ -67,7 +66,8 @@ where
         Words::Usage => write_out(out, USAGE),
         Words::Picture { committee, sources } => {
             let bytes = read_committee(files, alloc, committee)?;
-            let picture = picture_of(files, rt, alloc, &bytes, &sources)?;
+            let committee = parse_committee(&bytes)?;
+            let picture = picture_of(files, rt, alloc, &committee, &sources)?;
             write_out(out, picture.as_bytes())
         }
     }
@@ -78,17 +78,13 @@ fn picture_of<'a, F: Files<File = File> + Sync, T: Threads + Wait + Sync>(
     files: &'a F,
     rt: &T,
     alloc: Global,
-    committee: &[u8],
+    committee: &CommitteeView,
     sources: &[SourceFile<'a>],
 ) -> Result<String, Fault<'a>>
 where
     F::Dir: Send,
 {
-    let committee = match CommitteeView::parse(committee) {
-        Ok(committee) => committee,
-        Err(refusal) => return Err(Fault::Committee(refusal)),
-    };
-    let evidence = read_evidence(files, rt, alloc, &committee, sources)?;
+    let evidence = read_evidence(files, rt, alloc, committee, sources)?;
     let report = audit(alloc, &evidence)?;
     let scene = scene_of(alloc, &evidence, &report)?;
     Ok(draw(alloc, &scene)?)

@@ -7,30 +7,15 @@ ghost use Rattle.parallel_verify.specs.Collections.{MayBeTried};
 use crate::fault::Fault;
 use crate::words::SourceFile;
 use blocks::CommitteeView;
-use evidence::{Evidence, SourceReport};
-use file_input::read_file;
+use evidence::{Evidence, EvidenceRefusal, SourceReport};
 use log_format::Status;
 use log_transfer::FileConnector;
 use parallel_verify::{Source, collect};
+use program_parts::SourceFault;
 use std::alloc::{AllocError, Global};
 use std::fs::{File, Files};
 use std::sync::Wait;
 use std::thread::Threads;
-
-/// How much of a committee's file is read, in bytes.
-const MOST_OF_A_COMMITTEE: u64 = 16_384;
-
-/// The first bytes of a committee's file, as many as a committee can have.
-pub(crate) fn read_committee<'a, F: Files<File = File>>(
-    files: &F,
-    alloc: Global,
-    path: &'a str,
-) -> Result<Vec<u8>, Fault<'a>> {
-    match read_file(files, alloc, path, MOST_OF_A_COMMITTEE) {
-        Ok(bytes) => Ok(bytes),
-        Err(why) => Err(Fault::of_input(why, Fault::File(path))),
-    }
-}
 
 // Adds a source, which has one try: a file can't go on in its middle.
 fn add_source<'a, F: Files<File = File>>(
@@ -92,6 +77,7 @@ where
             Some(path) => Err(Fault::File(path)),
             None => Ok(evidence),
         },
-        Err(refusal) => Err(Fault::of_evidence(refusal)),
+        Err(EvidenceRefusal::Memory) => Err(Fault::Memory),
+        Err(EvidenceRefusal::Collision(_, _)) => Err(Fault::Own(SourceFault::Collision)),
     }
 }

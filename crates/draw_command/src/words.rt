@@ -1,6 +1,7 @@
 //! The words of the command line.
 
 use crate::fault::Fault;
+use program_parts::{Origin, SourceFault, SourceWord};
 use std::alloc::Global;
 
 /// What the words ask for.
@@ -25,24 +26,15 @@ pub(crate) struct SourceFile<'a> {
 impl<'a> SourceFile<'a> {
     // What `R=file:PATH` says.
     fn of(word: &'a str) -> Option<SourceFile<'a>> {
-        let (replica, origin) = word.split_once('=')?;
-        let (kind, path) = origin.split_once(':')?;
-        if kind != "file" || path.is_empty() {
-            return None;
+        let source = SourceWord::of(word)?;
+        match source.origin {
+            Origin::File(path) => Some(SourceFile {
+                replica: source.replica,
+                path,
+            }),
+            Origin::Tcp(_) => None,
         }
-        Some(SourceFile {
-            replica: number(replica)?,
-            path,
-        })
     }
-}
-
-// A number below 65,536 in its one spelling: digits alone, and no leading zero.
-fn number(word: &str) -> Option<u16> {
-    if word.starts_with('+') || (word.starts_with('0') && word != "0") {
-        return None;
-    }
-    word.parse::<u16>().ok()
 }
 
 /// Reads `COMMITTEE SOURCE..`, without the program's name, or no words. The committee's path is not empty and begins
@@ -60,7 +52,7 @@ pub(crate) fn read_words<'a>(alloc: Global, words: &'a [String]) -> Result<Words
     for (i, word) in rest.iter().enumerate() {
         match SourceFile::of(word) {
             Some(source) => sources.push(source)?,
-            None => return Err(Fault::Source(i)),
+            None => return Err(Fault::Own(SourceFault::Word(i))),
         }
     }
     Ok(Words::Picture { committee, sources })

@@ -17,13 +17,14 @@ mod storing;
 mod story;
 
 use fault::Fault;
+use program_parts::{FAULT, run_main};
 use scene::play;
-use std::env;
+use std::io::{Stderr, Stdout};
 use std::process::ExitCode;
 use streams::{Sink, StdSink, write_all};
 
-/// The exit status where the fork was not played to its end.
-const FAULT: u8 = 2;
+/// The exit status where the fork was played to its end.
+const PLAYED: u8 = 0;
 
 // The one word: the folder.
 fn folder(words: &[String]) -> Option<&str> {
@@ -40,24 +41,24 @@ fn tell_fault<W: Sink>(out: &mut W, alloc: std::alloc::Global, fault: Fault) {
 }
 
 fn main(rt: HostRuntime) -> ExitCode {
-    let mut out = StdSink::new(rt.stdout());
-    let mut faults = StdSink::new(rt.stderr());
-    let words = match env::args(&rt) {
-        Ok(words) => words.skip(1).collect::<Vec<String>>(rt.alloc()),
-        Err(_) => return ExitCode::from(FAULT),
-    };
-    let Ok(words) = words else {
-        return ExitCode::from(FAULT);
-    };
-    let Some(folder) = folder(&words) else {
-        let _ = write_all(&mut faults, b"usage: fork_demo FOLDER\n");
-        return ExitCode::from(FAULT);
-    };
-    match play(&rt, folder, &mut out) {
-        Ok(()) => ExitCode::SUCCESS,
-        Err(fault) => {
-            tell_fault(&mut faults, rt.alloc(), fault);
-            ExitCode::from(FAULT)
-        }
-    }
+    run_main(
+        &rt,
+        rt.stdout(),
+        rt.stderr(),
+        &|words: &[String], out: &mut StdSink<Stdout>, faults: &mut StdSink<Stderr>| {
+            match folder(words) {
+                Some(folder) => match play(&rt, folder, out) {
+                    Ok(()) => PLAYED,
+                    Err(fault) => {
+                        tell_fault(faults, rt.alloc(), fault);
+                        FAULT
+                    }
+                },
+                None => {
+                    let _ = write_all(faults, b"usage: fork_demo FOLDER\n");
+                    FAULT
+                }
+            }
+        },
+    )
 }

@@ -6,11 +6,11 @@ ghost use Rattle.wire.specs.declared.limits.TheConstants.{MOST_KEYS};
 
 use crate::fault::{ReplicaFault, ReplicaFile};
 use blocks::{CommitteeView, Header};
-use file_input::{InputFault, read_at_most};
 use key_files::KeyFile;
 use key_index_store::{IndexError, IndexStore};
 use lmots::{PRIVATE_SEED_LEN, PrivateSeed};
 use lms_tree::SigningTree;
+use program_parts::{InputFault, read_at_most};
 use stable_log::FileDisk;
 use std::alloc::Global;
 use std::fs::{File, Files, OpenOptions};

@@ -11,7 +11,7 @@ ghost use Rattle.replica_lines.specs.OutcomeLines.{answer_text, commit_text, des
 use blocks::{HeaderRefusal, Id};
 use certificates::{BlockRefusal, CertificateRefusal, SignedVote, VOTE_LEN};
 use itoa::{Buffer, Integer};
-use printed_lines::Line;
+use printed_lines::{Line, id_digits};
 use streams::{Fault, Sink, write_all};
 use vote_desk::{Answer, DeskError, Receipt, Reply};
 
@@ -153,12 +153,4 @@ fn write_committed_id<W: Sink>(out: &mut W, id: &Id) -> Result<(), Fault>
 {
     write_all(out, b" committed ")?;
     write_all(out, &id_digits(id))
-}
-
-fn id_digits(id: &Id) -> [u8; 64]
-    ensures { result ≡ encode_lower id.now }
-{
-    let mut digits = [0; 64];
-    let _ = hex::encode_to_slice(&id[..], &mut digits);
-    digits
 }

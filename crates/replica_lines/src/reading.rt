@@ -8,6 +8,7 @@ ghost use Rattle.replica_lines.specs.LineReading.{AreOfText, IsLine, IsWhatWasRe
 ghost use Rattle.replica_lines.specs.Requests.{IsRequestOf};
 
 use crate::request::{Request, request_of};
+use printed_lines::cut;
 use std::alloc::{AllocError, Global};
 use std::marker::Model;
 use streams::Feed;
@@ -127,16 +128,6 @@ impl Intake {
         self.line.clear();
         Ok(())
     }
-}
-
-// What stands before the first line feed, and what stands behind it.
-fn cut(text: &[u8]) -> Option<(&[u8], &[u8])>
-    ensures none { IfNone result (IsLine text.now) }
-    ensures some { IfSome result (λ parts. (text.now ≡ parts.0.now ++ 10 ∷ parts.1.now)
-        × IsLine parts.0.now) }
-{
-    let at = text.iter().position(|byte| *byte == b'\n')?;
-    Some((&text[..at], &text[at + 1..]))
 }
 
 // A line that has not ended: its first bytes, and whether it has more than there is room for.

@@ -13,7 +13,6 @@ use Rattle.printed_lines.specs.Printed.{printed, refusal_text}
 use Rattle.log_format.specs.Readings.{status_name}
 use Rattle.log_format.specs.declared.status.Status.{Status}
 use Rattle.key_index_store.specs.Indices.{limit_of}
-use Rattle.verdict_format.specs.declared.verdict.TheConstants.{EARLIER_SIGNATURE_AT, LATER_SIGNATURE_AT}
 use Rattle.show_command.specs.Marks.{is_good, mark_text}
 use Rattle.show_command.specs.declared.mark.Mark.{Mark}
 
@@ -145,12 +144,12 @@ headers_lines rule None = if rule == 2 then codes "headers unreadable\n" else []
 headers_lines rule (Some h) =
     header_line (codes "first") h.earlier ++ header_line (codes "parent") h.parent ++ header_line (codes "second") h.later
 
--- the signatures of the votes begin with their indices
+-- the signatures of the votes begin with their indices, at 80 and at 1573
 abbrev pub verdict_lines : List ℕ → Mark → Mark → List ℕ
 verdict_lines bytes first second =
     rule_line (verdict_kind_in bytes) (replica_in bytes) ++ chain_line (chain_in bytes)
-    ++ vote_line (codes "first") (earlier_in bytes).view (earlier_in bytes).id (earlier_key_in bytes) (number_at 4 bytes EARLIER_SIGNATURE_AT) first
-    ++ vote_line (codes "second") (later_in bytes).view (later_in bytes).id (later_key_in bytes) (number_at 4 bytes LATER_SIGNATURE_AT) second
+    ++ vote_line (codes "first") (earlier_in bytes).view (earlier_in bytes).id (earlier_key_in bytes) (number_at 4 bytes 80) first
+    ++ vote_line (codes "second") (later_in bytes).view (later_in bytes).id (later_key_in bytes) (number_at 4 bytes 1573) second
     ++ headers_lines (verdict_kind_in bytes) (headers_in bytes)
 
 -- ---- a log

@@ -5,9 +5,10 @@ ghost use Rattle.hex.specs.Hex.{encode_lower};
 ghost use Rattle.blocks.specs.Committees.{has_many_keys, keys_of, n_of};
 ghost use Rattle.show_command.specs.Lines.{chain_line, committee_lines, first_line, key_ids, member_line, multikey_replica_front, multikey_replica_line, shown_key_line, refused_committee_line, replica_line, replica_lines, seed_line, size_line, weighted_replica_line, weighted_size_line};
 
-use crate::digits::{put_id, put_key_id, put_number};
+use crate::digits::put_key_id;
 use blocks::{CommitteeView, Id};
 use lms_tree::PublicKey;
+use printed_lines::{put_id, put_number};
 use std::alloc::AllocError;
 use wire::{append, array_at};
 

@@ -11,12 +11,12 @@ ghost use Rattle.show_command.specs.Marks.{IsMark, mark_text};
 ghost use Rattle.show_command.specs.Names.{entry_refusal_name};
 ghost use Rattle.show_command.specs.Series.{AddsText};
 
-use crate::digits::{put_id, put_number};
 use crate::mark::{Mark, mark_of, put_key_part};
 use crate::names::entry_refusal_name;
 use blocks::Header;
 use certificates::{Certificate, CommitteeView, SignedVote, check_vote};
 use log_format::{Entry, EntryRefusal};
+use printed_lines::{put_id, put_number};
 use std::alloc::{AllocError, Global};
 use wire::{append, u32_at};
 

@@ -19,4 +19,5 @@ mod words;
 pub use fault::Fault;
 pub use page::{Page, show};
 pub use printing::print_file;
-pub use program::{FAULT, NOT_WHOLE, SHOWN, run_show};
+pub use program::{NOT_WHOLE, SHOWN, run_show};
+pub use program_parts::FAULT;

@@ -8,7 +8,6 @@ ghost use Rattle.show_command.specs.Files.{IsWholeOrElse, IsExportText, IsIndice
 ghost use Rattle.show_command.specs.Lines.{export_line, indices_line, journal_line, left_text, left_with, shown_refusal_line};
 ghost use Rattle.show_command.specs.Series.{AddsText};
 
-use crate::digits::put_number;
 use crate::entry::put_payload;
 use crate::mark::{Mark, put_count};
 use crate::names::put_refused;
@@ -16,6 +15,7 @@ use crate::page::Page;
 use certificates::CommitteeView;
 use key_index_store::{INDICES, IndexError, IndexStore};
 use log_format::{Frames, Status};
+use printed_lines::put_number;
 use stable_log::{Journal, JournalError, MemoryDisk};
 use std::alloc::{AllocError, Global};
 use wire::{MOST_ENTRIES, MOST_KEYS, append};

@@ -4,9 +4,9 @@ ghost use Rattle.std.specs.Prelude.{◌≡◌, ◌++◌, OnOk, count_by, decimal
 ghost use Rattle.show_command.specs.Lines.{good_count_line, key_part, signatures_line};
 ghost use Rattle.show_command.specs.Marks.{IsMark, is_good, mark_text};
 
-use crate::digits::put_number;
 use blocks::Ballot;
 use certificates::{CommitteeView, LmsVerifier, is_signed_by};
+use printed_lines::put_number;
 use std::alloc::AllocError;
 use wire::append;
 

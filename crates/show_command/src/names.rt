@@ -4,8 +4,8 @@ ghost use Rattle.std.specs.Prelude.{◌≡◌, ◌++◌, OnOk, decimal};
 ghost use Rattle.show_command.specs.Lines.{shown_refusal_line};
 ghost use Rattle.show_command.specs.Names.{entry_refusal_name, verdict_refusal_name};
 
-use crate::digits::put_number;
 use log_format::EntryRefusal;
+use printed_lines::put_number;
 use std::alloc::AllocError;
 use verdict_format::VerdictRefusal;
 use wire::append;

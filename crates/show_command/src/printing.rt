@@ -10,6 +10,7 @@ use crate::fault::Fault;
 use crate::page::{Page, show};
 use certificates::CommitteeView;
 use printed_lines::write_printed;
+use program_parts::ProgramFault;
 use std::alloc::Global;
 use streams::{Sink, write_all};
 
@@ -25,17 +26,19 @@ pub fn print_file<'a, W: Sink>(
     ensures ok { IfOk result (λ is_whole. (text : List ℕ)
         × IsPrinted committee.now path.now bytes.items text is_whole
         × Wrote (W.text out.old) (W.text out.new) text) }
-    ensures memory { IsErrOf result Fault.Memory → out.new ≡ out.old }
-    ensures output { IsErrOf result Fault.Output → (text : List ℕ) × (is_whole : Bool)
+    ensures memory { IsErrOf result ProgramFault.Memory → out.new ≡ out.old }
+    ensures output { IsErrOf result ProgramFault.Output → (text : List ℕ) × (is_whole : Bool)
         × IsPrinted committee.now path.now bytes.items text is_whole
         × WrotePart (W.text out.old) (W.text out.new) text }
-    ensures cause { IsErrOf result Fault.Output → W.failed out.new ≡ one_more (W.failed out.old) }
-    ensures only { IfErr result (λ fault. (fault ≡ Fault.Memory) ⊎ (fault ≡ Fault.Output)) }
+    ensures cause { IsErrOf result ProgramFault.Output
+        → W.failed out.new ≡ one_more (W.failed out.old) }
+    ensures only { IfErr result (λ fault. (fault ≡ ProgramFault.Memory)
+        ⊎ (fault ≡ ProgramFault.Output)) }
 {
     let page = show(alloc, committee, bytes)?;
     match print_page(path, &page.text, out) {
         Ok(()) => Ok(page.is_whole),
-        Err(_) => Err(Fault::Output),
+        Err(_) => Err(ProgramFault::Output),
     }
 }
 

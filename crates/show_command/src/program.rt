@@ -2,14 +2,15 @@
 
 ghost use Rattle.std.specs.Prelude.{◌≡◌, ◌≢◌};
 ghost use Rattle.printed_lines.specs.Printed.{Told};
+ghost use Rattle.program_parts.specs.declared.no_fault.NoFault.{NoFault as OwnFaultValue};
+ghost use Rattle.program_parts.specs.declared.program_fault.ProgramFault.{ProgramFault as FaultValue};
 ghost use Rattle.show_command.specs.FaultLines.{show_fault_line};
-ghost use Rattle.show_command.specs.declared.fault.Fault.{Fault as FaultValue};
 
 use crate::fault::Fault;
 use crate::printing::print_file;
 use crate::words::read_words;
 use certificates::CommitteeView;
-use file_input::read_file;
+use program_parts::{FAULT, parse_committee, read_committee, read_named};
 use std::alloc::Global;
 use std::fs::{File, Files};
 use streams::Sink;
@@ -19,12 +20,6 @@ pub const SHOWN: u8 = 0;
 
 /// Each file was shown, and one at least is of no kind, or begins as one of a kind and is none.
 pub const NOT_WHOLE: u8 = 1;
-
-/// Not all files were shown.
-pub const FAULT: u8 = 2;
-
-/// How much of a committee's file is read, in bytes, where signatures are judged under it.
-const MOST_OF_A_COMMITTEE: u64 = 16_384;
 
 /// How much of a file is read, in bytes: as long as a journal can be up to the gate behind its last entry. An export
 /// can't be as long.
@@ -40,7 +35,7 @@ pub fn run_show<F: Files<File = File>, W: Sink, E: Sink>(
     faults: &mut E,
 ) -> u8
     ensures silent { result ≢ 2 → faults.new ≡ faults.old }
-    ensures told { result ≡ 2 → (fault : FaultValue)
+    ensures told { result ≡ 2 → (fault : FaultValue OwnFaultValue)
         × Told (E.text faults.old) (E.text faults.new) (E.failed faults.old) (E.failed faults.new)
         (show_fault_line fault) }
 {
@@ -65,11 +60,9 @@ fn run<'a, F: Files<File = File>, W: Sink>(
     let Some(path) = words.committee else {
         return show_files(rt, alloc, &words.files, &None, out);
     };
-    let bytes = read(rt, alloc, path, MOST_OF_A_COMMITTEE)?;
-    match CommitteeView::parse(&bytes) {
-        Ok(committee) => show_files(rt, alloc, &words.files, &Some(committee), out),
-        Err(refusal) => Err(Fault::Committee(refusal)),
-    }
+    let bytes = read_committee(rt, alloc, path)?;
+    let committee = parse_committee(&bytes)?;
+    show_files(rt, alloc, &words.files, &Some(committee), out)
 }
 
 fn show_files<'a, F: Files<File = File>, W: Sink>(
@@ -81,22 +74,9 @@ fn show_files<'a, F: Files<File = File>, W: Sink>(
 ) -> Result<bool, Fault<'a>> {
     let mut are_whole = true;
     for path in paths {
-        let bytes = read(rt, alloc, path, MOST_OF_A_FILE)?;
+        let bytes = read_named(rt, alloc, path, MOST_OF_A_FILE)?;
         let is_whole = print_file(alloc, committee, path, bytes, out)?;
         are_whole = are_whole && is_whole;
     }
     Ok(are_whole)
-}
-
-// The first bytes of a file, `most` of them at most.
-fn read<'a, F: Files<File = File>>(
-    rt: &F,
-    alloc: Global,
-    path: &'a str,
-    most: u64,
-) -> Result<Vec<u8>, Fault<'a>> {
-    match read_file(rt, alloc, path, most) {
-        Ok(bytes) => Ok(bytes),
-        Err(why) => Err(Fault::of_input(why, Fault::File(path))),
-    }
 }

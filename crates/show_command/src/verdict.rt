@@ -10,12 +10,12 @@ ghost use Rattle.show_command.specs.Lines.{good_count_line, header_line, headers
 ghost use Rattle.show_command.specs.Marks.{IsMark, mark_text};
 
 use crate::committee::put_chain;
-use crate::digits::{put_id, put_number};
 use crate::mark::{Mark, mark_of, put_count, put_key_part};
 use crate::names::{put_refused, verdict_refusal_name};
 use crate::page::Page;
 use blocks::Header;
 use certificates::CommitteeView;
+use printed_lines::{put_id, put_number};
 use std::alloc::{AllocError, Global};
 use verdict_format::{EARLIER_SIGNATURE_AT, LATER_SIGNATURE_AT, Shown, VerdictView, VoteView};
 use wire::{append, u32_at};

@@ -4,10 +4,9 @@ ghost use Rattle.std.specs.Prelude.{◌≡◌, ◌≢◌, [], false, true, IfErr
 ghost use Rattle.std.specs.List.{All};
 ghost use Rattle.parallel_verify.specs.Collections.{MayBeTried};
 ghost use Rattle.tool_commands.specs.Audits.{AreCulpritsPrinted, IsAuditPrinted, IsNoCulpritPrinted};
-ghost use Rattle.tool_commands.specs.Writes.{CountsWrites};
+ghost use Rattle.program_parts.specs.Writes.{CountsWrites};
 
-use crate::fault::{Fault, Place};
-use crate::files::read_committee;
+use crate::fault::{Fault, FolderFile, ToolFault, fault_of_run};
 use crate::host::Host;
 use crate::new_file::replace_file;
 use crate::progress::Progress;
@@ -17,7 +16,8 @@ use certificates::Verifier;
 use culprit_search::{Report, Verdict};
 use log_transfer::Connector;
 use parallel_verify::Source;
-use source_audit::audit_run_by;
+use program_parts::{ProgramFault, parse_committee, read_committee};
+use source_audit::audit_run_of;
 use std::alloc::Global;
 use std::fs;
 use std::fs::{File, Files};
@@ -54,13 +54,11 @@ where
 {
     let sources = read_source_words(host.alloc, words)?;
     let bytes = read_committee(host.files, host.alloc, committee)?;
-    if let Err(refusal) = CommitteeView::parse(&bytes) {
-        return Err(Fault::Committee(refusal));
-    }
+    let committee = parse_committee(&bytes)?;
     see_folder(host.files, folder)?;
     let progress = Progress::new(host.alloc, host.rt, host.console, sources.len())?;
     let sources = open_sources(host, &sources, tries, &progress)?;
-    let report = print_report(host.rt, host.alloc, &bytes, &progress, sources, out)?;
+    let report = print_report(host.rt, host.alloc, &committee, &progress, sources, out)?;
     store_verdicts(host.files, host.alloc, folder, &report)?;
     Ok(has_culprits(&report))
 }
@@ -68,7 +66,7 @@ where
 fn print_report<'a, T: Threads + Wait + Sync, C: Connector + Send, V: Verifier + Sync, W: Sink>(
     rt: &T,
     alloc: Global,
-    committee: &[u8],
+    committee: &CommitteeView,
     verifier: &V,
     sources: Vec<Source<C>>,
     out: &mut W,
@@ -78,9 +76,9 @@ fn print_report<'a, T: Threads + Wait + Sync, C: Connector + Send, V: Verifier +
         IsAuditPrinted committee.now (W.text out.old) (W.text out.new) report.verdicts) }
     ensures counted { CountsWrites result (W.failed out.old) (W.failed out.new) }
 {
-    match audit_run_by(rt, alloc, committee, verifier, sources, out) {
+    match audit_run_of(rt, alloc, committee, verifier, sources, out) {
         Ok(report) => Ok(report),
-        Err(error) => Err(Fault::of_run(error)),
+        Err(error) => Err(fault_of_run(error)),
     }
 }
 
@@ -93,9 +91,9 @@ fn has_culprits(report: &Report) -> bool
 }
 
 fn see_folder<'a, F: Files<File = File>>(files: &F, folder: &'a str) -> Result<(), Fault<'a>>
-    ensures { IfErr result (λ fault. fault ≢ Fault.Output) }
+    ensures { IfErr result (λ fault. fault ≢ ProgramFault.Output) }
 {
-    let fault = Fault::File(Place::Path(folder));
+    let fault = Fault::File(folder);
     match fs::metadata(files, folder) {
         Ok(found) if found.is_dir() => Ok(()),
         Ok(_) => Err(fault),
@@ -110,7 +108,7 @@ fn store_verdicts<'a, F: Files<File = File>>(
     folder: &'a str,
     report: &Report,
 ) -> Result<(), Fault<'a>>
-    ensures { IfErr result (λ fault. fault ≢ Fault.Output) }
+    ensures { IfErr result (λ fault. fault ≢ ProgramFault.Output) }
 {
     for verdict in report.verdicts() {
         store_verdict(files, alloc, folder, verdict)?;
@@ -125,14 +123,14 @@ fn store_verdict<'a, F: Files<File = File>>(
     folder: &'a str,
     verdict: &Verdict,
 ) -> Result<(), Fault<'a>>
-    ensures { IfErr result (λ fault. fault ≢ Fault.Output) }
+    ensures { IfErr result (λ fault. fault ≢ ProgramFault.Output) }
 {
     let replica = verdict.replica();
     let path = format!(in alloc; "{folder}/verdict-{replica}.hsx")?;
     match replace_file(files, alloc, &path, verdict.as_bytes()) {
         Ok(()) => Ok(()),
         Err(error) => {
-            let fault = Fault::File(Place::Verdict { folder, replica });
+            let fault = Fault::Own(ToolFault::FileIn(folder, FolderFile::Verdict(replica)));
             Err(Fault::unless_memory(&error, fault))
         }
     }

@@ -2,15 +2,13 @@
 //! files.
 
 ghost use Rattle.std.specs.Prelude.{◌≢◌, IfErr};
-ghost use Rattle.tool_commands.specs.Writes.{CountsWrites};
+ghost use Rattle.program_parts.specs.Writes.{CountsWrites};
 
-use crate::fault::{Fault, Place};
+use crate::fault::Fault;
 use crate::new_file::replace_file;
-use blocks::{
-    CommitteeView, Member, write_committee, write_multikey_committee, write_weighted_committee,
-};
-use file_input::read_file;
+use blocks::{Member, write_committee, write_multikey_committee, write_weighted_committee};
 use lms_tree::PUBLIC_KEY_LEN;
+use program_parts::{ProgramFault, parse_committee, read_named};
 use std::alloc::Global;
 use std::fs::{File, Files};
 use streams::{Sink, write_all};
@@ -32,7 +30,7 @@ pub fn committee<'a, F: Files<File = File>, W: Sink>(
     ensures { CountsWrites result (W.failed out.old) (W.failed out.new) }
 {
     if keys.contains(&path) {
-        return Err(Fault::File(Place::Path(path)));
+        return Err(Fault::File(path));
     }
     let mut texts = Vec::new(alloc);
     for key in keys {
@@ -57,7 +55,7 @@ pub fn weighted<'a, F: Files<File = File>, W: Sink>(
     ensures { CountsWrites result (W.failed out.old) (W.failed out.new) }
 {
     if replicas.iter().any(|replica| replica.paths.contains(&path)) {
-        return Err(Fault::File(Place::Path(path)));
+        return Err(Fault::File(path));
     }
     let mut members = Vec::new(alloc);
     for replica in replicas {
@@ -72,7 +70,7 @@ fn read_member<'a, F: Files<File = File>>(
     alloc: Global,
     replica: &WeightedReplica<'a>,
 ) -> Result<Member, Fault<'a>>
-    ensures { IfErr result (λ fault. fault ≢ Fault.Output) }
+    ensures { IfErr result (λ fault. fault ≢ ProgramFault.Output) }
 {
     let mut keys = Vec::new(alloc);
     for path in &replica.paths {
@@ -86,7 +84,7 @@ fn read_member<'a, F: Files<File = File>>(
 
 // The bytes of the committee of these replicas, in the format with room for several keys where one has several.
 fn text_of<'a>(alloc: Global, members: &[Member]) -> Result<Vec<u8>, Fault<'a>>
-    ensures { IfErr result (λ fault. fault ≢ Fault.Output) }
+    ensures { IfErr result (λ fault. fault ≢ ProgramFault.Output) }
 {
     // There are 4 to 31 of them, each with one to four keys; the writers ask for these bounds.
     if members.len() > 65_535 || members.iter().any(|m| m.keys.len() > MOST_KEYS as usize) {
@@ -109,14 +107,11 @@ fn publish<'a, F: Files<File = File>, W: Sink>(
 ) -> Result<(), Fault<'a>>
     ensures { CountsWrites result (W.failed out.old) (W.failed out.new) }
 {
-    let chain = match CommitteeView::parse(bytes) {
-        Ok(committee) => committee.chain(),
-        Err(refusal) => return Err(Fault::Committee(refusal)),
-    };
+    let chain = parse_committee(bytes)?.chain();
     let digits = hex::encode(alloc, &chain[..])?;
     let line = format!(in alloc; "chain {digits}\n")?;
     if let Err(error) = replace_file(rt, alloc, path, bytes) {
-        return Err(Fault::unless_memory(&error, Fault::File(Place::Path(path))));
+        return Err(Fault::unless_memory(&error, Fault::File(path)));
     }
     write_all(out, line.as_bytes()).map_err(|_| Fault::Output)
 }
@@ -127,14 +122,11 @@ fn read_key<'a, F: Files<File = File>>(
     alloc: Global,
     path: &'a str,
 ) -> Result<[u8; PUBLIC_KEY_LEN], Fault<'a>>
-    ensures { IfErr result (λ fault. fault ≢ Fault.Output) }
+    ensures { IfErr result (λ fault. fault ≢ ProgramFault.Output) }
 {
-    let bytes = match read_file(rt, alloc, path, PUBLIC_KEY_LEN as u64 + 1) {
-        Ok(bytes) => bytes,
-        Err(fault) => return Err(Fault::of_input(fault, path)),
-    };
+    let bytes = read_named(rt, alloc, path, PUBLIC_KEY_LEN as u64 + 1)?;
     if bytes.len() != PUBLIC_KEY_LEN {
-        return Err(Fault::File(Place::Path(path)));
+        return Err(Fault::File(path));
     }
     Ok(array_at(&bytes, 0))
 }

@@ -2,12 +2,13 @@
 
 ghost use Rattle.std.specs.Prelude.{◌≡◌};
 ghost use Rattle.key_files.specs.declared.files.KeyFile.{KeyFile as KeyFileValue};
-ghost use Rattle.tool_commands.specs.Writes.{CountsWrites};
+ghost use Rattle.program_parts.specs.Writes.{CountsWrites};
 
-use crate::fault::{Fault, Place};
+use crate::fault::{Fault, FolderFile, ToolFault};
 use crate::host::Host;
 use key_files::{KeyFault, SystemFolder, make_key};
 use lmots::{PRIVATE_SEED_LEN, PrivateSeed};
+use program_parts::ProgramFault;
 use std::fs::{File, Files};
 use std::thread::Threads;
 use streams::Sink;
@@ -26,7 +27,7 @@ pub fn keygen<'a, F: Files<File = File>, T: Threads + Sync, W: Sink>(
 {
     let mut bytes = [0; PRIVATE_SEED_LEN];
     if hex::decode_to_slice(seed, &mut bytes).is_err() {
-        return Err(Fault::Hex);
+        return Err(Fault::Own(ToolFault::Hex));
     }
     let secret = PrivateSeed::from_bytes(&bytes);
     let mut folder = SystemFolder::new(host.files, host.alloc, path);
@@ -38,14 +39,14 @@ pub fn keygen<'a, F: Files<File = File>, T: Threads + Sync, W: Sink>(
 
 // The fault of a key in the folder at `path`.
 fn in_folder<'a>(folder: &'a str, fault: KeyFault) -> Fault<'a>
-    ensures memory { fault ≡ KeyFault.Memory → result ≡ Fault.Memory }
+    ensures memory { fault ≡ KeyFault.Memory → result ≡ ProgramFault.Memory }
     ensures file { (file : KeyFileValue) → fault ≡ KeyFault.File file
-        → result ≡ Fault.File (Place.Key folder.entry file) }
-    ensures output { fault ≡ KeyFault.Output → result ≡ Fault.Output }
+        → result ≡ ProgramFault.Own (ToolFault.FileIn folder.entry (FolderFile.Key file)) }
+    ensures output { fault ≡ KeyFault.Output → result ≡ ProgramFault.Output }
 {
     match fault {
         KeyFault::Memory => Fault::Memory,
-        KeyFault::File(file) => Fault::File(Place::Key { folder, file }),
+        KeyFault::File(file) => Fault::Own(ToolFault::FileIn(folder, FolderFile::Key(file))),
         KeyFault::Output => Fault::Output,
     }
 }

@@ -5,7 +5,6 @@
 mod audit;
 mod committee;
 mod fault;
-mod files;
 mod host;
 mod keygen;
 mod migrate;
@@ -15,6 +14,7 @@ mod replica;
 mod sources;
 mod tool;
 
-pub use fault::{Fault, Place};
+pub use fault::{Fault, FolderFile, ToolFault};
 pub use host::Host;
-pub use tool::{CULPRITS, DONE, FAULT, run_tool};
+pub use program_parts::FAULT;
+pub use tool::{CULPRITS, DONE, run_tool};

@@ -2,11 +2,11 @@
 
 ghost use Rattle.std.specs.Prelude.{◌≢◌, IfErr};
 ghost use Rattle.blocks.specs.Headers.{IsGenesis};
-ghost use Rattle.tool_commands.specs.Writes.{CountsWrites};
+ghost use Rattle.program_parts.specs.Writes.{CountsWrites};
 
-use crate::fault::{Fault, Place};
-use crate::files::read_committee;
-use blocks::{CommitteeView, Header};
+use crate::fault::{Fault, ToolFault};
+use blocks::Header;
+use program_parts::{ProgramFault, parse_committee, read_committee};
 use stable_log::{FileDisk, Journal, JournalError};
 use std::alloc::Global;
 use std::fs;
@@ -33,10 +33,7 @@ pub fn migrate_log<'a, F: Files<File = File>, W: Sink>(
 {
     let log = open_old(rt, alloc, old)?;
     let bytes = read_committee(rt, alloc, path)?;
-    let committee = match CommitteeView::parse(&bytes) {
-        Ok(committee) => committee,
-        Err(refusal) => return Err(Fault::Committee(refusal)),
-    };
+    let committee = parse_committee(&bytes)?;
     let disk = make_new(rt, new)?;
     let count = match carry(alloc, log, disk, committee.genesis()) {
         Ok(count) => count,
@@ -57,28 +54,28 @@ fn open_old<'a, F: Files<File = File>>(
     alloc: Global,
     path: &'a str,
 ) -> Result<Journal<FileDisk>, Fault<'a>>
-    ensures { IfErr result (λ fault. fault ≢ Fault.Output) }
+    ensures { IfErr result (λ fault. fault ≢ ProgramFault.Output) }
 {
     let file = match OpenOptions::new().read(true).open(rt, path) {
         Ok(file) => file,
-        Err(error) => return Err(Fault::unless_memory(&error, Fault::File(Place::Path(path)))),
+        Err(error) => return Err(Fault::unless_memory(&error, Fault::File(path))),
     };
     match Journal::recover(alloc, FileDisk::new(file)) {
         Ok(journal) => Ok(journal),
         Err((JournalError::Memory, _)) => Err(Fault::Memory),
-        Err((refusal, _)) => Err(Fault::Store(refusal.number())),
+        Err((refusal, _)) => Err(Fault::Own(ToolFault::Store(refusal.number()))),
     }
 }
 
 // A new file, as a disk.
 fn make_new<'a, F: Files<File = File>>(rt: &F, path: &'a str) -> Result<FileDisk, Fault<'a>>
-    ensures { IfErr result (λ fault. fault ≢ Fault.Output) }
+    ensures { IfErr result (λ fault. fault ≢ ProgramFault.Output) }
 {
     let mut how = OpenOptions::new();
     how.read(true).write(true).create_new(true);
     match how.open(rt, path) {
         Ok(file) => Ok(FileDisk::new(file)),
-        Err(error) => Err(Fault::unless_memory(&error, Fault::File(Place::Path(path)))),
+        Err(error) => Err(Fault::unless_memory(&error, Fault::File(path))),
     }
 }
 
@@ -90,11 +87,11 @@ fn carry<'a>(
     genesis: Header,
 ) -> Result<usize, Fault<'a>>
     requires { IsGenesis genesis }
-    ensures { IfErr result (λ fault. fault ≢ Fault.Output) }
+    ensures { IfErr result (λ fault. fault ≢ ProgramFault.Output) }
 {
     match migrate(alloc, old, disk, genesis) {
         Ok((log, _)) => Ok(log.count()),
         Err((LogError::Memory, _, _)) => Err(Fault::Memory),
-        Err((refusal, _, _)) => Err(Fault::Store(refusal.number())),
+        Err((refusal, _, _)) => Err(Fault::Own(ToolFault::Store(refusal.number()))),
     }
 }

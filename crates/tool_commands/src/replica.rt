@@ -3,13 +3,12 @@
 ghost use Rattle.std.specs.Prelude.{◌≡◌, ◌↔◌, ℕ, IfOk};
 ghost use Rattle.key_files.specs.declared.files.KeyFile.{KeyFile as KeyFileValue};
 ghost use Rattle.tool_commands.specs.Stays.{IsDonePrinted, IsRunPrinted, IsStopPrinted};
-ghost use Rattle.tool_commands.specs.Writes.{CountsWrites};
+ghost use Rattle.program_parts.specs.Writes.{CountsWrites};
 
-use crate::fault::{Fault, Place};
-use crate::files::read_committee;
+use crate::fault::{Fault, FolderFile, ToolFault, fault_of_service};
 use crate::host::Host;
-use blocks::CommitteeView;
 use log_server::serve_requests;
+use program_parts::{ProgramFault, parse_committee, read_committee};
 use replica_command::{Ending, ReplicaEnd, ReplicaFault, ReplicaFile, run_replica};
 use std::fs::{File, Files};
 use std::net::{Net, TcpListener, TcpStream};
@@ -50,7 +49,7 @@ pub fn replica<
             let log = &mut end.end.closed.parts.log;
             match serve_requests(host.rt, service.address, service.requests, log, out) {
                 Ok(()) => Ok(Ending::Done),
-                Err(fault) => Err(Fault::of_service(fault)),
+                Err(fault) => Err(fault_of_service(fault)),
             }
         }
         (ending, _) => Ok(ending),
@@ -72,10 +71,7 @@ fn run<'a, F: Files<File = File>, T: Threads + Wait + Sync, R: Feed, W: Sink>(
     ensures counted { CountsWrites result (W.failed out.old) (W.failed out.new) }
 {
     let bytes = read_committee(host.files, host.alloc, committee)?;
-    let committee = match CommitteeView::parse(&bytes) {
-        Ok(committee) => committee,
-        Err(refusal) => return Err(Fault::Committee(refusal)),
-    };
+    let committee = parse_committee(&bytes)?;
     match run_replica(
         host.files,
         host.rt,
@@ -94,21 +90,27 @@ fn run<'a, F: Files<File = File>, T: Threads + Wait + Sync, R: Feed, W: Sink>(
 
 // The fault of a replica on the folder at `path`.
 fn in_folder<'a>(folder: &'a str, fault: ReplicaFault) -> Fault<'a>
-    ensures memory { fault ≡ ReplicaFault.Memory → result ≡ Fault.Memory }
+    ensures memory { fault ≡ ReplicaFault.Memory → result ≡ ProgramFault.Memory }
     ensures lock { fault ≡ ReplicaFault.File ReplicaFile.Lock
-        → result ≡ Fault.File (Place.Lock folder.entry) }
+        → result ≡ ProgramFault.Own (ToolFault.FileIn folder.entry FolderFile.Lock) }
     ensures file { (file : KeyFileValue) → fault ≡ ReplicaFault.File (ReplicaFile.Key file)
-        → result ≡ Fault.File (Place.Key folder.entry file) }
-    ensures store { (number : ℕ) → fault ≡ ReplicaFault.Store number → result ≡ Fault.Store number }
-    ensures receipts { fault ≡ ReplicaFault.Receipts → result ≡ Fault.Receipts }
-    ensures output { fault ≡ ReplicaFault.Output ↔ result ≡ Fault.Output }
+        → result ≡ ProgramFault.Own (ToolFault.FileIn folder.entry (FolderFile.Key file)) }
+    ensures store { (number : ℕ) → fault ≡ ReplicaFault.Store number
+        → result ≡ ProgramFault.Own (ToolFault.Store number) }
+    ensures receipts { fault ≡ ReplicaFault.Receipts
+        → result ≡ ProgramFault.Own ToolFault.Receipts }
+    ensures output { fault ≡ ReplicaFault.Output ↔ result ≡ ProgramFault.Output }
 {
     match fault {
         ReplicaFault::Memory => Fault::Memory,
-        ReplicaFault::File(ReplicaFile::Lock) => Fault::File(Place::Lock { folder }),
-        ReplicaFault::File(ReplicaFile::Key(file)) => Fault::File(Place::Key { folder, file }),
-        ReplicaFault::Store(number) => Fault::Store(number),
-        ReplicaFault::Receipts => Fault::Receipts,
+        ReplicaFault::File(ReplicaFile::Lock) => {
+            Fault::Own(ToolFault::FileIn(folder, FolderFile::Lock))
+        }
+        ReplicaFault::File(ReplicaFile::Key(file)) => {
+            Fault::Own(ToolFault::FileIn(folder, FolderFile::Key(file)))
+        }
+        ReplicaFault::Store(number) => Fault::Own(ToolFault::Store(number)),
+        ReplicaFault::Receipts => Fault::Own(ToolFault::Receipts),
         ReplicaFault::Output => Fault::Output,
     }
 }

@@ -4,70 +4,38 @@ ghost use Rattle.std.specs.Prelude.{◌≡◌, ◌≢◌, IfErr, IfOk, length};
 ghost use Rattle.std.specs.List.{All};
 ghost use Rattle.tool_commands.specs.SourceTries.{IsTriedAs};
 
-use crate::fault::Fault;
+use crate::fault::{Fault, ToolFault};
 use crate::host::Host;
-use log_transfer::{FileConnector, SourceConnector, TcpConnector, Watch, Watched};
+use log_transfer::{
+    Connector, FileConnector, MOST_TRIES, SourceConnector, TcpConnector, Watch, Watched,
+};
 use parallel_verify::Source;
+use program_parts::{Origin, ProgramFault, SourceFault, SourceWord};
 use std::alloc::{AllocError, Global};
 use std::fs::{File, Files};
 use std::net::{Net, TcpStream};
 use std::time::Clock;
-use tool_words::{Tries, number};
-
-/// Where a replica's log comes from.
-#[derive(Clone, Copy, Debug)]
-pub(crate) struct SourceWord<'a> {
-    replica: u16,
-    origin: Origin<'a>,
-}
-
-#[derive(Clone, Copy, Debug)]
-enum Origin<'a> {
-    /// The path of a file.
-    File(&'a str),
-    /// The address of a server.
-    Tcp(&'a str),
-}
-
-impl<'a> SourceWord<'a> {
-    // What `R=file:PATH` or `R=tcp:ADDRESS` says.
-    fn of(word: &'a str) -> Option<SourceWord<'a>> {
-        let (replica, origin) = word.split_once('=')?;
-        Some(SourceWord {
-            replica: number(replica)?,
-            origin: Origin::of(origin)?,
-        })
-    }
-}
-
-impl<'a> Origin<'a> {
-    fn of(text: &'a str) -> Option<Origin<'a>> {
-        let (kind, place) = text.split_once(':')?;
-        match kind {
-            _ if place.is_empty() => None,
-            "file" => Some(Origin::File(place)),
-            "tcp" => Some(Origin::Tcp(place)),
-            _ => None,
-        }
-    }
-}
+use tool_words::Tries;
 
 /// The sources that the words name. The first word that is not as written is the fault, counted from 0.
 pub(crate) fn read_source_words<'a>(
     alloc: Global,
     words: &[&'a str],
 ) -> Result<Vec<SourceWord<'a>>, Fault<'a>>
-    ensures { IfErr result (λ fault. fault ≢ Fault.Output) }
+    ensures { IfErr result (λ fault. fault ≢ ProgramFault.Output) }
 {
     let mut sources = Vec::with_capacity(alloc, words.len())?;
     for (i, word) in words.iter().enumerate() {
         match SourceWord::of(word) {
             Some(source) => sources.push(source)?,
-            None => return Err(Fault::Source(i)),
+            None => return Err(Fault::Own(ToolFault::Sources(SourceFault::Word(i)))),
         }
     }
     Ok(sources)
 }
+
+// A server may have as many tries as words can ask for.
+const _: () = prove!(MOST_TRIES == 3);
 
 // A file has one try: it can't go on in its middle.
 fn tries_of<T: Net<Stream = TcpStream> + Clock, F: Files<File = File>>(
@@ -76,10 +44,7 @@ fn tries_of<T: Net<Stream = TcpStream> + Clock, F: Files<File = File>>(
 ) -> u8
     ensures { IsTriedAs tries.count connector.now result }
 {
-    match connector {
-        SourceConnector::Tcp(_) => tries.count(),
-        SourceConnector::File(_) => 1,
-    }
+    tries.count().min(connector.most_tries())
 }
 
 // The source of a word, the one of this number.

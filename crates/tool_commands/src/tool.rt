@@ -1,9 +1,10 @@
 //! The tool over handed-in words and streams, so that tests run it whole.
 
 ghost use Rattle.std.specs.Prelude.{◌≡◌, ◌≢◌, ◌⊎◌, ◌↔◌, IfOk};
+ghost use Rattle.program_parts.specs.Writes.{CountsWrites};
 ghost use Rattle.tool_commands.specs.Audits.{AreCulpritsPrinted};
 ghost use Rattle.tool_commands.specs.Stays.{IsStopPrinted};
-ghost use Rattle.tool_commands.specs.Writes.{CountsWrites, TellsFault};
+ghost use Rattle.tool_commands.specs.Writes.{TellsFault};
 
 use crate::audit::audit_sources;
 use crate::committee::{committee, weighted};
@@ -12,6 +13,7 @@ use crate::host::Host;
 use crate::keygen::keygen;
 use crate::migrate::migrate_log;
 use crate::replica::replica;
+use program_parts::FAULT;
 use replica_command::Ending;
 use std::fs::{File, Files};
 use std::net::{Net, TcpListener, TcpStream};
@@ -23,9 +25,6 @@ use tool_words::{Command, WordsFault, read_words};
 
 /// The work was done.
 pub const DONE: u8 = 0;
-
-/// The work was not done, or not all of it.
-pub const FAULT: u8 = 2;
 
 /// An audit was done, and there are culprits.
 pub const CULPRITS: u8 = 3;

@@ -7,4 +7,4 @@ mod grammar;
 mod reading;
 
 pub use command::{Command, Service, Tries, WeightedReplica, Workers};
-pub use reading::{WordsFault, number, read_words};
+pub use reading::{WordsFault, read_words};

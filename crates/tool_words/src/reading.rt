@@ -4,6 +4,7 @@ use crate::command::{Command, Service, Tries, WeightedReplica, Workers};
 use crate::grammar::parsed;
 use clap::ArgMatches;
 use clap::error::ErrorKind;
+use program_parts::number;
 use std::alloc::{AllocError, AllocFailed, Global};
 use wire::{KeyNumber, MOST_KEYS};
 
@@ -220,14 +221,6 @@ fn migrate<'a>(given: &ArgMatches<'a>) -> Result<Command<'a>, WordsFault> {
 
 fn has_empty(words: &[&str]) -> bool {
     words.iter().any(|word| word.is_empty())
-}
-
-/// A number below 65,536 in its one spelling: digits alone, and no leading zero.
-pub fn number(word: &str) -> Option<u16> {
-    if word.starts_with('+') || (word.starts_with('0') && word != "0") {
-        return None;
-    }
-    word.parse::<u16>().ok()
 }
 
 // 1 to 2^32 - 1, in its one spelling.

@@ -1,0 +1,3 @@
+pub use Rattle.printed_lines.specs.Printed
+pub mod FaultLines
+pub mod Writes

@@ -1,0 +1,54 @@
+//! How a program starts.
+
+ghost use Rattle.std.specs.Prelude.{◌≡◌, ◌⊎◌, IfErr};
+
+use crate::no_fault::NoFault;
+use crate::program_fault::ProgramFault;
+use std::env;
+use std::env::Env;
+use std::fs::{File, Files};
+use std::io::{Stderr, Stdout};
+use std::process::ExitCode;
+use streams::StdSink;
+
+/// The exit status of a program that gave up.
+pub const FAULT: u8 = 2;
+
+/// A file that has nothing to read, and takes nothing where it is opened to be read.
+const NOTHING: &str = "/dev/null";
+
+/// Runs a program on the words of its command line, without its name, with standard output and standard error as sinks,
+/// and answers the exit status that it answers. Where the words can't be read, or are no text, it is not run, and the
+/// fault is told.
+pub fn run_main<
+    R: Files<File = File> + Env + AllocGlobal,
+    P: Fn(&[String], &mut StdSink<Stdout>, &mut StdSink<Stderr>) -> u8,
+>(rt: &R, stdout: Stdout, stderr: Stderr, program: &P) -> ExitCode
+    requires { P.IsAlwaysCallable program.now }
+{
+    // A file that is opened takes the first free number. Where a standard stream is closed that is the stream's, and lines
+    // that are printed would go into the file. So these three take the numbers first, and keep them.
+    let _first = File::open(rt, NOTHING);
+    let _second = File::open(rt, NOTHING);
+    let _third = File::open(rt, NOTHING);
+    let mut out = StdSink::new(stdout);
+    let mut faults = StdSink::new(stderr);
+    let status = match read_words(rt) {
+        Ok(words) => program(&words, &mut out, &mut faults),
+        Err(fault) => {
+            fault.tell(&mut faults);
+            FAULT
+        }
+    };
+    ExitCode::from(status)
+}
+
+// The words behind the program's name.
+fn read_words<R: Env + AllocGlobal>(rt: &R) -> Result<Vec<String>, ProgramFault<'static, NoFault>>
+    ensures { IfErr result (λ fault. (fault ≡ ProgramFault.Memory) ⊎ (fault ≡ ProgramFault.Usage)) }
+{
+    match env::args(rt) {
+        Ok(words) => Ok(words.skip(1).collect::<Vec<String>>(rt.alloc())?),
+        Err(error) => Err(ProgramFault::unless_memory(&error, ProgramFault::Usage)),
+    }
+}
