@@ -82,8 +82,8 @@ struct hs_finding {
  *
  * The call writes nothing but *finding and keeps nothing: so any number of threads may call it at once, each with a
  * finding of its own, also on the same texts, as long as no thread writes to these. It takes no memory but the stack,
- * of which 96 KB are enough, waits for nothing, and does no input or output. It costs two signature checks, some 9,000
- * SHA-256 compressions, at the most.
+ * of which 96 KB are enough, waits for nothing, and does no input or output. It costs two signature checks at the most,
+ * mostly some 9,000 SHA-256 compressions together, and never more than some 17,000.
  */
 #ifdef __GNUC__
 __attribute__((nonnull(5)))
