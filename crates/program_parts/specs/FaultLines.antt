@@ -16,9 +16,9 @@ fault_line own_line (Committee refusal) = committee_line refusal
 fault_line own_line Output = codes "fault output\n"
 fault_line own_line (Own fault) = own_line fault
 
--- there is no such fault
+-- of a program that has none of its own: nobody makes this fault, and its line is one that stands above
 abbrev pub no_fault_line : NoFault → List ℕ
-no_fault_line fault = []
+no_fault_line fault = codes "fault usage\n"
 
 -- "fault source I", or "fault collision"
 abbrev pub source_fault_line : SourceFault → List ℕ

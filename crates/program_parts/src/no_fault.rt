@@ -3,16 +3,17 @@
 ghost use Rattle.program_parts.specs.FaultLines.{no_fault_line};
 
 use crate::program_fault::FaultLine;
-use streams::{Fault, Sink};
+use streams::{Fault, Sink, write_all};
 
-/// No fault: there is no value of it.
+/// No fault of its own: nobody makes one. Its line would be that of `Usage`, so that the lines of such a program are just
+/// those that every program may print.
 #[derive(Clone, Copy, Debug)]
-pub enum NoFault {}
+pub struct NoFault(());
 
 impl FaultLine for NoFault {
     ghost line = { no_fault_line };
 
-    fn write_line<W: Sink>(&self, _out: &mut W) -> Result<(), Fault> {
-        match *self {}
+    fn write_line<W: Sink>(&self, out: &mut W) -> Result<(), Fault> {
+        write_all(out, b"fault usage\n")
     }
 }
