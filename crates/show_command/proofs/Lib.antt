@@ -1,2 +1,7 @@
 pub mod Longer
 pub mod EntryLines
+pub mod Tests
+pub mod WordLists
+pub mod Showings
+pub mod Causes
+pub mod Endings

@@ -7,6 +7,8 @@ mod crash_runs;
 #[cfg(test)]
 mod limits;
 #[cfg(test)]
+mod live_calls;
+#[cfg(test)]
 mod overlaps;
 #[cfg(test)]
 mod refusals;

@@ -28,8 +28,8 @@ use std::time::Clock;
 use streams::Sink;
 use tool_words::Tries;
 
-/// Audits the logs of the sources that the words name, under the committee of the file, as `audit_run` does, which prints
-/// the report. Then the verdict on each culprit is written to a file of `folder`, new or in place of what was there. Where
+/// Audits the logs of the sources that the words name, under the committee of the file, as `audit_run_of` does, which
+/// prints the report. Then the verdict on each culprit is written to a file of `folder`, new or in place of what was there. Where
 /// `folder` is no folder, no source is read and nothing printed. Answers whether there are culprits.
 pub fn audit_sources<
     'a,

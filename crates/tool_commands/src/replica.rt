@@ -47,7 +47,7 @@ pub fn replica<
     match (end.end.ending, service) {
         (Ending::Done, Some(service)) => {
             let log = &mut end.end.closed.parts.log;
-            match serve_requests(host.rt, service.address, service.requests, log, out) {
+            match serve_requests(host.rt, service.address, service.requests.count(), log, out) {
                 Ok(()) => Ok(Ending::Done),
                 Err(fault) => Err(fault_of_service(fault)),
             }

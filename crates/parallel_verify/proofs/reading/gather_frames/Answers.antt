@@ -22,6 +22,7 @@ loop-pull-init g c =
       held = c.requires.first;
       few = omega arith;
       so_far = gathering_start (g.C.Connector.gives pull.connector) (g.C.Connector.left pull.connector) pull.place c.args.gathered.now c.args.replica;
+      reached = g.met.C.Connector.stays pull.connector;
       caused = first_caused (g.C.Connector.failed pull.connector) pull.place tries;
     }
 
@@ -73,6 +74,7 @@ loop-pull-preserved g c =
         | then-branch w ↦ λ fs have. subst (HaveEntries (fs ++ out ∷ [])) (sym w.entries-is) (have_one_more fs out entries have (subst SpellsEntry deref (entry.0 w.if-branch.true)))
         | else-branch w ↦ λ fs have. subst (HaveEntries (fs ++ out ∷ [])) (sym w.entries-is) (have_no_more fs out entries have (λ is. false≢true (sym w.if-branch.false ∙ entry.1 (subst SpellsEntry (sym deref) is))))
       ]);
+      reached = c.next.ensures.state start.connector inv.reached;
       caused = c.next.ensures.cause (g.C.Connector.failed start.connector) inv.caused;
     }
 
