@@ -1,2 +1,6 @@
 pub use Rattle.printed_lines.specs.Printed
 pub mod FaultLines
+pub mod Words
+pub mod Pictures
+pub mod Outputs
+pub mod Faults

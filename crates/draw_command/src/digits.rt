@@ -1,5 +1,8 @@
 //! Ids as hex digits.
 
+ghost use Rattle.std.specs.Prelude.{◌≡◌, IfOk, string_bytes};
+ghost use Rattle.draw_command.specs.Pictures.{short_id};
+
 use blocks::Id;
 use std::alloc::{AllocError, Global};
 
@@ -9,6 +12,8 @@ pub(crate) fn full(alloc: Global, id: &Id) -> Result<String, AllocError> {
 }
 
 /// The first 8 digits.
-pub(crate) fn short(alloc: Global, id: &Id) -> Result<String, AllocError> {
+pub(crate) fn short(alloc: Global, id: &Id) -> Result<String, AllocError>
+    ensures { IfOk result (λ digits. string_bytes digits ≡ short_id id.now) }
+{
     hex::encode(alloc, &id[..4])
 }

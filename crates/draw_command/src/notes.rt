@@ -1,5 +1,8 @@
 //! What stands above and below the blocks: what was found, the legend, and the sources.
 
+ghost use Rattle.std.specs.Prelude.{◌≡◌, ◌++◌, OnOk, string_bytes};
+ghost use Rattle.draw_command.specs.Pictures.{counts_line, finding_line, findings_in, findings_text, weight_text};
+
 use crate::digits::short;
 use crate::layout::{Layout, MARGIN, SMALL_LINE};
 use crate::scene::Scene;
@@ -8,7 +11,10 @@ use std::alloc::{AllocError, Global};
 use std::fmt::Write;
 
 // The first line: whether there is a conflict.
-fn put_finding(text: &mut String, alloc: Global, scene: &Scene) -> Result<(), AllocError> {
+fn put_finding(text: &mut String, alloc: Global, scene: &Scene) -> Result<(), AllocError>
+    ensures { OnOk result (string_bytes text.new
+        ≡ string_bytes text.old ++ finding_line scene.now.conflict) }
+{
     let Some(conflict) = scene.conflict else {
         return writeln!(
             text,
@@ -25,7 +31,10 @@ fn put_finding(text: &mut String, alloc: Global, scene: &Scene) -> Result<(), Al
 }
 
 // The second line: the committee and the counts.
-fn put_counts(text: &mut String, alloc: Global, scene: &Scene) -> Result<(), AllocError> {
+fn put_counts(text: &mut String, alloc: Global, scene: &Scene) -> Result<(), AllocError>
+    ensures { OnOk result (string_bytes text.new
+        ≡ string_bytes text.old ++ counts_line (findings_in scene.now)) }
+{
     let replicas = scene.replicas;
     let chain = short(alloc, &scene.chain)?;
     let commits = scene.commits.len();
@@ -35,17 +44,35 @@ fn put_counts(text: &mut String, alloc: Global, scene: &Scene) -> Result<(), All
         "<text class=\"small\" x=\"{MARGIN}\" y=\"46\">\
         replicas {replicas}, chain {chain}, commits {commits}, culprits {culprits}"
     )?;
-    if let Some(total) = scene.total {
-        let weight = scene.weight;
-        write!(text, " of weight {weight} of {total}")?;
-    }
+    put_weight(text, scene.weight, scene.total)?;
     writeln!(text, "</text>")
 }
 
-/// The lines above the columns.
-pub(crate) fn put_head(text: &mut String, alloc: Global, scene: &Scene) -> Result<(), AllocError> {
+fn put_weight(text: &mut String, weight: u64, total: Option<u64>) -> Result<(), AllocError>
+    ensures { OnOk result (string_bytes text.new
+        ≡ string_bytes text.old ++ weight_text weight total) }
+{
+    let Some(total) = total else {
+        return Ok(());
+    };
+    write!(text, " of weight {weight} of {total}")
+}
+
+/// What was found, in two lines.
+pub(crate) fn put_findings(
+    text: &mut String,
+    alloc: Global,
+    scene: &Scene,
+) -> Result<(), AllocError>
+    ensures { OnOk result (string_bytes text.new
+        ≡ string_bytes text.old ++ findings_text (findings_in scene.now)) }
+{
     put_finding(text, alloc, scene)?;
-    put_counts(text, alloc, scene)?;
+    put_counts(text, alloc, scene)
+}
+
+/// The line that says how many blocks are not drawn, if any.
+pub(crate) fn put_left_out(text: &mut String, scene: &Scene) -> Result<(), AllocError> {
     if 0 < scene.left_out {
         let drawn = scene.blocks.len();
         let left_out = scene.left_out;

@@ -1,5 +1,8 @@
 //! Where everything stands: a column for each view, a row for each branch.
 
+ghost use Rattle.std.specs.Prelude.{◌≡◌, IfOk, length};
+ghost use Rattle.draw_command.specs.Pictures.{findings_in, findings_of};
+
 use crate::choosing::choose;
 use crate::rows::Rows;
 use crate::scene::{Block, Column, Culprit, Link, Mark, Place, Scene, Standing};
@@ -39,7 +42,9 @@ fn mark_of(vote: &BoundVote) -> Mark {
     }
 }
 
-fn culprits_of(alloc: Global, verdicts: &[Verdict]) -> Result<Vec<Culprit>, AllocError> {
+fn culprits_of(alloc: Global, verdicts: &[Verdict]) -> Result<Vec<Culprit>, AllocError>
+    ensures { IfOk result (λ culprits. length culprits.items ≡ length verdicts.now) }
+{
     let mut culprits = Vec::new(alloc);
     for verdict in verdicts {
         culprits.push(culprit_of(verdict))?;
@@ -189,7 +194,10 @@ pub(crate) fn scene_of(
     alloc: Global,
     evidence: &Evidence,
     report: &Report,
-) -> Result<Scene, AllocError> {
+) -> Result<Scene, AllocError>
+    ensures { IfOk result (λ scene.
+        findings_in scene ≡ findings_of evidence.now.committee report.now) }
+{
     let certified = certified_chains(alloc, evidence)?;
     let mut culprits = culprits_of(alloc, report.verdicts())?;
     let chosen = choose(alloc, evidence, report.conflict(), &culprits)?;

@@ -1,0 +1,4 @@
+pub mod Zips
+pub mod SourceWords
+pub mod Causes
+pub mod Endings
