@@ -39,19 +39,19 @@ pub linked_there : (hs : List Header) (g b : Header) → IsLinked hs g b → Con
 linked_there hs g b l = l.1.1 b (Contains-first b l.0)
 
 -- a chain that goes on at the parent
-chain_up : (hs : List Header) (g at p : Header) (ps : List Header) → Contains hs at → IsParent at p → IsChainIn hs g p ps → IsChainIn hs g at (p ∷ ps)
+pub chain_up : (hs : List Header) (g at p : Header) (ps : List Header) → Contains hs at → IsParent at p → IsChainIn hs g p ps → IsChainIn hs g at (p ∷ ps)
 chain_up hs g at p ps c n chain = ((n.0, n.1, chain.0), all_in_cons hs at (p ∷ ps) c chain.1)
 
 pub linked_up : (hs : List Header) (g at p : Header) → Contains hs at → IsParent at p → IsLinked hs g p → IsLinked hs g at
 linked_up hs g at p c n l = (p ∷ l.0, chain_up hs g at p l.0 c n l.1)
 
 -- the parent in a chain
-record HasParent (hs : List Header) (g at p : Header) (ps : List Header) : Type 0 where
-  there : Contains hs p
-  parent : IsParent at p
-  chain : IsChainIn hs g p ps
+pub record HasParent (hs : List Header) (g at p : Header) (ps : List Header) : Type 0 where
+  pub there : Contains hs p
+  pub parent : IsParent at p
+  pub chain : IsChainIn hs g p ps
 
-chain_down : (hs : List Header) (g at p : Header) (ps : List Header) → IsChainIn hs g at (p ∷ ps) → HasParent hs g at p ps
+pub chain_down : (hs : List Header) (g at p : Header) (ps : List Header) → IsChainIn hs g at (p ∷ ps) → HasParent hs g at p ps
 chain_down hs g at p ps c =
     let tail = all_in_tail hs at (p ∷ ps) c.1 in
     record { there = tail p (Contains-first p ps); parent = (c.0.0, c.0.1); chain = (c.0.2, tail) }

@@ -3,7 +3,7 @@
 -- ancestors are those of `blocks`.
 use Rattle.std.specs.Prelude.{◌≡◌, ℕ, List, ◌∷◌}
 use Rattle.std.specs.List.{AllPairs, Contains}
-use Rattle.blocks.specs.Headers.{Header, IsGenesis, header_id, HasLowerId}
+use Rattle.blocks.specs.Headers.{Header, header_id, HasLowerId}
 use Rattle.blocks.specs.Chains.{IsLinked, IsAncestor}
 
 -- the genesis, and other headers
@@ -21,7 +21,6 @@ IsAloneAmong genesis headers = (h : Header) → Contains headers h → header_id
 
 -- ids rise, and no other header has the id of genesis
 pub record IsKnown (known : Known) : Type 0 where
-  pub genesis : IsGenesis known.genesis
   pub rising : AllPairs HasLowerId known.headers
   pub alone : IsAloneAmong known.genesis known.headers
 

@@ -2,7 +2,7 @@
 
 ghost use Rattle.std.specs.Prelude.{◌≡◌, ◌≢◌, ◌<◌, ◌≤◌, ◌+◌, ◌↔◌, ◌∷◌, IsTrue, IsSome, IfOk, IfSome, MatchOption, length};
 ghost use Rattle.std.specs.List.{All, AllPairs, Contains};
-ghost use Rattle.blocks.specs.Headers.{Header as HeaderValue, IsGenesis, header_id};
+ghost use Rattle.blocks.specs.Headers.{Header as HeaderValue, header_id};
 ghost use Rattle.blocks.specs.Chains.{IsLinked, IsAncestor};
 ghost use Rattle.blocks.specs.Headers.{HasLowerId};
 ghost use Rattle.ancestry.specs.Known.{all_of, IsAloneAmong, IsKnown, IsLinkedId, IsAncestorId};
@@ -64,7 +64,6 @@ impl Ancestry {
         genesis: NamedHeader,
         headers: &[NamedHeader],
     ) -> Result<Ancestry, AllocError>
-        requires genesis { IsGenesis genesis }
         requires rising { AllPairs HasLowerId headers.now }
         requires alone { IsAloneAmong genesis headers.now }
         ensures ok { IfOk result (λ a. a ≡ record { genesis = genesis; headers = headers.now }) }

@@ -235,4 +235,4 @@ fitted_is_stored hs genesis run list view g r f =
     let rest = legal_rest (durable_of (first_state genesis)) (stored_of run) f.more l in
     let e = attached_have_events hs genesis view (replay_from (durable_of (first_state genesis)) (stored_of run)) f.more rest f.attached in
     let k = run_goes_on genesis run e.0 f.more view g r l e.1 in
-    (e.0, k.0, k.1 ∙ sym f.begins)
+    (e.0, e.1, k.0, k.1 ∙ sym f.begins)

@@ -187,10 +187,12 @@ AttachedEntriesHaveEvents =
     → IsLegalFrom d more → AllByRecursion (IsAttached hs genesis) more
     → (events : List Event) × AreEventsOf genesis view more events
 
--- a list that fits what a run stored is the stored list of a run that goes on from it, by a restart and last
--- any timeout
+-- a list that fits what a run stored is the stored list of a run that goes on from it, by a restart, the events of what
+-- was added, and last any timeout
 abbrev pub FittedListIsStored : Type 0
 FittedListIsStored =
     (hs : List Header) (genesis : Header) (run : List Event) (list : List Stored) (view : ℕ)
-    → IsGenesis genesis → IsRun genesis run → FitsOpening hs genesis (stored_of run) list
-    → (events : List Event) × IsRun genesis (run ++ Restart ∷ events) × (stored_of (run ++ Restart ∷ events) ≡ list)
+    → IsGenesis genesis → IsRun genesis run
+    → (fits : FitsOpening hs genesis (stored_of run) list)
+    → (events : List Event) × AreEventsOf genesis view fits.more events
+    × IsRun genesis (run ++ Restart ∷ events) × (stored_of (run ++ Restart ∷ events) ≡ list)

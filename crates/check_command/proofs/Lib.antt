@@ -1,1 +1,4 @@
 pub mod Splitting
+pub mod Spelling
+pub mod Causes
+pub mod Judging

@@ -69,3 +69,23 @@ third_line text a rest b more first second is none is_rest none_b some lines =
           absurd (omega arith)
       | inr e ↦ lines.second_ends (subst (λ (t : List ℕ). Contains t 10) (sym is_rest ∙ e.0) (ends b more))
     ]
+
+-- a text has one pair of lines
+pub one_pair : (text a b c d : List ℕ) → AreTwoLines text a b → AreTwoLines text c d → (a ≡ c) × (b ≡ d)
+one_pair text a b c d one other =
+    elim one.spelled [
+      | inl e ↦ elim other.spelled [
+        | inl f ↦
+            let cut = one_cut a (b ++ 10 ∷ []) c (d ++ 10 ∷ []) one.first_ends other.first_ends (sym e ∙ f) in
+            (cut.0, (one_cut b [] d [] one.second_ends other.second_ends cut.1).0)
+        | inr f ↦
+            let cut = one_cut a (b ++ 10 ∷ []) c d one.first_ends other.first_ends (sym e ∙ f.0) in
+            absurd (other.second_ends (subst (λ (t : List ℕ). Contains t 10) cut.1 (ends b [])))
+      ]
+      | inr e ↦ elim other.spelled [
+        | inl f ↦
+            let cut = one_cut a b c (d ++ 10 ∷ []) one.first_ends other.first_ends (sym e.0 ∙ f) in
+            absurd (one.second_ends (subst (λ (t : List ℕ). Contains t 10) (sym cut.1) (ends d [])))
+        | inr f ↦ one_cut a b c d one.first_ends other.first_ends (sym e.0 ∙ f.0)
+      ]
+    ]

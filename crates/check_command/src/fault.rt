@@ -2,25 +2,24 @@
 
 ghost use Rattle.check_command.specs.FaultLines.{own_line};
 
-use program_parts::{FaultLine, ProgramFault};
-use streams::{Sink, write_all};
+use program_parts::FaultLine;
+use streams::{Fault, Sink, write_all};
 
-/// Why there is no judgement, or not the whole line of it. Each has exit status 2.
-pub type Fault<'a> = ProgramFault<'a, CheckFault>;
-
-/// What this program alone gives up for.
+/// What this program alone gives up for. Both have one line.
 #[derive(Clone, Copy, Debug, PartialEq, Eq)]
 pub enum CheckFault {
     /// Standard input is not two lines of hex digits of whole bytes within its limit.
     Hex,
+    /// Standard input can't be read.
+    Unreadable,
 }
 
 impl FaultLine for CheckFault {
     ghost line = { own_line };
 
-    fn write_line<W: Sink>(&self, out: &mut W) -> Result<(), streams::Fault> {
+    fn write_line<W: Sink>(&self, out: &mut W) -> Result<(), Fault> {
         match self {
-            CheckFault::Hex => write_all(out, b"fault hex\n"),
+            CheckFault::Hex | CheckFault::Unreadable => write_all(out, b"fault hex\n"),
         }
     }
 }

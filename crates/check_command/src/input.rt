@@ -1,11 +1,13 @@
 //! The two texts that the program judges, from files or from standard input.
 
-ghost use Rattle.std.specs.Prelude.{◌≡◌, ◌≢◌, ℕ, List, Ok, IfErr, IfNone, IfOk, IfSome};
+ghost use Rattle.std.specs.Prelude.{◌≡◌, ◌≤◌, ◌⊎◌, ℕ, List, Ok, IfErr, IfNone, IfOk, IfSome, length};
 ghost use Rattle.hex.specs.Hex.{decode_of};
-ghost use Rattle.check_command.specs.Judgements.{SpellsTexts};
+ghost use Rattle.program_parts.specs.Faults.{IsMemoryOr};
+ghost use Rattle.check_command.specs.Faults.{IsStdinFault};
+ghost use Rattle.check_command.specs.Judgements.{SpellsNone, SpellsTexts};
 ghost use Rattle.check_command.specs.Lines.{AreTwoLines};
 
-use crate::fault::{CheckFault, Fault};
+use crate::fault::CheckFault;
 use printed_lines::cut;
 use program_parts::{MOST_OF_A_SHORT_FILE, ProgramFault, read_at_most, read_committee, read_named};
 use std::alloc::Global;
@@ -15,6 +17,9 @@ use std::io::Read;
 /// How long standard input may be, in bytes.
 const MOST_OF_STDIN: u64 = 65_536;
 
+// As the manual page says.
+const _: () = prove!(MOST_OF_STDIN == 65_536);
+
 /// A committee and a verdict, as bytes.
 #[derive(Drop)]
 pub struct Texts {
@@ -23,14 +28,17 @@ pub struct Texts {
 }
 
 impl Texts {
-    /// The texts that stand in two files, the committee's first.
+    /// The texts that stand in two files, the committee's first, of each the first 16,384 bytes. A fault is `Memory`, or
+    /// `File` of the first that can't be read.
     pub fn from_files<'a, F: Files<File = File>>(
         rt: &F,
         alloc: Global,
         committee: &'a str,
         verdict: &'a str,
-    ) -> Result<Texts, Fault<'a>>
-        ensures { IfErr result (λ fault. fault ≢ ProgramFault.Output) }
+    ) -> Result<Texts, ProgramFault<'a, CheckFault>>
+        ensures refused { IfErr result (λ fault.
+            IsMemoryOr (ProgramFault.File committee.entry) fault
+            ⊎ IsMemoryOr (ProgramFault.File verdict.entry) fault) }
     {
         Ok(Texts {
             committee: read_committee(rt, alloc, committee)?,
@@ -38,38 +46,47 @@ impl Texts {
         })
     }
 
-    /// The texts that two lines of hex digits spell, the committee's first.
-    pub fn from_lines<'a, R: Read + Drop>(alloc: Global, stdin: R) -> Result<Texts, Fault<'a>>
+    /// The texts that two lines of hex digits spell, the committee's first, in 65,536 bytes at most. A fault is `Memory`, or
+    /// `Hex` where no two texts are spelled so, or `Unreadable`.
+    pub fn from_lines<'a, R: Read + Drop>(
+        alloc: Global,
+        stdin: R,
+    ) -> Result<Texts, ProgramFault<'a, CheckFault>>
         ensures spelled { IfOk result (λ texts. IfSome (R.remaining stdin) (λ text.
             SpellsTexts text texts.committee.items texts.verdict.items)) }
-        ensures unwritten { IfErr result (λ fault. fault ≢ ProgramFault.Output) }
+        ensures refused { IfErr result (IsStdinFault (R.remaining stdin)) }
     {
         let text = read_lines(alloc, stdin)?;
         spelled_by(alloc, &text)
     }
 }
 
-// All of standard input.
-fn read_lines<'a, R: Read + Drop>(alloc: Global, stdin: R) -> Result<Vec<u8>, Fault<'a>>
+// All of standard input, if it is within its limit.
+fn read_lines<'a, R: Read + Drop>(
+    alloc: Global,
+    stdin: R,
+) -> Result<Vec<u8>, ProgramFault<'a, CheckFault>>
+    ensures short { IfOk result (λ text. length text.items ≤ MOST_OF_STDIN) }
     ensures whole { IfOk result (λ text. IfSome (R.remaining stdin) (λ all. text.items ≡ all)) }
-    ensures unwritten { IfErr result (λ fault. fault ≢ ProgramFault.Output) }
+    ensures refused { IfErr result (IsStdinFault (R.remaining stdin)) }
 {
-    let not_hex = Fault::Own(CheckFault::Hex);
     match read_at_most(alloc, stdin, MOST_OF_STDIN + 1) {
         Ok(text) if text.len() as u64 <= MOST_OF_STDIN => Ok(text),
-        Ok(_) => Err(not_hex),
-        Err(why) => Err(Fault::of_input(why, not_hex)),
+        Ok(_) => Err(ProgramFault::Own(CheckFault::Hex)),
+        Err(why) => Err(ProgramFault::of_input(why, ProgramFault::Own(CheckFault::Unreadable))),
     }
 }
 
 // The texts that the lines of a text spell.
-fn spelled_by<'a>(alloc: Global, text: &[u8]) -> Result<Texts, Fault<'a>>
+fn spelled_by<'a>(alloc: Global, text: &[u8]) -> Result<Texts, ProgramFault<'a, CheckFault>>
+    requires { length text.now ≤ MOST_OF_STDIN }
     ensures spelled { IfOk result (λ texts.
         SpellsTexts text.now texts.committee.items texts.verdict.items) }
-    ensures unwritten { IfErr result (λ fault. fault ≢ ProgramFault.Output) }
+    ensures refused { IfErr result (λ fault. (fault ≡ ProgramFault.Memory)
+        ⊎ ((fault ≡ ProgramFault.Own CheckFault.Hex) × SpellsNone text.now)) }
 {
     let Some((committee, verdict)) = two_lines(text) else {
-        return Err(Fault::Own(CheckFault::Hex));
+        return Err(ProgramFault::Own(CheckFault::Hex));
     };
     Ok(Texts {
         committee: decoded(alloc, committee)?,
@@ -78,14 +95,16 @@ fn spelled_by<'a>(alloc: Global, text: &[u8]) -> Result<Texts, Fault<'a>>
 }
 
 // The bytes that hex digits spell.
-fn decoded<'a>(alloc: Global, digits: &[u8]) -> Result<Vec<u8>, Fault<'a>>
+fn decoded<'a>(alloc: Global, digits: &[u8]) -> Result<Vec<u8>, ProgramFault<'a, CheckFault>>
     ensures spelled { IfOk result (λ bytes. decode_of digits.now ≡ Ok bytes.items) }
-    ensures unwritten { IfErr result (λ fault. fault ≢ ProgramFault.Output) }
+    ensures refused { IfErr result (λ fault. (fault ≡ ProgramFault.Memory)
+        ⊎ ((fault ≡ ProgramFault.Own CheckFault.Hex)
+        × ((bytes : List ℕ) → decode_of digits.now ≡ Ok bytes → ⊥))) }
 {
     match hex::decode(alloc, digits) {
         Ok(bytes) => Ok(bytes),
-        Err(hex::FromHexError::OutOfMemory) => Err(Fault::Memory),
-        Err(_) => Err(Fault::Own(CheckFault::Hex)),
+        Err(hex::FromHexError::OutOfMemory) => Err(ProgramFault::Memory),
+        Err(_) => Err(ProgramFault::Own(CheckFault::Hex)),
     }
 }
 

@@ -1,14 +1,13 @@
 //! The judgement of a verdict, as the program prints it.
 
-ghost use Rattle.std.specs.Prelude.{◌≡◌, ◌≢◌};
-ghost use Rattle.streams.specs.Counting.{one_more};
+ghost use Rattle.std.specs.Prelude.{◌≡◌};
 ghost use Rattle.blocks.specs.Committees.{IsCommittee};
 ghost use Rattle.verdict_format.specs.Proofs.{IsProof};
 ghost use Rattle.verdict_format.specs.RuleNumbers.{rule_number};
 ghost use Rattle.verdict_checker.specs.Checks.{IsRefused};
 ghost use Rattle.verdict_checker.specs.declared.refusal.Refusal.{Refusal as RefusalValue};
 ghost use Rattle.check_command.specs.Answers.{Answers};
-ghost use Rattle.check_command.specs.Judgements.{IsJudgementOf};
+ghost use Rattle.check_command.specs.Judgements.{IsJudgement};
 ghost use Rattle.check_command.specs.Texts.{accepted_text, accepted_line, refused_line};
 
 use itoa::Buffer;
@@ -24,7 +23,7 @@ pub const ACCEPTED: u8 = 0;
 pub const REFUSED: u8 = 1;
 
 /// Judges a verdict under a committee, both as bytes, and writes one line. Answers `ACCEPTED` or
-/// `REFUSED` after the whole line. Answers `FAULT` where the committee is unreadable, and nothing is
+/// `REFUSED` after the whole line. Answers 2 where the committee is unreadable, and nothing is
 /// written then, or where a write failed behind a first part of the line. It takes no memory.
 pub fn run_check<W: Sink>(committee: &[u8], verdict: &[u8], out: &mut W) -> u8
     ensures accepts { IsCommittee committee.now → IsProof committee.now verdict.now
@@ -39,37 +38,40 @@ pub fn run_check<W: Sink>(committee: &[u8], verdict: &[u8], out: &mut W) -> u8
     let Ok(committee) = CommitteeView::parse(committee) else {
         return FAULT;
     };
-    judge_verdict(&committee, verdict, out)
-}
-
-/// The same under a committee that was read: it answers `FAULT` only where a write failed.
-pub fn judge_verdict<W: Sink>(committee: &CommitteeView, verdict: &[u8], out: &mut W) -> u8
-    ensures accepts { IsProof committee.now verdict.now
-        → Answers (W.text out.old) (W.text out.new) (W.failed out.old) (W.failed out.new)
-        (accepted_line verdict.now) 0 result }
-    ensures refuses { (IsProof committee.now verdict.now → ⊥)
-        → (r : RefusalValue) × IsRefused committee.now verdict.now r
-        × Answers (W.text out.old) (W.text out.new) (W.failed out.old) (W.failed out.new)
-        (refused_line r) 1 result }
-    ensures judged { result ≢ 2
-        → IsJudgementOf committee.now verdict.now (W.text out.old) (W.text out.new) result }
-    ensures no_failure { result ≢ 2 → W.failed out.new ≡ W.failed out.old }
-    ensures failed { result ≡ 2 → W.failed out.new ≡ one_more (W.failed out.old) }
-{
-    match check(committee, verdict) {
-        Ok(finding) => print(out, &accepted(&finding), ACCEPTED),
-        Err(refusal) => print(out, &refused(refusal), REFUSED),
-    }
+    print(out, &judge_verdict(&committee, verdict))
 }
 
 // Writes the line, and answers the status or a fault.
-fn print<W: Sink>(out: &mut W, line: &Line, status: u8) -> u8
-    ensures { Answers (W.text out.old) (W.text out.new) (W.failed out.old)
-        (W.failed out.new) line.now status result }
+fn print<W: Sink>(out: &mut W, judgement: &Judgement) -> u8
+    ensures { Answers (W.text out.old) (W.text out.new) (W.failed out.old) (W.failed out.new)
+        judgement.now.line judgement.now.status result }
 {
-    match write_all(out, line.as_bytes()) {
-        Ok(()) => status,
+    match write_all(out, judgement.line.as_bytes()) {
+        Ok(()) => judgement.status,
         Err(_) => FAULT,
+    }
+}
+
+/// What is printed and answered of a verdict.
+#[derive(Drop)]
+pub(crate) struct Judgement {
+    pub line: Line,
+    pub status: u8,
+}
+
+/// Judges a verdict under a committee that was read. It takes no memory.
+pub(crate) fn judge_verdict(committee: &CommitteeView, verdict: &[u8]) -> Judgement
+    ensures judged { IsJudgement committee.now verdict.now result.status result.line }
+{
+    match check(committee, verdict) {
+        Ok(finding) => Judgement {
+            line: accepted(&finding),
+            status: ACCEPTED,
+        },
+        Err(refusal) => Judgement {
+            line: refused(refusal),
+            status: REFUSED,
+        },
     }
 }
 

@@ -7,8 +7,7 @@ mod input;
 mod judge;
 mod program;
 
-pub use fault::{CheckFault, Fault};
+pub use fault::CheckFault;
 pub use input::Texts;
-pub use judge::{ACCEPTED, REFUSED, judge_verdict, run_check};
+pub use judge::{ACCEPTED, REFUSED, run_check};
 pub use program::run_program;
-pub use program_parts::FAULT;

@@ -37,7 +37,7 @@ pub genesis_alone : (e : Evidence) (hs : List Header) → IsEvidence e → AreIn
 genesis_alone e hs is among h there same = evidence_apart e is h (genesis_of e.committee) (among h there) is.genesis same
 
 pub known_of : (e : Evidence) (hs : List Header) → IsEvidence e → AllPairs HasLowerId hs → AreIn e hs → IsKnown (with_genesis e hs)
-known_of e hs is rising among = record { genesis = genesis_is e; rising = rising; alone = genesis_alone e hs is among }
+known_of e hs is rising among = record { rising = rising; alone = genesis_alone e hs is among }
 
 pub genesis_alone_in : (e : Evidence) (hs ds : List Header) (g : Header) → IsEvidence e → AreIn e hs → ds ≡ hs → g ≡ genesis_of e.committee → IsAloneAmong g ds
 genesis_alone_in e hs ds g is among same_hs same_g =

@@ -4,35 +4,31 @@ use Rattle.std.specs.Prelude.{IsTrue}
 use Rattle.std.specs.List.{All, AllPairs, Contains}
 use Rattle.std.proofs.lemmas.Bool.{cases_lt}
 use Rattle.std.proofs.lemmas.List.{get_or_default, get_or-take, length-drop, length-take-le, take_all}
-use Rattle.blocks.specs.Chains.{IsAncestor, IsChainIn, IsLinked, NoCollision}
-use Rattle.blocks.specs.Headers.{Header, IsGenesis, header_id}
-use Rattle.blocks.proofs.Chains.{one_chain}
-use Rattle.blocks.proofs.Members.{Contains-later}
+use Rattle.blocks.specs.Chains.{IsAncestor, IsChainIn, IsLinked}
+use Rattle.blocks.specs.Headers.{Header, header_id}
+use Rattle.blocks.proofs.Members.{Contains-first, Contains-later}
 use Rattle.ancestry.specs.Known.{Known, IsKnown, all_of, IsAncestorId, IsLinkedId}
-use Rattle.ancestry.proofs.Ids.{apart}
-use Rattle.ancestry.proofs.Walks.{ancestor_is, head_or_later, not_in_none}
+use Rattle.ancestry.proofs.Walks.{ancestor_is, chain_down, chain_up, head_or_later, not_in_none}
 use Rattle.commit_search.specs.Commits.{IsLowerBlock}
 use Rattle.commit_search.specs.Pairs.{Agree, AreFirstIn, FirstAreAbove, IsTrunk, StandInOneChain}
 use Rattle.commit_search.proofs.ConflictFacts.{none_before, found_later, rises_later}
 
 -- ---- an ancestor of an ancestor is one
 
--- what stands above b stands in each chain that goes through b
-above_in_chain : (hs : List Header) (g a b c : Header) (ps : List Header) → IsGenesis g → NoCollision hs → IsChainIn hs g c ps → Contains ps b → IsAncestor hs g a b → Contains ps a
-above_in_chain hs g a b c [] is apart_in chain there above = absurd (not_in_none b there)
-above_in_chain hs g a b c (p ∷ ps) is apart_in chain there above =
-    let rest : IsChainIn hs g p ps = (chain.0.2, λ x m. chain.1 x (Contains-later c (p ∷ ps) x m)) in
+-- what stands above b stands above each block whose chain goes through b
+above_through : (hs : List Header) (g a b c : Header) (ps : List Header) → IsChainIn hs g c ps → Contains ps b → IsAncestor hs g a b → IsAncestor hs g a c
+above_through hs g a b c [] chain there above = absurd (not_in_none b there)
+above_through hs g a b c (p ∷ ps) chain there above =
+    let d = chain_down hs g c p ps chain in
+    let on : IsAncestor hs g a p → IsAncestor hs g a c = λ up. (p ∷ up.0, chain_up hs g c p up.0 (chain.1 c (Contains-first c (p ∷ ps))) d.parent up.1, Contains-later p up.0 a up.2) in
     elim (head_or_later p ps b there) [
-      | inl here ↦
-          let same : above.0 ≡ ps = one_chain hs g b above.0 ps is apart_in above.1 (subst (λ (x : Header). IsChainIn hs g x ps) here rest) in
-          Contains-later p ps a (subst (λ (xs : List Header). Contains xs a) same above.2)
-      | inr later ↦ Contains-later p ps a (above_in_chain hs g a b p ps is apart_in rest later above)
+      | inl here ↦ on (subst (λ (x : Header). IsAncestor hs g a x) (sym here) above)
+      | inr later ↦ on (above_through hs g a b p ps d.chain later above)
     ]
 
-ancestor_of_ancestor : (known : Known) (a b c : Header) → IsKnown known → IsAncestor (all_of known) known.genesis a b → IsAncestor (all_of known) known.genesis b c
+ancestor_of_ancestor : (known : Known) (a b c : Header) → IsAncestor (all_of known) known.genesis a b → IsAncestor (all_of known) known.genesis b c
     → IsAncestor (all_of known) known.genesis a c
-ancestor_of_ancestor known a b c is above below =
-    (below.0, below.1, above_in_chain (all_of known) known.genesis a b c below.0 is.genesis (apart known is) below.1 below.2 above)
+ancestor_of_ancestor known a b c above below = above_through (all_of known) known.genesis a b c below.0 below.1 below.2 above
 
 -- what stands in a chain has one
 linked_above : (hs : List Header) (g a b : Header) (ps : List Header) → IsChainIn hs g b ps → Contains ps a → IsLinked hs g a
@@ -58,14 +54,14 @@ both_linked known x y a b named_a named_b above =
 -- ---- the ancestors of a block in one chain
 
 -- the last of the first n tells of all of them
-pub first_above : (known : Known) (bs : List Header) (n : ℕ) (a b : Header) → IsKnown known → StandInOneChain known bs → 0 < n → n ≤ length bs → a ≡ get_or bs (n - 1) a
+pub first_above : (known : Known) (bs : List Header) (n : ℕ) (a b : Header) → StandInOneChain known bs → 0 < n → n ≤ length bs → a ≡ get_or bs (n - 1) a
     → IsAncestor (all_of known) known.genesis a b → FirstAreAbove known bs n b
-first_above known bs n a b is chain some there at_a above k d below =
+first_above known bs n a b chain some there at_a above k d below =
     let len : length (take n bs) ≡ n = length-take-le n bs there in
     let placed : get_or (take n bs) k d ≡ get_or bs k d = get_or-take n bs k d (omega arith) in
     let last : a ≡ get_or bs (n - 1) d = at_a ∙ get_or_default bs (n - 1) a d (omega arith) in
     subst (λ (h : Header). IsAncestor (all_of known) known.genesis h b) (sym placed) (elim (cases_lt k (n - 1)) [
-      | inl before ↦ ancestor_of_ancestor known (get_or bs k d) a b is (subst (IsAncestor (all_of known) known.genesis (get_or bs k d)) (sym last) (chain k (n - 1) d before (omega arith))) above
+      | inl before ↦ ancestor_of_ancestor known (get_or bs k d) a b (subst (IsAncestor (all_of known) known.genesis (get_or bs k d)) (sym last) (chain k (n - 1) d before (omega arith))) above
       | inr past ↦ let at : n - 1 ≡ k = omega arith in subst (λ (h : Header). IsAncestor (all_of known) known.genesis h b) (last ∙ ap (λ (m : ℕ). get_or bs m d) at) above
     ])
 

@@ -107,7 +107,10 @@ fn audit<
     for address in addresses {
         let _ = TcpStream::connect(rt, address);
     }
-    report.map_err(|_| Fault::Audit)
+    match report {
+        Ok(report) => Ok(report),
+        Err(_) => Err(Fault::Audit),
+    }
 }
 
 fn servers<R: Net<Listener = TcpListener, Stream = TcpStream> + AllocGlobal>(

@@ -104,7 +104,9 @@ fn certificate_of(
     if !are_of(committee, votes) || !are_after_genesis(votes) {
         return Err(Fault::Votes);
     }
-    let certificate = assemble(alloc, committee, votes).map_err(|_| Fault::Votes)?;
+    let Ok(certificate) = assemble(alloc, committee, votes) else {
+        return Err(Fault::Votes);
+    };
     Ok(certificate.write(alloc)?)
 }
 

@@ -78,8 +78,13 @@ fn checked<'a>(
 ) -> Result<CheckedBlock<'a>, Fault>
     ensures { IfOk result (λ block. block.committee ≡ committee.now) }
 {
-    let certificate = Certificate::read(alloc, &proposal.certificate).map_err(|_| Fault::Block)?;
-    check_block(committee, &LmsVerifier, proposal.header, certificate).map_err(|_| Fault::Block)
+    let Ok(certificate) = Certificate::read(alloc, &proposal.certificate) else {
+        return Err(Fault::Block);
+    };
+    match check_block(committee, &LmsVerifier, proposal.header, certificate) {
+        Ok(block) => Ok(block),
+        Err(_) => Err(Fault::Block),
+    }
 }
 
 // Hands in each block that comes, and sends on what the desk answers, until the other end hangs up.
@@ -97,7 +102,9 @@ fn attend<N: DeskNaming, R: Wait + AllocGlobal>(
             break;
         };
         let block = checked(rt.alloc(), committee, &proposal)?;
-        let reply = desk.deliver(rt, session, block).map_err(|_| Fault::Block)?;
+        let Ok(reply) = desk.deliver(rt, session, block) else {
+            return Err(Fault::Block);
+        };
         line.reactions
             .send(rt, Reaction::of(&reply))
             .map_err(|_| Fault::Silence)?;
@@ -120,18 +127,16 @@ fn stay<N: DeskNaming, R: Wait + AllocGlobal>(
     requires opening { replica.parts.log.steps ≡ N.opening }
 {
     let Replica { number, parts } = replica;
-    let (desk, mut sessions) = Desk::<N, MemoryDisk>::start(
-        rt.alloc(),
-        blank,
-        committee,
-        number,
-        parts,
-        1,
-    ).map_err(|_| Fault::Desk)?;
+    let started = Desk::<N, MemoryDisk>::start(rt.alloc(), blank, committee, number, parts, 1);
+    let Ok((desk, mut sessions)) = started else {
+        return Err(Fault::Desk);
+    };
     for session in sessions.iter_mut() {
         attend(rt, committee, &desk, session, line)?;
     }
-    let closed = desk.close(rt.alloc(), sessions).map_err(|_| Fault::Desk)?;
+    let Ok(closed) = desk.close(rt.alloc(), sessions) else {
+        return Err(Fault::Desk);
+    };
     Ok(Replica {
         number,
         parts: closed.parts,

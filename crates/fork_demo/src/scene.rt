@@ -131,7 +131,9 @@ fn check_verdicts<F: Files, W: Sink>(
     out: &mut W,
 ) -> Result<(), Fault> {
     for verdict in report.verdicts() {
-        let finding = check(committee, verdict.as_bytes()).map_err(|_| Fault::Verdict)?;
+        let Ok(finding) = check(committee, verdict.as_bytes()) else {
+            return Err(Fault::Verdict);
+        };
         tell_finding(alloc, out, &finding, verdict.earlier_view())?;
         folder.write_verdict(verdict)?;
     }
@@ -247,7 +249,9 @@ fn play_under<
     out: &mut W,
 ) -> Result<(), Fault> {
     let alloc = rt.alloc();
-    let committee = CommitteeView::parse(bytes).map_err(|_| Fault::Keys)?;
+    let Ok(committee) = CommitteeView::parse(bytes) else {
+        return Err(Fault::Keys);
+    };
     folder.write_committee(bytes)?;
     tell_committee(alloc, out, &committee)?;
     let replicas = new_replicas(alloc, &committee, keys)?;

@@ -29,20 +29,28 @@ fn recovered_log(
     committee: &CommitteeView,
     disk: MemoryDisk,
 ) -> Result<VoteLog<MemoryDisk>, Fault> {
-    VoteLog::recover(alloc, disk, committee.genesis()).map_err(|_| Fault::Store)
+    match VoteLog::recover(alloc, disk, committee.genesis()) {
+        Ok(log) => Ok(log),
+        Err(_) => Err(Fault::Store),
+    }
 }
 
 // The disk of a log with no entry.
 fn new_log(alloc: Global, committee: &CommitteeView) -> Result<MemoryDisk, Fault> {
     let disk = MemoryDisk::new(alloc, Vec::new(alloc))?;
-    let log = VoteLog::create(alloc, disk, committee.genesis()).map_err(|_| Fault::Store)?;
+    let Ok(log) = VoteLog::create(alloc, disk, committee.genesis()) else {
+        return Err(Fault::Store);
+    };
     Ok(log.into_disk())
 }
 
 // A store of no index given.
 fn new_index(alloc: Global) -> Result<IndexStore<MemoryDisk>, Fault> {
     let disk = MemoryDisk::new(alloc, Vec::new(alloc))?;
-    IndexStore::create(alloc, disk, 1).map_err(|_| Fault::Store)
+    match IndexStore::create(alloc, disk, 1) {
+        Ok(index) => Ok(index),
+        Err(_) => Err(Fault::Store),
+    }
 }
 
 /// A replica that has done nothing yet, and a backup of its log at that moment.
@@ -75,7 +83,9 @@ pub(crate) fn restored(
         index,
         log: _lost,
     } = parts;
-    let index = IndexStore::recover(alloc, index.into_disk(), 1).map_err(|_| Fault::Store)?;
+    let Ok(index) = IndexStore::recover(alloc, index.into_disk(), 1) else {
+        return Err(Fault::Store);
+    };
     let log = recovered_log(alloc, committee, MemoryDisk::new(alloc, backup.log)?)?;
     let parts = Parts { trees, index, log };
     Ok(Replica { number, parts })

@@ -1,6 +1,7 @@
 //! What must hold at the end of a round.
 
 use crate::failure::{Failure, same};
+use crate::keys::MOST_KEYS;
 use crate::model::{Kept, is_marked, known_blocks, linked};
 use crate::round::{Round, Run};
 use crate::tree::BlockTree;
@@ -32,11 +33,20 @@ fn nothing_is_lost(log: &mut VoteLog<MemoryDisk>, released: &[Receipt]) -> Resul
     Ok(())
 }
 
-// Notes the key index of a vote, which has to be a new one.
-fn note_index(given: &mut [bool], vote: &SignedVote) -> Result<(), Failure> {
+// The place of a vote's key index among those of all keys, if there is such an index.
+fn place_of(vote: &SignedVote) -> Option<usize> {
     let [a, b, c, d, ..] = vote.signature;
     let index = u32::from_be_bytes([a, b, c, d]);
-    match given.get_mut(index as usize) {
+    if index >= INDICES {
+        return None;
+    }
+    let first = u32::from(vote.key).checked_mul(INDICES)?;
+    Some(first.checked_add(index)? as usize)
+}
+
+// Notes the key index of a vote, which has to be a new one.
+fn note_index(given: &mut [bool], vote: &SignedVote) -> Result<(), Failure> {
+    match place_of(vote).and_then(|place| given.get_mut(place)) {
         Some(is_given) if !*is_given => {
             *is_given = true;
             Ok(())
@@ -51,7 +61,7 @@ fn no_index_comes_twice(
     committee: &CommitteeView,
     log: &mut VoteLog<MemoryDisk>,
 ) -> Result<u64, Failure> {
-    let mut given = vec![in alloc; false; INDICES as usize]?;
+    let mut given = vec![in alloc; false; INDICES as usize * MOST_KEYS as usize]?;
     let mut votes = 0u64;
     for number in 0..log.count() {
         let Some(vote) = vote_in(log, number)? else {
@@ -239,6 +249,8 @@ pub(crate) fn check(
 ) -> Result<(), Failure> {
     nothing_is_lost(log, &round.released)?;
     let votes = no_index_comes_twice(alloc, committee, log)?;
-    run.counts.stored_votes = run.counts.stored_votes.saturating_add(votes);
+    let counts = &mut run.counts;
+    counts.stored_votes = counts.stored_votes.saturating_add(votes);
+    counts.beyond = counts.beyond.saturating_add(u64::from(round.beyond));
     nobody_honest_is_accused(alloc, committee, log, round, run)
 }

@@ -25,6 +25,10 @@ pub(crate) struct Counts {
     /// Entries and reservations that were found after a restart though their deliveries had failed.
     pub found: u64,
     pub rounds: u64,
+    /// Keys of replica 0 in all rounds.
+    pub keys: u64,
+    /// Votes that were released under a later key than that which their round began under.
+    pub beyond: u64,
     /// Votes in the logs at the ends of the rounds.
     pub stored_votes: u64,
     pub commits: u64,
@@ -54,6 +58,8 @@ impl Counts {
         failed_recoveries: 0,
         found: 0,
         rounds: 0,
+        keys: 0,
+        beyond: 0,
         stored_votes: 0,
         commits: 0,
         culprits: 0,
@@ -120,6 +126,8 @@ impl Counts {
             failed_recoveries,
             found,
             rounds,
+            keys,
+            beyond,
             stored_votes,
             commits,
             culprits,
@@ -128,6 +136,9 @@ impl Counts {
         println!(rt;
             "recoveries that failed first {failed_recoveries}, stored though the delivery failed {found}"
         )?;
-        println!(rt; "rounds {rounds}: votes {stored_votes} commits {commits} culprits {culprits}")
+        println!(rt;
+            "rounds {rounds}: keys {keys} votes {stored_votes} commits {commits} culprits {culprits}"
+        )?;
+        println!(rt; "voted under a later key than the round's first {beyond}")
     }
 }

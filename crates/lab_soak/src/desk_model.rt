@@ -14,7 +14,8 @@ const CALLS_PER_APPEND: u32 = 4;
 /// What a desk answers to a block.
 #[derive(Clone, Copy, Debug, PartialEq, Eq)]
 pub(crate) enum Outcome {
-    Voted { entry: usize, index: u32 },
+    /// A vote in this entry, under this index of the key of this number.
+    Voted { entry: usize, key: u8, index: u32 },
     Raised,
     Held,
     Refused(DeskError),
@@ -53,7 +54,9 @@ enum Unsettled {
 #[derive(Drop)]
 pub(crate) struct DeskModel {
     pub replica: Model,
-    // the index that the next vote is signed under
+    // how many keys the replica has
+    keys: u8,
+    // the index that the next vote is signed under, counted over all keys
     next: u32,
     // all indices below it are taken on the disk
     boundary: u32,
@@ -88,11 +91,20 @@ fn are_entries(tree: &BlockTree, steps: &[Stored], stored: &[Kept]) -> bool {
     steps.len() == stored.len()
 }
 
+/// The number of the key that an index is of, and the index's number among those of its key. Each key has 1,024 of them.
+pub(crate) fn place_of(index: u32) -> (u8, u32) {
+    (
+        u8::try_from(index / INDICES).unwrap_or(u8::MAX),
+        index % INDICES,
+    )
+}
+
 impl DeskModel {
-    /// A new replica, all indices of whose key below this one are taken.
-    pub fn new(alloc: Global, taken: u32) -> Result<DeskModel, AllocError> {
+    /// A new replica, all indices of whose keys below this one are taken.
+    pub fn new(alloc: Global, keys: u8, taken: u32) -> Result<DeskModel, AllocError> {
         Ok(DeskModel {
             replica: Model::new(alloc)?,
+            keys,
             next: taken,
             boundary: taken,
             fuses: Fuses::NONE,
@@ -105,9 +117,14 @@ impl DeskModel {
         self.stopped
     }
 
+    // How many indices all keys have.
+    fn indices(&self) -> u32 {
+        INDICES.saturating_mul(u32::from(self.keys))
+    }
+
     /// How many indices are left when a desk is opened.
     pub fn left(&self) -> u32 {
-        INDICES.saturating_sub(self.boundary)
+        self.indices().saturating_sub(self.boundary)
     }
 
     /// From here on the disks fail so.
@@ -130,7 +147,7 @@ impl DeskModel {
         if act != Act::Pass && self.replica.stored().len() >= MOST_ENTRIES {
             return Err(DeskError::LogFull);
         }
-        if act == Act::Vote && self.next >= INDICES {
+        if act == Act::Vote && self.next >= self.indices() {
             return Err(DeskError::KeySpent);
         }
         Ok(act)
@@ -167,9 +184,9 @@ impl DeskModel {
     fn answer(&mut self, act: Act, block: usize) -> Result<Outcome, DeskError> {
         match act {
             Act::Vote => {
-                let index = self.draw()?;
+                let (key, index) = place_of(self.draw()?);
                 let entry = self.store(act, block)?;
-                Ok(Outcome::Voted { entry, index })
+                Ok(Outcome::Voted { entry, key, index })
             }
             Act::Raise => {
                 self.store(act, block)?;

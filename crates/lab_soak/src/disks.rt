@@ -1,5 +1,7 @@
 //! The two disks of a replica: crashes, and recoveries that may fail.
 
+ghost use Rattle.key_index_store.specs.Boundary.{IsKeyCount};
+
 use crate::counts::one_more;
 use crate::desk_model::Fuses;
 use crate::failure::{Failure, same};
@@ -36,6 +38,15 @@ enum Unread {
     Damaged,
 }
 
+// How many keys replica 0 has.
+fn keys_in(committee: &CommitteeView) -> u8
+    ensures { IsKeyCount result }
+{
+    // For the proof: there is a replica 0.
+    let _count = committee.n();
+    committee.keys(0)
+}
+
 // What is kept on a disk.
 trait Store: Sized + Drop {
     // Finds it there, or hands the disk back.
@@ -69,10 +80,10 @@ impl Store for VoteLog<MemoryDisk> {
 impl Store for IndexStore<MemoryDisk> {
     fn find(
         alloc: Global,
-        _committee: &CommitteeView,
+        committee: &CommitteeView,
         disk: MemoryDisk,
     ) -> Result<IndexStore<MemoryDisk>, (Unread, MemoryDisk)> {
-        match IndexStore::recover(alloc, disk, 1) {
+        match IndexStore::recover(alloc, disk, keys_in(committee)) {
             Ok(store) => Ok(store),
             Err((IndexError::Device, disk)) => Err((Unread::Device, disk)),
             Err((_, disk)) => Err((Unread::Damaged, disk)),
@@ -233,36 +244,36 @@ pub(crate) fn left(
     Ok((trees, Disks { index, log }))
 }
 
-// The index disk of a key of whose indices so many reservations were given or skipped.
-fn taken_index(alloc: Global, reservations: u32) -> Result<MemoryDisk, Failure> {
+// The index disk of a new replica all of whose indices below this one were given.
+fn taken_index(
+    alloc: Global,
+    committee: &CommitteeView,
+    taken: u32,
+) -> Result<MemoryDisk, Failure> {
     let disk = MemoryDisk::new(alloc, Vec::new(alloc))?;
-    let Ok(mut store) = IndexStore::create(alloc, disk, 1) else {
+    let Ok(mut store) = IndexStore::create(alloc, disk, keys_in(committee)) else {
         return Err(Failure::Refused("an index store is made"));
     };
-    for _ in 0..reservations {
+    for _ in 0..taken {
         if store.next().is_err() {
             return Err(Failure::Refused("an index is given"));
         }
-        store = match IndexStore::recover(alloc, store.into_disk(), 1) {
-            Ok(store) => store,
-            Err(_) => return Err(Failure::Refused("an index store is found again")),
-        };
     }
     Ok(store.into_disk())
 }
 
-/// The disks of a new replica, of whose key so many reservations are taken.
+/// The disks of a new replica, all of whose indices below this one are taken.
 pub(crate) fn new_disks(
     alloc: Global,
     committee: &CommitteeView,
-    reservations: u32,
+    taken: u32,
 ) -> Result<Disks, Failure> {
     let disk = MemoryDisk::new(alloc, Vec::new(alloc))?;
     let Ok(log) = VoteLog::create(alloc, disk, committee.genesis()) else {
         return Err(Failure::Refused("a log is made"));
     };
     Ok(Disks {
-        index: taken_index(alloc, reservations)?,
+        index: taken_index(alloc, committee, taken)?,
         log: log.into_disk(),
     })
 }

@@ -1,6 +1,6 @@
 //! Random operations on a replica's desk against a plain model: deliveries, timeouts, calls of its disks that fail,
-//! crashes and restarts. `lab_soak SEED OPERATIONS`; with no words a short run. At the end of each key the stored votes are
-//! audited.
+//! crashes and restarts, of a replica with one to four keys. `lab_soak SEED OPERATIONS`; with no words a short run. At the end
+//! of each round the stored votes are audited.
 #![tactic(auto)]
 
 mod checks;

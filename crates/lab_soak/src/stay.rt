@@ -18,7 +18,7 @@ use std::sync::Wait;
 use std::sync::ledger::Blank;
 use vote_desk::{Answer, Desk, DeskError, DeskNaming, Parts, Receipt, Reply, Session};
 
-// The number of the receipt's key index.
+// The index under which the receipt's vote is signed, of its key.
 fn index_of(receipt: &Receipt) -> u32 {
     let [a, b, c, d, ..] = receipt.vote.signature;
     u32::from_be_bytes([a, b, c, d])
@@ -28,6 +28,7 @@ fn outcome_of(act: &Answer) -> Outcome {
     match act {
         Answer::Voted(receipt) => Outcome::Voted {
             entry: receipt.number as usize,
+            key: receipt.vote.key,
             index: index_of(receipt),
         },
         Answer::Raised => Outcome::Raised,
@@ -55,7 +56,7 @@ fn keep(round: &mut Round, reply: &Result<Reply, DeskError>) -> Result<(), Failu
     match reply {
         Ok(reply) => {
             if let Answer::Voted(receipt) = reply.act {
-                round.released.push(receipt)?;
+                round.release(receipt)?;
             }
         }
         Err(DeskError::KeySpent) => round.spent = round.spent.saturating_add(1),

@@ -7,19 +7,11 @@ use Rattle.std.specs.List.{flat_map}
 use Rattle.wire.specs.Pieces.{number_at, AreBytes}
 use Rattle.wire.specs.Payloads.{IsPayload}
 use Rattle.log_format.specs.Exports.{frame_text}
-use Rattle.log_format.specs.Readings.{Reading, unfinished, Ends}
+use Rattle.log_format.specs.Readings.{Reading, unfinished, Ends, IsBody}
 use Rattle.log_format.specs.declared.status.Status.{Status}
 use Rattle.log_format.specs.declared.status.Status.TheVariants.{Whole, Broken, TooLong}
 use Rattle.log_format.proofs.Endings.{one_ending, ends_open, goes_on}
 use Rattle.log_format.proofs.Texts.{one_frame, frame_found, AreBytes-drop}
-
--- behind `before` frames of a stream, with room for so many more, the text is these frames and a rest
-pub record IsBody (failed : Bool) (before room : ℕ) (text : List ℕ) (frames : List (List ℕ)) (status : Status) : Type 0 where
-  pub rest : List ℕ
-  pub split : text ≡ flat_map frame_text frames ++ rest
-  pub sizes : All IsPayload frames
-  pub few : length frames ≤ room
-  pub ends : Ends failed (before + length frames) (room - length frames) rest status
 
 -- the same ending, with other names for its numbers
 pub same_ends : (failed : Bool) (n m room left : ℕ) (rest : List ℕ) (status : Status) → n ≡ m → room ≡ left → Ends failed n room rest status → Ends failed m left rest status

@@ -7,12 +7,12 @@ use Rattle.std.specs.List.{flat_map}
 use Rattle.wire.specs.Pieces.{number_at}
 use Rattle.wire.specs.Payloads.{IsPayload}
 use Rattle.log_format.specs.Exports.{frame_text, end_mark}
-use Rattle.log_format.specs.Readings.{unfinished, HasEndMark, IsOpen}
+use Rattle.log_format.specs.Readings.{unfinished, HasEndMark, IsBody, IsOpen}
 use Rattle.log_format.specs.ReadingLaws.{AreFirstOf}
 use Rattle.log_format.specs.declared.status.Status.{Status}
 use Rattle.log_format.specs.declared.status.Status.TheVariants.{Whole}
 use Rattle.log_format.proofs.Endings.{ends_open}
-use Rattle.log_format.proofs.Bodies.{IsBody, body_end, body_more}
+use Rattle.log_format.proofs.Bodies.{body_end, body_more}
 use Rattle.log_format.proofs.Texts.{frame_number, length-frame_text, end_mark_named, length-end_mark, number_of_front, piece_came}
 
 -- the status of what came of these frames

@@ -11,11 +11,11 @@ use Rattle.std.proofs.lemmas.List.Concat.{flat_map-append}
 use Rattle.std.specs.List.{flat_map}
 use Rattle.wire.specs.Payloads.{IsPayload}
 use Rattle.log_format.specs.Exports.{frame_text, end_mark, asked_for}
-use Rattle.log_format.specs.Readings.{IsReading, HasFrames, unfinished, room_beside}
+use Rattle.log_format.specs.Readings.{IsBody, IsReading, HasFrames, unfinished, room_beside}
 use Rattle.log_format.specs.ReadingLaws.{AStreamHasOneReading, EveryStreamHasAReading, AnExportReadsBack, ALongExportIsTooLong, ACutExportHasTheFirstFrames, AreFirstOf}
 use Rattle.log_format.specs.declared.status.Status.{Status}
 use Rattle.log_format.specs.declared.status.Status.TheVariants.{Broken}
-use Rattle.log_format.proofs.Bodies.{IsBody, one_body, body_found, same_ends}
+use Rattle.log_format.proofs.Bodies.{one_body, body_found, same_ends}
 use Rattle.log_format.proofs.Cuts.{IsCutStatus, cut_body}
 use Rattle.log_format.proofs.Texts.{AreBytes-drop, end_mark_named, frame_has_length, piece_came}
 

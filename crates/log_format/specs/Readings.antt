@@ -101,3 +101,11 @@ pub record HasFrames (held : ℕ) (stream : List ℕ) (failed : Bool) (frames : 
 abbrev pub IsReading : ℕ → List ℕ → Bool → List (List ℕ) → Status → Type 0
 IsReading held stream failed frames status =
     IsBeforeMagic stream failed frames status ⊎ HasOtherMagic stream frames status ⊎ HasFrames held stream failed frames status
+
+-- behind so many frames of a stream, with room for so many more, the text is these frames, and a rest that gives the status
+pub record IsBody (failed : Bool) (before room : ℕ) (text : List ℕ) (frames : List (List ℕ)) (status : Status) : Type 0 where
+  pub rest : List ℕ
+  pub split : text ≡ flat_map frame_text frames ++ rest
+  pub sizes : All IsPayload frames
+  pub few : length frames ≤ room
+  pub ends : Ends failed (before + length frames) (room - length frames) rest status

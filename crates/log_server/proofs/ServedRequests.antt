@@ -1,6 +1,6 @@
 -- Requests that are answered one after the other.
-use Rattle.std.proofs.Common.{◌≡◌, ◌+◌, ◌∙◌, ℕ, Bool, false, List, [], ◌∷◌, ◌++◌, length, sym, ap, subst, refl, arith, length-append}
-use Rattle.std.specs.Prelude.{Option, Result, Ok, Err, IfOk, IfErr, IfSome, OnOk}
+use Rattle.std.proofs.Common.{◌≡◌, ◌+◌, ◌∙◌, ℕ, Bool, false, List, [], ◌∷◌, ◌++◌, length, inl, inr, sym, ap, subst, refl, arith, length-append}
+use Rattle.std.specs.Prelude.{◌≢◌, ◌⊎◌, Option, Result, Ok, Err, IfOk, IfErr, IfSome, OnOk}
 use Rattle.std.proofs.lemmas.Grind.{flat_map-append}
 use Rattle.std.proofs.lemmas.List.{append-nil}
 use Rattle.std.proofs.lemmas.List.Elements.{All-append, All-nil, All-cons}
@@ -12,27 +12,34 @@ use Rattle.streams.proofs.Writing.{wrote_nothing, wrote_both}
 use Rattle.log_server.specs.Serving.{IsRequestOf, IsServeRefusal}
 use Rattle.log_server.specs.declared.error.ServeError.{ServeError}
 use Rattle.log_server.specs.declared.error.ServeError.TheVariants.{Memory, Device, Sink, Source, BadRequest, Stopped}
-use Rattle.log_server.specs.Answers.{IsAnswer, IsServed, MayAnswer}
+use Rattle.log_server.specs.Answers.{HasPart, IsAnswer, IsServed, MayAnswer}
 use Rattle.log_server.specs.ServedLines.{served_line, served_lines}
 
 -- what `serve` ensures makes an answer
-pub is_answer : {D : Type 0} → (log : LogState D) (rest disk sink sink_after : Option (List ℕ)) (served : Result ℕ ServeError)
+pub is_answer : {D W : Type 0} → (log : LogState D) (rest disk : Option (List ℕ)) (text : W → Option (List ℕ)) (to to' : W) (served : Result ℕ ServeError)
     → IfOk served (λ n. (r : FrameRequest) × IsRequestOf rest r × (n ≡ frame_count (length log.steps) r.first r.most)
-    × IfSome disk (λ _. Wrote sink sink_after (export_of log.entries r.first r.most)))
-    → OnOk served (log.stopped ≡ false) → IfErr served (IsServeRefusal log rest) → IsAnswer log rest disk sink sink_after served
-is_answer log rest disk sink sink_after (Ok frames) ok exact refused = (exact, ok)
-is_answer log rest disk sink sink_after (Err error) ok exact refused = refused
+    × IfSome disk (λ _. Wrote (text to) (text to') (export_of log.entries r.first r.most)))
+    → OnOk served (log.stopped ≡ false) → IfErr served (IsServeRefusal log rest)
+    → IfErr served (λ e. (e ≡ Device) ⊎ (e ≡ Sink) → HasPart log rest disk (text to) (text to'))
+    → IfErr served (λ e. e ≢ Device → e ≢ Sink → to' ≡ to) → IsAnswer log rest disk (text to) (text to') served
+is_answer log rest disk text to to' (Ok frames) ok exact refused part unwritten = (exact, ok)
+is_answer log rest disk text to to' (Err Device) ok exact refused part unwritten = (refused, part (inl refl))
+is_answer log rest disk text to to' (Err Sink) ok exact refused part unwritten = (refused, part (inr refl))
+is_answer log rest disk text to to' (Err Memory) ok exact refused part unwritten = (refused, ap text (unwritten (λ e. let no : ⊥ = cc in no) (λ e. let no : ⊥ = cc in no)))
+is_answer log rest disk text to to' (Err Source) ok exact refused part unwritten = (refused, ap text (unwritten (λ e. let no : ⊥ = cc in no) (λ e. let no : ⊥ = cc in no)))
+is_answer log rest disk text to to' (Err BadRequest) ok exact refused part unwritten = (refused, ap text (unwritten (λ e. let no : ⊥ = cc in no) (λ e. let no : ⊥ = cc in no)))
+is_answer log rest disk text to to' (Err Stopped) ok exact refused part unwritten = (refused, ap text (unwritten (λ e. let no : ⊥ = cc in no) (λ e. let no : ⊥ = cc in no)))
 
 -- an answer to known bytes is one to some bytes or other
 pub may_answer : {D : Type 0} → (log : LogState D) (rest disk sink sink_after : Option (List ℕ)) (served : Result ℕ ServeError)
     → IsAnswer log rest disk sink sink_after served → MayAnswer log.stopped (length log.steps) served
 may_answer log rest disk sink sink_after (Ok frames) is = (is.0, omega (arith, is.1.2))
-may_answer log rest disk sink sink_after (Err Memory) is = is.0
-may_answer log rest disk sink sink_after (Err Device) is = is.0
-may_answer log rest disk sink sink_after (Err Sink) is = is.0
+may_answer log rest disk sink sink_after (Err Memory) is = is.0.0
+may_answer log rest disk sink sink_after (Err Device) is = is.0.0
+may_answer log rest disk sink sink_after (Err Sink) is = is.0.0
 may_answer log rest disk sink sink_after (Err Source) is = tt
 may_answer log rest disk sink sink_after (Err BadRequest) is = tt
-may_answer log rest disk sink sink_after (Err Stopped) is = is.0
+may_answer log rest disk sink sink_after (Err Stopped) is = is.0.0
 
 -- the same of a log that stayed as it was
 pub may_before : (stopped stopped_now : Bool) (entries entries_now : ℕ) (served : Result ℕ ServeError)

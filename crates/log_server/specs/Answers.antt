@@ -4,11 +4,25 @@ use Rattle.std.specs.List.{All}
 use Rattle.log_format.specs.declared.request.FrameRequest.{FrameRequest}
 use Rattle.vote_log.specs.Logs.{LogState}
 use Rattle.vote_log.specs.LogExport.{export_of, frame_count}
-use Rattle.streams.specs.Streams.{Wrote}
-use Rattle.log_server.specs.Serving.{IsRequestOf, IsServeRefusal}
+use Rattle.streams.specs.Streams.{Wrote, WrotePart}
+use Rattle.streams.specs.declared.feed.Feed.{Ghosts as FeedGhosts}
+use Rattle.streams.specs.declared.sink.Sink.{Ghosts as SinkGhosts}
+use Rattle.stable_log.specs.declared.disk.Disk.{Ghosts as DiskGhosts}
+use Rattle.log_server.specs.Serving.{BlamesOne, IsRequestOf, IsServeRefusal}
 use Rattle.log_server.specs.declared.error.ServeError.{ServeError}
 use Rattle.log_server.specs.declared.error.ServeError.TheVariants.{Memory, Device, Sink, Source, BadRequest, Stopped}
 use Rattle.log_server.specs.ServedLines.{served_lines}
+
+abbrev pub HasPart : {D : Type 0} → LogState D → (rest disk sink sink_after : Option (List ℕ)) → Type 0
+HasPart log rest disk sink sink_after =
+    (r : FrameRequest) × IsRequestOf rest r × IfSome disk (λ _. WrotePart sink sink_after (export_of log.entries r.first r.most))
+
+-- what a refusal leaves in the sink, where the disk tells its bytes: of a disk or a sink that failed, a first part of
+-- the export that was asked for; else nothing
+abbrev pub LeavesInSink : {D : Type 0} → LogState D → (rest disk sink sink_after : Option (List ℕ)) → ServeError → Type 0
+LeavesInSink log rest disk sink sink_after Device = HasPart log rest disk sink sink_after
+LeavesInSink log rest disk sink sink_after Sink = HasPart log rest disk sink sink_after
+LeavesInSink log rest disk sink sink_after _ = sink_after ≡ sink
 
 -- the answer to what a feed has left: so many frames, whose export stands in the sink where the disk tells its
 -- bytes, or why there are none
@@ -16,7 +30,12 @@ abbrev pub IsAnswer : {D : Type 0} → LogState D → (rest disk sink sink_after
 IsAnswer log rest disk sink sink_after (Ok frames) = (log.stopped ≡ false)
     × ((r : FrameRequest) × IsRequestOf rest r × (frames ≡ frame_count (length log.steps) r.first r.most)
     × IfSome disk (λ _. Wrote sink sink_after (export_of log.entries r.first r.most)))
-IsAnswer log rest disk sink sink_after (Err error) = IsServeRefusal log rest error
+IsAnswer log rest disk sink sink_after (Err error) = IsServeRefusal log rest error × LeavesInSink log rest disk sink sink_after error
+
+-- what came of a request: its answer, and which of the three is blamed where there is none
+pub record IsAnswered {D R W : Type 0} (disk : DiskGhosts D) (feed : FeedGhosts R) (sink : SinkGhosts W) (log log' : LogState D) (from from' : R) (to to' : W) (served : Result ℕ ServeError) : Type 0 where
+  pub answer : IsAnswer log (feed.rest from) (disk.bytes log.disk) (sink.text to) (sink.text to') served
+  pub blame : BlamesOne (feed.failed from) (feed.failed from') (disk.failed log.disk) (disk.failed log'.disk) (sink.failed to) (sink.failed to') served
 
 -- an answer to some bytes or other: frames of at most so many entries where the log runs, and that it is stopped
 -- only where it is

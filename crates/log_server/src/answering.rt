@@ -4,9 +4,8 @@ ghost use Rattle.std.specs.Prelude.{◌≡◌, ◌≤◌, ◌++◌, ℕ, OnOk, R
 ghost use Rattle.streams.specs.Counting.{Counts};
 ghost use Rattle.stable_log.specs.Devices.{Untouched};
 ghost use Rattle.streams.specs.Streams.{Wrote};
-ghost use Rattle.log_server.specs.Serving.{BlamesOne};
 ghost use Rattle.log_server.specs.declared.error.ServeError.{ServeError as ServeErrorValue};
-ghost use Rattle.log_server.specs.Answers.{IsAnswer};
+ghost use Rattle.log_server.specs.Answers.{IsAnswered};
 ghost use Rattle.log_server.specs.ServedLines.{served_line};
 
 use crate::{ServeError, serve};
@@ -29,10 +28,8 @@ pub fn answer<D: Disk, R: Feed, W: Sink, O: Sink>(
 ) -> Result<(), Fault>
     ensures told { OnOk result ((served : ResultValue ℕ ServeErrorValue)
         × Wrote (O.text out.old) (O.text out.new) (served_line served)
-        × IsAnswer log.old (R.rest feed.old) (D.bytes log.old.disk) (W.text sink.old)
-        (W.text sink.new) served × BlamesOne (R.failed feed.old) (R.failed feed.new)
-        (D.failed log.old.disk) (D.failed log.new.disk) (W.failed sink.old)
-        (W.failed sink.new) served) }
+        × IsAnswered D.Disk R.Feed W.Sink log.old log.new feed.old feed.new sink.old sink.new
+        served) }
     ensures same { (log.new.entries ≡ log.old.entries) × (log.new.steps ≡ log.old.steps)
         × (log.new.stopped ≡ log.old.stopped) × (log.new.genesis ≡ log.old.genesis)
         × Untouched D.Disk log.old.disk log.new.disk }

@@ -6,4 +6,5 @@ pub mod Decisions
 pub mod Takings
 pub mod Feeding
 pub mod Causes
+pub mod Bounds
 pub mod Gifts

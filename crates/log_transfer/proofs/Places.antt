@@ -6,10 +6,10 @@ use Rattle.std.specs.Bool.{MatchBool}
 use Rattle.std.proofs.lemmas.Bool.{false≢true}
 use Rattle.wire.specs.Payloads.{IsPayload}
 use Rattle.log_format.specs.Exports.{frame_text}
-use Rattle.log_format.specs.Readings.{IsReading, room_beside, unfinished}
+use Rattle.log_format.specs.Readings.{IsBody, IsReading, room_beside, unfinished}
 use Rattle.log_format.specs.declared.status.Status.{Status}
 use Rattle.log_format.specs.declared.status.Status.TheVariants.{Whole, Cut, Broken, TooLong, Failed}
-use Rattle.log_format.proofs.Bodies.{IsBody, body_end, body_found, body_more}
+use Rattle.log_format.proofs.Bodies.{body_end, body_found, body_more}
 use Rattle.log_format.proofs.ReadingProofs.{frames_of as has_frames, a_reading}
 use Rattle.log_transfer.specs.Connections.{Connection, GivesSome, behind, failing}
 use Rattle.log_transfer.specs.Streams.{EndsBehind, GaveAll}

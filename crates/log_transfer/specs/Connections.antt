@@ -1,5 +1,5 @@
 -- What connections to a source give.
-use Rattle.std.specs.Prelude.{ℕ, ◌≡◌, ◌++◌, List, [], Bool, true, false}
+use Rattle.std.specs.Prelude.{ℕ, ◌≡◌, ◌+◌, ◌++◌, List, [], Bool, true, false, Option, None, Some, Result, IfOk, OnErr}
 use Rattle.wire.specs.Pieces.{AreBytes}
 
 -- the bytes of a connection, and whether the connect, or a read behind them, fails
@@ -29,3 +29,18 @@ pub record GivesSome (may : Connection → Type 0) : Type 0 where
   pub c : Connection
   pub is : may c
   pub bytes : AreBytes c.text
+
+-- how many bytes were read: more by those that a read gave
+pub record CountsBytes {E : Type 0} (before after : ℕ) (outcome : Result ℕ E) : Type 0 where
+  pub more : IfOk outcome (λ n. after ≡ before + n)
+  pub same : OnErr outcome (after ≡ before)
+
+-- how many were read of the open connection, if there is one
+abbrev pub taken_of : {A : Type 0} → Option A → (A → ℕ) → ℕ
+taken_of None count = 0
+taken_of (Some a) count = count a
+
+-- what was written to the open connection, if there is one that tells
+abbrev pub sent_of : {A : Type 0} → Option A → (A → Option (List ℕ)) → Option (List ℕ)
+sent_of None contents = None
+sent_of (Some a) contents = contents a

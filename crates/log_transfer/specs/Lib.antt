@@ -1,5 +1,6 @@
 pub mod Connections
 pub mod Streams
+pub mod Bytes
 pub mod Places
 pub mod Counting
 pub mod Magics

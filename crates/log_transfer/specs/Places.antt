@@ -3,11 +3,12 @@ use Rattle.std.specs.Prelude.{ℕ, ◌≡◌, ◌<◌, ◌≤◌, ◌+◌, ◌*�
 use Rattle.std.specs.Bool.{MatchBool}
 use Rattle.wire.specs.declared.limits.TheConstants.{MOST_ENTRIES}
 use Rattle.streams.specs.Counting.{HasFailed}
-use Rattle.log_format.specs.Readings.{IsReading, room_beside}
+use Rattle.log_format.specs.Readings.{IsBody, IsReading, room_beside}
 use Rattle.log_format.specs.declared.status.Status.{Status}
 use Rattle.log_format.specs.declared.status.Status.TheVariants.{Whole, Cut, Broken, TooLong, Failed}
-use Rattle.log_format.proofs.Bodies.{IsBody}
+use Rattle.log_transfer.specs.Bytes.{most_of_frames}
 use Rattle.log_transfer.specs.Connections.{Connection}
+use Rattle.log_transfer.specs.declared.budget.TheConstants.{MOST_OF_A_STREAM}
 use Rattle.log_transfer.specs.declared.place.Place.{Place}
 use Rattle.log_transfer.specs.declared.place.TheConstants.{MOST_TRIES}
 
@@ -96,10 +97,13 @@ pub record IsEnd (p : Place) : Type 0 where
   pub closed : p.is_open ≡ false
   pub last : may_go_on p.last ≡ true → p.tries ≡ 0
 
--- no more frames than a source may have
-pub record IsPlace (p : Place) : Type 0 where
+-- no more frames than a source may have, and where so many bytes of the last connection were read, no more than its frames
+-- have, or at the end than a stream has
+pub record IsPlace (taken : ℕ) (p : Place) : Type 0 where
   pub few : p.held ≤ MOST_ENTRIES
   pub counted : p.count ≤ p.held
+  pub frames : p.is_open ≡ true → taken ≤ most_of_frames p.count
+  pub stream : IsEnd p → taken ≤ MOST_OF_A_STREAM
 
 -- the count of failures does not fall, up to its last value; where the last try ended as Failed, one was counted
 pub record IsCaused (before now : ℕ) (p : Place) : Type 0 where

@@ -6,11 +6,12 @@ use Rattle.std.proofs.Common.{refl, sym}
 use Rattle.std.proofs.lemmas.List.{append-nil}
 use Rattle.log_transfer.specs.Connections.{Connection, GivesFirst, failing}
 
--- the streams of the connections to come, what the open one has left, the requests that were made, failures, and the
--- fuse that is set
+-- the streams of the connections to come, what the open one has left, how many bytes were read of it, the requests that
+-- were made, failures, and the fuse that is set
 pub record Script : Type 0 where
   pub later : List Connection
   pub current : Connection
+  pub taken : ℕ
   pub requests : List (List ℕ)
   pub failures : ℕ
   pub fuse : Option (ℕ × Bool)

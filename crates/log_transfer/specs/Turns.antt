@@ -1,5 +1,5 @@
 -- What the steps of a reader give.
-use Rattle.std.specs.Prelude.{ℕ, ◌≡◌, ◌<◌, ◌+◌, List, [], ◌∷◌, take, codes, Bool, Option, Some, None}
+use Rattle.std.specs.Prelude.{ℕ, ◌≡◌, ◌<◌, ◌+◌, List, [], ◌∷◌, take, codes, Bool, true, Option, Some, None}
 use Rattle.std.specs.Bool.{MatchBool}
 use Rattle.wire.specs.Payloads.{IsPayload}
 use Rattle.log_format.specs.declared.status.Status.{Status}
@@ -15,9 +15,9 @@ use Rattle.log_transfer.specs.declared.steps.Turn.TheVariants.{Frame, On, Done}
 abbrev pub IsEntered : (old new : Connection → Type 0) → Bool → ℕ → Status → Type 0
 IsEntered old new shown count last = MatchBool shown ((count ≡ 0) × GaveAll old new (codes "HSL1")) (EndsAtMagic old last)
 
--- one more frame
+-- one more frame, of a connection that is open
 abbrev pub OneMore : (old new : ℕ → ℕ → ℕ → Connection → Type 0) (old_left new_left : Connection → Type 0) (p q : Place) → List ℕ → Type 0
-OneMore old new old_left new_left p q x = IsPayload x × (q.held ≡ p.held + 1) × Leads old new old_left new_left p q (x ∷ [])
+OneMore old new old_left new_left p q x = IsPayload x × (q.held ≡ p.held + 1) × Leads old new old_left new_left p q (x ∷ []) × (q.is_open ≡ true)
 
 abbrev pub NoMore : (old new : ℕ → ℕ → ℕ → Connection → Type 0) (old_left new_left : Connection → Type 0) (p q : Place) → Type 0
 NoMore old new old_left new_left p q = (q.held ≡ p.held) × Leads old new old_left new_left p q []

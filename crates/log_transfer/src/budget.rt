@@ -1,7 +1,8 @@
 //! How many bytes of one connection are read.
 
-ghost use Rattle.std.specs.Prelude.{◌≡◌, ◌<◌, ◌≤◌, ◌+◌, ◌⊎◌, IfOk, OnErr, OnOk, length};
+ghost use Rattle.std.specs.Prelude.{◌≡◌, ◌<◌, ◌≤◌, ◌⊎◌, IfOk, OnOk, length};
 ghost use Rattle.std.specs.Io.KnownBytes.{ReadConsumes};
+ghost use Rattle.log_transfer.specs.Connections.{CountsBytes};
 ghost use Rattle.log_transfer.specs.declared.budget.TheConstants.{MOST_OF_A_STREAM};
 
 use crate::tries::read_some;
@@ -44,9 +45,8 @@ impl Budget {
     /// left a read into a buffer with room is an error, and the stream is not asked.
     pub fn read<S: Read>(&mut self, stream: &mut S, buffer: &mut [u8]) -> io::Result<usize>
         ensures within { IfOk result (λ n. n ≤ length buffer.new) }
-        ensures taken { IfOk result (λ n. self.new ≡ self.old + n) }
+        ensures taken { CountsBytes self.old self.new result }
         ensures most { self.new ≤ MOST_OF_A_STREAM }
-        ensures err { OnErr result (self.new ≡ self.old) }
         ensures some { OnOk result ((self.old < MOST_OF_A_STREAM) ⊎ (length buffer.new ≡ 0)) }
         ensures bytes { ReadConsumes (S.remaining stream.old)
             (S.remaining stream.new) result buffer.new }

@@ -1,7 +1,8 @@
 //! All frames of a source.
 
-ghost use Rattle.std.specs.Prelude.{◌≡◌, ◌<◌, ◌≤◌, ℕ, IfOk};
+ghost use Rattle.std.specs.Prelude.{◌≡◌, ◌<◌, ◌≤◌, ℕ, IfOk, OnErr, OnOk};
 ghost use Rattle.log_transfer.specs.Places.{HasCause, IsFetched, MayTry};
+ghost use Rattle.log_transfer.specs.declared.budget.TheConstants.{MOST_OF_A_STREAM};
 
 use crate::connector::Connector;
 use crate::error::FetchError;
@@ -25,7 +26,7 @@ pub struct Fetched {
 ///
 /// A connection that ends as `Whole`, `Broken` or `TooLong` is the last. Behind `Cut` or `Failed` it connects again
 /// while tries are left; a frame that came in part is dropped. The status is that of the last connection, `Failed`
-/// only where a call of the connector failed. Refused as Memory where memory was refused; what came is then gone.
+/// only where a call of the connector failed. Of each connection `MOST_OF_A_STREAM` bytes are read at most. Refused as Memory where memory was refused; what came is then gone.
 pub fn fetch<C: Connector>(
     alloc: Global,
     connector: &mut C,
@@ -36,6 +37,10 @@ pub fn fetch<C: Connector>(
         IsFetched (C.gives connector.old) tries f.frames.items f.status) }
     ensures cause { IfOk result (λ f.
         HasCause (C.failed connector.old) (C.failed connector.new) f.status) }
+    ensures state { C.reaches connector.old connector.new }
+    ensures most { OnOk result (C.taken connector.new ≤ MOST_OF_A_STREAM) }
+    ensures err { OnErr result (C.taken connector.old ≤ MOST_OF_A_STREAM
+        → C.taken connector.new ≤ MOST_OF_A_STREAM) }
 {
     let mut place = Place::first(tries);
     let mut frames = Vec::new(alloc);

@@ -1,7 +1,8 @@
 //! A file as a source.
 
-ghost use Rattle.std.specs.Prelude.{◌≡◌, ◌≤◌, ◌+◌, IfOk, length, ⊤};
-ghost use Rattle.log_transfer.specs.Connections.{ended};
+ghost use Rattle.std.specs.Prelude.{◌≡◌, ◌≤◌, IfOk, OnOk, length, refl, ⊤};
+ghost use native.Mathlib.Nat.{le_refl};
+ghost use Rattle.log_transfer.specs.Connections.{CountsBytes, ended, taken_of};
 
 use crate::budget::Budget;
 use crate::connector::Connector;
@@ -33,7 +34,7 @@ impl OpenFile {
     // Reads, unless the budget is spent.
     fn read(&mut self, buffer: &mut [u8]) -> io::Result<usize>
         ensures within { IfOk result (λ n. n ≤ length buffer.new) }
-        ensures taken { IfOk result (λ n. self.new.budget ≡ self.old.budget + n) }
+        ensures bytes { CountsBytes self.old.budget self.new.budget result }
     {
         self.budget.read(&mut self.file, buffer)
     }
@@ -55,6 +56,7 @@ impl<'a, F: Files<File = File>> FileConnector<'a, F> {
     // Opens the file, if it is asked for from its start.
     fn open(&self, first: u32) -> io::Result<OpenFile>
         ensures fresh { IfOk result (λ o. o.budget ≡ 0) }
+        ensures start { OnOk result (first ≡ 0) }
     {
         if first != 0 {
             return Err(no_connection());
@@ -71,7 +73,13 @@ impl<'a, F: Files<File = File>> Connector for FileConnector<'a, F> {
 
     ghost left = { λ s c. ⊤ };
 
+    ghost asked = { λ s t first most. first ≡ 0 };
+
+    ghost taken = { λ s. taken_of s.open (λ o. o.budget) };
+
     ghost failed = { λ s. s.failures };
+
+    ghost reaches = { λ s t. (t.path ≡ s.path) × (s.failures ≤ t.failures) };
 
     ghost allowed = { λ s. 1 };
 
@@ -99,4 +107,6 @@ impl<'a, F: Files<File = File>> Connector for FileConnector<'a, F> {
     }
 
     ghost some = { λ s. (ended, tt) };
+
+    ghost stays = { λ s. (refl, le_refl s.failures) };
 }

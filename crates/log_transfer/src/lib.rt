@@ -4,6 +4,7 @@
 
 mod budget;
 mod connector;
+mod dial;
 mod error;
 mod fetching;
 mod file_connector;
@@ -16,6 +17,7 @@ mod place;
 mod pull;
 mod puller;
 mod reading_on;
+mod server_connector;
 mod source_connector;
 mod steps;
 mod stream;
@@ -26,6 +28,7 @@ mod watched;
 
 pub use budget::{Budget, MOST_OF_A_STREAM};
 pub use connector::Connector;
+pub use dial::Dial;
 pub use error::FetchError;
 pub use fetching::{Fetched, fetch};
 pub use file_connector::FileConnector;
@@ -35,7 +38,8 @@ pub use payload::Payload;
 pub use place::MOST_TRIES;
 pub use pull::{Pull, Step};
 pub use puller::Puller;
-pub use source_connector::SourceConnector;
+pub use server_connector::{CONNECTION_SECONDS, ServerConnector};
+pub use source_connector::{ServerOrFile, SourceConnector};
 pub use streams::Fault;
-pub use tcp_connector::{CONNECT_SECONDS, CONNECTION_SECONDS, TcpConnector, WAIT_SECONDS};
+pub use tcp_connector::{CONNECT_SECONDS, TcpConnector, TcpDialer, WAIT_SECONDS};
 pub use watched::{Watch, Watched};

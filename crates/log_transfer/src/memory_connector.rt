@@ -1,9 +1,11 @@
 //! A source in memory, for tests.
 
 ghost use Rattle.std.specs.Prelude.{◌≡◌, ◌≤◌, ◌<◌, ◌++◌, ◌∷◌, List, [], None, Some, length, take, IfOk, OnOk, OnErr};
+ghost use native.Mathlib.Nat.{le_refl};
 ghost use Rattle.wire.specs.Pieces.{AreBytes};
 ghost use Rattle.streams.specs.Counting.{one_more};
 ghost use Rattle.streams.specs.Fuse.{after_call, is_burning};
+ghost use Rattle.log_format.specs.Requests.{request_text};
 ghost use Rattle.log_transfer.specs.Connections.{ended, failing};
 ghost use Rattle.log_transfer.specs.Scripts.{GivesOf, gives_all, stream_at};
 ghost use Rattle.log_transfer.specs.declared.place.TheConstants.{MOST_TRIES};
@@ -78,6 +80,8 @@ impl MemoryStream {
 pub struct MemoryConnector {
     later: VecDeque<MemoryStream>,
     current: MemoryStream,
+    // How many bytes were read since the last connect.
+    taken: usize,
     // Has room for one of each stream to come.
     requests: Vec<[u8; REQUEST_LEN]>,
     fuse: Fuse,
@@ -94,6 +98,7 @@ impl Model for MemoryConnector {
     ghost view = { λ s. record {
       later = s.later.items;
       current = s.current;
+      taken = s.taken;
       requests = s.requests.items;
       failures = s.failures;
       fuse = s.fuse;
@@ -109,6 +114,7 @@ impl MemoryConnector {
         ensures { result ≡ record {
           later = [];
           current = failing;
+          taken = 0;
           requests = [];
           failures = 0;
           fuse = None;
@@ -117,6 +123,7 @@ impl MemoryConnector {
         MemoryConnector {
             later: VecDeque::new(alloc),
             current: MemoryStream::new(Vec::new(alloc), true),
+            taken: 0,
             requests: Vec::new(alloc),
             fuse: Fuse::none(),
             failures: 0,
@@ -131,7 +138,7 @@ impl MemoryConnector {
           fails = fails;
         } ∷ []) }
         ensures err { OnErr result (self.new.later ≡ self.old.later) }
-        ensures same { (self.new.current ≡ self.old.current)
+        ensures same { (self.new.current ≡ self.old.current) × (self.new.taken ≡ self.old.taken)
             × (self.new.requests ≡ self.old.requests) × (self.new.failures ≡ self.old.failures)
             × (self.new.fuse ≡ self.old.fuse) }
     {
@@ -152,6 +159,7 @@ impl MemoryConnector {
     pub fn fuse(&mut self, pass: u32, forever: bool)
         ensures fuse { self.new.fuse ≡ Some (pass, forever) }
         ensures same { (self.new.later ≡ self.old.later) × (self.new.current ≡ self.old.current)
+            × (self.new.taken ≡ self.old.taken)
             × (self.new.requests ≡ self.old.requests) × (self.new.failures ≡ self.old.failures) }
     {
         self.fuse = Fuse::set(pass, forever);
@@ -163,11 +171,19 @@ impl Connector for MemoryConnector {
 
     ghost left = { λ s c. GivesOf s.fuse s.current c };
 
+    ghost asked = { λ s t first most. t.requests
+        ≡ s.requests ++ request_text (record { first = first; most = most }) ∷ [] };
+
+    ghost taken = { λ s. s.taken };
+
     ghost failed = { λ s. s.failures };
+
+    ghost reaches = { λ s t. s.failures ≤ t.failures };
 
     ghost allowed = { λ s. MOST_TRIES };
 
     fn connect(&mut self, first: u32, most: u32) -> Result<(), Fault> {
+        self.taken = 0;
         let burns = self.fuse.burns();
         let next = self.later.pop_front();
         if let Some(stream) = next {
@@ -185,6 +201,7 @@ impl Connector for MemoryConnector {
     fn read(&mut self, buffer: &mut [u8]) -> Result<usize, Fault> {
         if !self.fuse.burns() {
             if let Ok(n) = self.current.give(buffer) {
+                self.taken += n;
                 return Ok(n);
             }
         }
@@ -201,4 +218,6 @@ impl Connector for MemoryConnector {
     }
 
     ghost some = { λ s. (s.current, gives_all s.fuse s.current) };
+
+    ghost stays = { λ s. le_refl s.failures };
 }

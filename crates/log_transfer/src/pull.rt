@@ -4,6 +4,7 @@ ghost use Rattle.std.specs.Prelude.{◌≡◌, ◌<◌, ◌≤◌, ℕ, [], IfOk
 ghost use Rattle.log_transfer.specs.Connections.{GivesSome};
 ghost use Rattle.log_transfer.specs.Places.{IsCaused, IsEnd, IsPlace, MayTry};
 ghost use Rattle.log_transfer.specs.Pulls.{IsStep, first_place};
+ghost use Rattle.log_transfer.specs.declared.budget.TheConstants.{MOST_OF_A_STREAM};
 
 use crate::connector::Connector;
 use crate::error::FetchError;
@@ -28,14 +29,17 @@ pub(crate) fn next_frame<C: Connector>(
     place: &mut Place,
     out: &mut Vec<u8>,
 ) -> Result<Step, FetchError>
-    requires place { IsPlace place.old }
-    ensures ok { IfOk result (IsStep (C.gives connector.old) (C.gives connector.new)
-        (C.left connector.old) (C.left connector.new) place.old place.new out.new.items) }
+    requires place { IsPlace (C.taken connector.old) place.old }
+    ensures ok { IfOk result (IsStep C.Connector
+        (record { connector = connector.old; place = place.old })
+        (record { connector = connector.new; place = place.new }) out.new.items) }
     ensures ended { IsEnd place.old → (result ≡ Ok (Step.End place.old.last))
         × (connector.new ≡ connector.old) × (place.new ≡ place.old) × (out.new.items ≡ []) }
+    ensures state { (s : C) → C.reaches s connector.old → C.reaches s connector.new }
     ensures cause { (before : ℕ) → IsCaused before (C.failed connector.old) place.old
         → IsCaused before (C.failed connector.new) place.new }
-    ensures place { IsPlace place.new }
+    ensures place { IsPlace (C.taken connector.new) place.new }
+    ensures most { IfOk result (λ _. C.taken connector.new ≤ MOST_OF_A_STREAM) }
     ensures err { OnErr result ((connector.new ≡ connector.old) × (place.new ≡ place.old)
         × (out.new.items ≡ out.old.items)) }
 {
@@ -74,7 +78,7 @@ impl<C: Connector> Model for Pull<C> {
 
     ghost view = { λ p. record { connector = p.connector; place = p.place } };
 
-    ghost invariant = { λ p. IsPlace p.place };
+    ghost invariant = { λ p. IsPlace (C.taken p.connector) p.place };
 }
 
 impl<C: Connector> Pull<C> {
@@ -98,16 +102,19 @@ impl<C: Connector> Pull<C> {
     /// again while tries are left, for the frames behind those that came; a frame that came in part is dropped. The
     /// status is that of the last connection, `Failed` only where a call of the connector failed.
     ///
+    /// Of each connection `MOST_OF_A_STREAM` bytes are read at most.
+    ///
     /// Where memory is refused nothing changed, and the next call goes on with the same frame.
     pub fn next(&mut self, out: &mut Vec<u8>) -> Result<Step, FetchError>
-        ensures ok { IfOk result (IsStep (C.gives self.old.connector) (C.gives self.new.connector)
-            (C.left self.old.connector) (C.left self.new.connector) self.old.place self.new.place
-            out.new.items) }
+        ensures ok { IfOk result (IsStep C.Connector self.old self.new out.new.items) }
         ensures ended { IsEnd self.old.place → (result ≡ Ok (Step.End self.old.place.last))
             × (self.new ≡ self.old) × (out.new.items ≡ []) }
+        ensures state { (s : C) → C.reaches s self.old.connector
+            → C.reaches s self.new.connector }
         ensures cause { (before : ℕ) → IsCaused before (C.failed self.old.connector) self.old.place
             → IsCaused before (C.failed self.new.connector) self.new.place }
-        ensures place { IsPlace self.new.place }
+        ensures place { IsPlace (C.taken self.new.connector) self.new.place }
+        ensures most { IfOk result (λ _. C.taken self.new.connector ≤ MOST_OF_A_STREAM) }
         ensures err { OnErr result ((self.new ≡ self.old) × (out.new.items ≡ out.old.items)) }
     {
         next_frame(&mut self.connector, &mut self.place, out)

@@ -1,67 +1,80 @@
 //! A source that is a server or a file.
 
-ghost use Rattle.std.specs.Prelude.{◌≡◌, ⊤};
-ghost use Rattle.log_transfer.specs.Connections.{ended};
-ghost use Rattle.log_transfer.specs.Sources.{allowed_of, failures_of};
+ghost use Rattle.log_transfer.specs.Sources.{asked_of, gives_of, left_of, number_of, reaches_of, some_of, stays_of};
 
 use crate::connector::Connector;
 use crate::file_connector::FileConnector;
 use crate::tcp_connector::TcpConnector;
-use std::fs::{File, Files};
-use std::net::{Net, TcpStream};
-use std::time::Clock;
 use streams::Fault;
 
-/// A server, or a file. It tells nothing of what it gives.
+/// A server, or a file, each with a connector of its own. It tells what that tells, and may be sent to another thread where
+/// both may.
+#[derive(Drop)]
+pub enum ServerOrFile<S, F> {
+    /// A server.
+    Tcp(S),
+    /// A file.
+    File(F),
+}
+
+/// A server over TCP, or a file of the system.
 ///
 /// It may be sent to another thread where both handles are `Sync`, and what else they open may be sent too:
 /// `R: Net<Stream = TcpStream, Listener = TcpListener> + Clock + Sync`, and `F: Files<File = File> + Sync` with
 /// `F::Dir: Send`.
-#[derive(Drop)]
-pub enum SourceConnector<'a, R, F> {
-    /// A server.
-    Tcp(TcpConnector<'a, R>),
-    /// A file.
-    File(FileConnector<'a, F>),
-}
+pub type SourceConnector<'a, R, F> = ServerOrFile<TcpConnector<'a, R>, FileConnector<'a, F>>;
 
-impl<'a, R: Net<Stream = TcpStream> + Clock, F: Files<File = File>> Connector
-    for SourceConnector<'a, R, F> {
-    ghost gives = { λ s k first most c. ⊤ };
+impl<S: Connector, F: Connector> Connector for ServerOrFile<S, F> {
+    ghost gives = { gives_of S.gives F.gives };
 
-    ghost left = { λ s c. ⊤ };
+    ghost left = { left_of S.left F.left };
 
-    ghost failed = { λ s. failures_of s };
+    ghost asked = { asked_of S.asked F.asked };
 
-    ghost allowed = { λ s. allowed_of s };
+    ghost taken = { number_of S.taken F.taken };
+
+    ghost failed = { number_of S.failed F.failed };
+
+    ghost reaches = { reaches_of S.reaches F.reaches };
+
+    ghost allowed = { number_of S.allowed F.allowed };
 
     fn connect(&mut self, first: u32, most: u32) -> Result<(), Fault> {
         match self {
-            SourceConnector::Tcp(server) => server.connect(first, most),
-            SourceConnector::File(file) => file.connect(first, most),
+            ServerOrFile::Tcp(server) => server.connect(first, most),
+            ServerOrFile::File(file) => file.connect(first, most),
         }
     }
 
     fn read(&mut self, buffer: &mut [u8]) -> Result<usize, Fault> {
         match self {
-            SourceConnector::Tcp(server) => server.read(buffer),
-            SourceConnector::File(file) => file.read(buffer),
+            ServerOrFile::Tcp(server) => server.read(buffer),
+            ServerOrFile::File(file) => file.read(buffer),
         }
     }
 
     fn most_tries(&self) -> u8 {
         match self {
-            SourceConnector::Tcp(server) => server.most_tries(),
-            SourceConnector::File(file) => file.most_tries(),
+            ServerOrFile::Tcp(server) => server.most_tries(),
+            ServerOrFile::File(file) => file.most_tries(),
         }
     }
 
     fn failures(&self) -> u64 {
         match self {
-            SourceConnector::Tcp(server) => server.failures(),
-            SourceConnector::File(file) => file.failures(),
+            ServerOrFile::Tcp(server) => server.failures(),
+            ServerOrFile::File(file) => file.failures(),
         }
     }
 
-    ghost some = { λ s. (ended, tt) };
+    fn reached(&self, frames: u32) {
+        match self {
+            ServerOrFile::Tcp(server) => server.reached(frames),
+            ServerOrFile::File(file) => file.reached(frames),
+        }
+    }
+
+    ghost some = { some_of S.left F.left S.some F.some };
+
+    ghost stays = { stays_of S.reaches F.reaches S.stays F.stays };
 }

@@ -29,10 +29,13 @@ pub(crate) fn is_magic(bytes: &[u8]) -> bool
 
 // Reads the magic, and answers the status where it is not there.
 fn read_magic<C: Connector>(connector: &mut C) -> Option<Status>
+    requires { C.taken connector.old ≡ 0 }
     ensures magic { MatchOption result (GaveAll (C.left connector.old) (C.left connector.new)
         (codes "HSL1")) (EndsAtMagic (C.left connector.old)) }
     ensures later { (k f m : ℕ) (c : Connection) → C.gives connector.new k f m c
         → C.gives connector.old k f m c }
+    ensures bytes { C.taken connector.new ≤ 4 }
+    ensures state { (s : C) → C.reaches s connector.old → C.reaches s connector.new }
     ensures counted { IsMagicCounted (C.failed connector.old) (C.failed connector.new) result }
 {
     let mut bytes = [0; 4];
@@ -51,10 +54,13 @@ fn read_magic<C: Connector>(connector: &mut C) -> Option<Status>
 // Reads the magic of a connection that was opened.
 fn enter<C: Connector>(connector: &mut C, place: &mut Place)
     requires closed { place.old.is_open ≡ false }
+    requires fresh { C.taken connector.old ≡ 0 }
     ensures entered { IsEntered (C.left connector.old)
         (C.left connector.new) place.new.is_open place.new.count place.new.last }
     ensures same { (place.new.held ≡ place.old.held) × (place.new.tries ≡ place.old.tries) }
     ensures few { (place.new.count ≡ 0) ⊎ (place.new.count ≡ place.old.count) }
+    ensures bytes { C.taken connector.new ≤ 4 }
+    ensures state { (s : C) → C.reaches s connector.old → C.reaches s connector.new }
     ensures counted { IsEnterCounted (C.failed connector.old)
         (C.failed connector.new) place.new.is_open place.new.last }
     ensures later { (k f m : ℕ) (c : Connection) → C.gives connector.new k f m c
@@ -74,10 +80,11 @@ fn open_next<C: Connector>(connector: &mut C, place: &mut Place)
     requires closed { place.old.is_open ≡ false }
     requires may { may_go_on place.old.last ≡ true }
     requires some { 0 < place.old.tries }
-    requires place { IsPlace place.old }
+    requires place { IsPlace (C.taken connector.old) place.old }
     ensures leads { Leads (C.gives connector.old) (C.gives connector.new) (C.left connector.old)
         (C.left connector.new) place.old place.new [] }
-    ensures place { IsPlace place.new }
+    ensures place { IsPlace (C.taken connector.new) place.new }
+    ensures state { (s : C) → C.reaches s connector.old → C.reaches s connector.new }
     ensures cause { (before : ℕ) → IsCaused before (C.failed connector.old) place.old
         → IsCaused before (C.failed connector.new) place.new }
     ensures tries { place.new.tries + 1 ≡ place.old.tries }
@@ -103,13 +110,14 @@ enum Turn {
 fn step<C: Connector>(connector: &mut C, place: &mut Place, buffer: &mut [u8]) -> Turn
     requires shown { place.old.is_open ≡ true }
     requires buffer { length buffer.old ≡ LONGEST_PAYLOAD }
-    requires place { IsPlace place.old }
+    requires place { IsPlace (C.taken connector.old) place.old }
     ensures turn { IsTurn (C.gives connector.old) (C.gives connector.new) (C.left connector.old)
         (C.left connector.new) place.old place.new buffer.new result }
+    ensures state { (s : C) → C.reaches s connector.old → C.reaches s connector.new }
     ensures cause { (before : ℕ) → IsCaused before (C.failed connector.old) place.old
         → IsCaused before (C.failed connector.new) place.new }
     ensures buffer { length buffer.new ≡ LONGEST_PAYLOAD }
-    ensures place { IsPlace place.new }
+    ensures place { IsPlace (C.taken connector.new) place.new }
 {
     match read_frame(connector, buffer, place.count, MOST_FRAMES - place.held) {
         Came::Frame(len) => {
@@ -128,13 +136,14 @@ fn step<C: Connector>(connector: &mut C, place: &mut Place, buffer: &mut [u8]) -
 // Goes on with the open connection, or makes one.
 fn go_on<C: Connector>(connector: &mut C, place: &mut Place, buffer: &mut [u8]) -> Turn
     requires buffer { length buffer.old ≡ LONGEST_PAYLOAD }
-    requires place { IsPlace place.old }
+    requires place { IsPlace (C.taken connector.old) place.old }
     ensures turn { IsTurn (C.gives connector.old) (C.gives connector.new) (C.left connector.old)
         (C.left connector.new) place.old place.new buffer.new result }
+    ensures state { (s : C) → C.reaches s connector.old → C.reaches s connector.new }
     ensures cause { (before : ℕ) → IsCaused before (C.failed connector.old) place.old
         → IsCaused before (C.failed connector.new) place.new }
     ensures buffer { length buffer.new ≡ LONGEST_PAYLOAD }
-    ensures place { IsPlace place.new }
+    ensures place { IsPlace (C.taken connector.new) place.new }
 {
     if place.is_open {
         return step(connector, place, buffer);
@@ -155,13 +164,14 @@ pub(crate) fn advance<C: Connector>(
     buffer: &mut [u8],
 ) -> Option<usize>
     requires buffer { length buffer.old ≡ LONGEST_PAYLOAD }
-    requires place { IsPlace place.old }
+    requires place { IsPlace (C.taken connector.old) place.old }
     ensures advanced { IsAdvanced (C.gives connector.old) (C.gives connector.new)
         (C.left connector.old) (C.left connector.new) place.old place.new buffer.new result }
+    ensures state { (s : C) → C.reaches s connector.old → C.reaches s connector.new }
     ensures cause { (before : ℕ) → IsCaused before (C.failed connector.old) place.old
         → IsCaused before (C.failed connector.new) place.new }
     ensures buffer { length buffer.new ≡ LONGEST_PAYLOAD }
-    ensures place { IsPlace place.new }
+    ensures place { IsPlace (C.taken connector.new) place.new }
 {
     loop {
         match go_on(connector, place, buffer) {

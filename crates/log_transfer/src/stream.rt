@@ -1,11 +1,13 @@
 //! Reading of one frame.
 
-ghost use Rattle.std.specs.Prelude.{◌≡◌, ◌<◌, ◌≤◌, ◌^◌, ℕ, length};
-ghost use Rattle.wire.specs.declared.limits.TheConstants.{LONGEST_PAYLOAD};
+ghost use Rattle.std.specs.Prelude.{◌≡◌, ◌<◌, ◌≤◌, ◌+◌, ◌^◌, ℕ, length};
+ghost use Rattle.wire.specs.declared.limits.TheConstants.{LONGEST_PAYLOAD, MOST_ENTRIES};
 ghost use Rattle.log_format.specs.Readings.{unfinished};
+ghost use Rattle.log_transfer.specs.Bytes.{IsCameWithin, most_of_frames};
 ghost use Rattle.log_transfer.specs.Connections.{Connection};
 ghost use Rattle.log_transfer.specs.Streams.{EndsBehind, length_text, IsHead, IsCameBehind, IsCame};
 ghost use Rattle.log_transfer.specs.Counting.{IsHeadCounted, IsCameCounted, IsStatusCounted, is_failed};
+ghost use Rattle.log_transfer.specs.declared.budget.TheConstants.{MOST_OF_A_STREAM};
 
 use crate::connector::Connector;
 use crate::filling::{Filled, fill};
@@ -43,9 +45,12 @@ pub(crate) fn unfinished(failed: bool) -> Status
 }
 
 fn read_length<C: Connector>(connector: &mut C) -> Head
+    requires { C.taken connector.old + 4 ≤ MOST_OF_A_STREAM }
     ensures head { IsHead (C.left connector.old) (C.left connector.new) result }
     ensures later { (k f m : ℕ) (c : Connection) → C.gives connector.new k f m c
         → C.gives connector.old k f m c }
+    ensures bytes { C.taken connector.new ≤ C.taken connector.old + 4 }
+    ensures state { (s : C) → C.reaches s connector.old → C.reaches s connector.new }
     ensures counted { IsHeadCounted (C.failed connector.old) (C.failed connector.new) result }
 {
     let mut bytes = [0; 4];
@@ -57,10 +62,13 @@ fn read_length<C: Connector>(connector: &mut C) -> Head
 
 // Reads the rest of an end mark, behind so many frames.
 fn read_mark<C: Connector>(connector: &mut C, count: u32) -> Status
+    requires { C.taken connector.old + 4 ≤ MOST_OF_A_STREAM }
     ensures ends { (room : ℕ)
         → EndsBehind (C.left connector.old) (length_text 0) count room result }
     ensures later { (k f m : ℕ) (c : Connection) → C.gives connector.new k f m c
         → C.gives connector.old k f m c }
+    ensures bytes { C.taken connector.new ≤ C.taken connector.old + 4 }
+    ensures state { (s : C) → C.reaches s connector.old → C.reaches s connector.new }
     ensures counted { IsStatusCounted (C.failed connector.old) (C.failed connector.new) result }
 {
     let mut bytes = [0; 4];
@@ -86,11 +94,15 @@ fn read_payload<C: Connector>(
 ) -> Came
     requires some { 0 < len }
     requires buffer { length buffer.old ≡ LONGEST_PAYLOAD }
+    requires few { count + room ≤ MOST_ENTRIES }
+    requires bytes { C.taken connector.old ≤ most_of_frames count + 4 }
     ensures came { IsCameBehind (C.left connector.old)
         (C.left connector.new) len count room buffer.new result }
     ensures buffer { length buffer.new ≡ LONGEST_PAYLOAD }
     ensures later { (k f m : ℕ) (c : Connection) → C.gives connector.new k f m c
         → C.gives connector.old k f m c }
+    ensures bytes { IsCameWithin count (C.taken connector.new) result }
+    ensures state { (s : C) → C.reaches s connector.old → C.reaches s connector.new }
     ensures counted { IsCameCounted (C.failed connector.old) (C.failed connector.new) result }
 {
     let len = len as usize;
@@ -114,11 +126,15 @@ pub(crate) fn read_frame<C: Connector>(
     room: u32,
 ) -> Came
     requires buffer { length buffer.old ≡ LONGEST_PAYLOAD }
+    requires few { count + room ≤ MOST_ENTRIES }
+    requires bytes { C.taken connector.old ≤ most_of_frames count }
     ensures came { IsCame (C.left connector.old)
         (C.left connector.new) count room buffer.new result }
     ensures buffer { length buffer.new ≡ LONGEST_PAYLOAD }
     ensures later { (k f m : ℕ) (c : Connection) → C.gives connector.new k f m c
         → C.gives connector.old k f m c }
+    ensures bytes { IsCameWithin count (C.taken connector.new) result }
+    ensures state { (s : C) → C.reaches s connector.old → C.reaches s connector.new }
     ensures counted { IsCameCounted (C.failed connector.old) (C.failed connector.new) result }
 {
     match read_length(connector) {

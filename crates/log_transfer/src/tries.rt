@@ -1,6 +1,6 @@
 //! What connectors over files and sockets share.
 
-ghost use Rattle.std.specs.Prelude.{◌≡◌, ◌≤◌, IfOk, Ok, length};
+ghost use Rattle.std.specs.Prelude.{◌≡◌, ◌≤◌, IfOk, IsErr, Ok, OnErr, length};
 ghost use Rattle.std.specs.Io.KnownBytes.{ReadConsumes};
 ghost use Rattle.streams.specs.Counting.{Counts};
 
@@ -35,7 +35,9 @@ pub(crate) fn read_some<R: Read>(stream: &mut R, buffer: &mut [u8]) -> io::Resul
 // A failed call as a fault, counted.
 pub(crate) fn counted<T: Drop>(failures: &mut u64, outcome: io::Result<T>) -> Result<T, Fault>
     ensures counts { Counts failures.old failures.new result }
+    ensures risen { failures.old ≤ failures.new }
     ensures kept { IfOk result (λ value. outcome ≡ Ok value) }
+    ensures lost { OnErr result (IsErr outcome) }
 {
     match outcome {
         Ok(value) => Ok(value),

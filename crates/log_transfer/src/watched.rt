@@ -37,7 +37,13 @@ impl<'a, C: Connector, W: Watch> Connector for Watched<'a, C, W> {
 
     ghost left = { λ s. C.left s.connector };
 
+    ghost asked = { λ s t. C.asked s.connector t.connector };
+
+    ghost taken = { λ s. C.taken s.connector };
+
     ghost failed = { λ s. C.failed s.connector };
+
+    ghost reaches = { λ s t. C.reaches s.connector t.connector };
 
     ghost allowed = { λ s. C.allowed s.connector };
 
@@ -63,4 +69,6 @@ impl<'a, C: Connector, W: Watch> Connector for Watched<'a, C, W> {
     }
 
     ghost some = { λ s. C.some s.connector };
+
+    ghost stays = { λ s. C.stays s.connector };
 }

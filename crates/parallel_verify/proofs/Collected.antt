@@ -21,14 +21,14 @@ use Rattle.evidence.specs.declared.refusal.EvidenceRefusal.{EvidenceRefusal}
 use Rattle.evidence.specs.declared.refusal.EvidenceRefusal.TheVariants.{Memory}
 use Rattle.evidence.specs.declared.source.SourceReport.{SourceReport}
 use Rattle.evidence.proofs.Gatherings.{fault_as, fault_later, grown_as, grown_both, grown_start, in_more}
-use Rattle.parallel_verify.specs.Collections.{IsGathering, IsLogFrom}
+use Rattle.parallel_verify.specs.Collections.{IsGathering, IsLogFrom, reader_at, tally_of}
 use Rattle.parallel_verify.specs.Parts.{IsGathered, PartHasHeader}
 use Rattle.parallel_verify.specs.declared.part.Part.{Part}
 
 abbrev Gives : Type 1
 Gives = ℕ → ℕ → ℕ → Connection → Type 0
 
-pub gathering_start : (gives : Gives) (left : Connection → Type 0) (p : Place) (g : Gathered) (replica : ℕ) → IsGathering gives gives left left p p g g replica 0 0
+pub gathering_start : (gives : Gives) (left : Connection → Type 0) (p : Place) (g : Gathered) (replica : ℕ) → IsGathering (reader_at gives left p) (reader_at gives left p) g g (tally_of replica 0 0)
 gathering_start gives left p g replica =
     record { given = []; leads = leads_stay gives left p; grown = grown_start g FrameHasHeader (FrameNamesVote replica); have = refl; counted = refl }
 
@@ -40,10 +40,10 @@ grown_add a b c replica given x g h =
     (λ v. let all = in_more (FrameNamesVote replica) given x v in (all.1, all.0))
     (grown_both a b c (InSome FrameHasHeader given) (FrameHasHeader x) (InSome (FrameNamesVote replica) given) (FrameNamesVote replica x) g h)
 
-module _ (old mid new : Gives) (old_left mid_left new_left : Connection → Type 0) (p q r : Place) (a b : Gathered) (replica frames entries : ℕ) (so_far : IsGathering old mid old_left mid_left p q a b replica frames entries) where
+module _ (old mid new : Gives) (old_left mid_left new_left : Connection → Type 0) (p q r : Place) (a b : Gathered) (replica frames entries : ℕ) (so_far : IsGathering (reader_at old old_left p) (reader_at mid mid_left q) a b (tally_of replica frames entries)) where
   -- one frame more
   pub gathering_more : (c : Gathered) (x : List ℕ) (n : ℕ) → Leads mid new mid_left new_left q r (x ∷ []) → Grows b c (FrameHasHeader x) (FrameNamesVote replica x)
-      → ((fs : List (List ℕ)) → HaveEntries fs entries → HaveEntries (fs ++ x ∷ []) n) → IsGathering old new old_left new_left p r a c replica (frames + 1) n
+      → ((fs : List (List ℕ)) → HaveEntries fs entries → HaveEntries (fs ++ x ∷ []) n) → IsGathering (reader_at old old_left p) (reader_at new new_left r) a c (tally_of replica (frames + 1) n)
   gathering_more c x n leads step have = record {
     given = so_far.given ++ x ∷ [];
     leads = leads_then old mid new old_left mid_left new_left p q r so_far.given (x ∷ []) so_far.leads leads;
@@ -91,9 +91,9 @@ some_log_of gives left p replica closed some next =
       record { of = refl; outcome = came.outcome },
     )
 
-module _ {C : Type 0} (gives : C → Gives) (failed : C → ℕ) (connector : C) (tries replica : ℕ) (committee : List ℕ) where
+module _ {C : Type 0} (gives : C → Gives) (reaches : C → C → Type 0) (failed : C → ℕ) (connector : C) (tries replica : ℕ) (committee : List ℕ) where
   -- memory was refused before anything was read
-  pub gathered_none : (r : Result Part EvidenceRefusal) → (l : ReceivedLog) × IsLogFrom (gives connector) (first_place tries) replica l → IsErrAnd r (λ e. e ≡ Memory) → IsGathered gives failed connector tries replica committee r
+  pub gathered_none : (r : Result Part EvidenceRefusal) → (l : ReceivedLog) × IsLogFrom (gives connector) (first_place tries) replica l → IsErrAnd r (λ e. e ≡ Memory) → IsGathered gives reaches failed connector tries replica committee r
   gathered_none (Ok p) some is = absurd is
   gathered_none (Err e) some is = record {
     log = some.0;
@@ -104,7 +104,7 @@ module _ {C : Type 0} (gives : C → Gives) (failed : C → ℕ) (connector : C)
 
   module _ (a : Gathered) (under : a.committee ≡ committee) (first : (h : Header) → Contains a.headers h ↔ (h ≡ genesis_of committee)) where
     -- there was a fault in what came
-    pub gathered_fault : (r : Result Part EvidenceRefusal) (e : EvidenceRefusal) (l : ReceivedLog) → IsErrAnd r (λ x. x ≡ e) → IsLogFrom (gives connector) (first_place tries) replica l → IsGatheringRefusal a (LogHasHeader l) e → IsGathered gives failed connector tries replica committee r
+    pub gathered_fault : (r : Result Part EvidenceRefusal) (e : EvidenceRefusal) (l : ReceivedLog) → IsErrAnd r (λ x. x ≡ e) → IsLogFrom (gives connector) (first_place tries) replica l → IsGatheringRefusal a (LogHasHeader l) e → IsGathered gives reaches failed connector tries replica committee r
     gathered_fault (Ok p) e l is from fault = absurd is
     gathered_fault (Err x) e l is from fault = record {
       log = l;
@@ -115,8 +115,8 @@ module _ {C : Type 0} (gives : C → Gives) (failed : C → ℕ) (connector : C)
 
     -- all came
     pub gathered_all : (b : Gathered) (p : Part) (l : ReceivedLog) (after : C) → a.votes ≡ [] → IsLogFrom (gives connector) (first_place tries) replica l → Grows a b (LogHasHeader l) (LogNamesVote l) → IsReportOf l p.report
-        → p.headers.items ≡ b.headers → p.votes.items ≡ b.votes → HasCause (failed connector) (failed after) p.report.status → IsGathered gives failed connector tries replica committee (Ok p)
-    gathered_all b p l after none from grows report headers votes cause = record {
+        → p.headers.items ≡ b.headers → p.votes.items ≡ b.votes → reaches connector after → HasCause (failed connector) (failed after) p.report.status → IsGathered gives reaches failed connector tries replica committee (Ok p)
+    gathered_all b p l after none from grows report headers votes reached cause = record {
       log = l;
       of = record { of = from.of; fetched = from.outcome };
       result = record {
@@ -130,7 +130,7 @@ module _ {C : Type 0} (gives : C → Gives) (failed : C → ℕ) (connector : C)
         );
         report = report;
       };
-      cause = record { after = after; cause = cause };
+      cause = record { after = after; reached = reached; cause = cause };
     }
       where
         nothing : (v : SignedVote) → Contains [] v → ⊥

@@ -25,14 +25,15 @@ pub record IsLogOfSource (gives : ℕ → ℕ → ℕ → Connection → Type 0)
 abbrev pub MayGive : {C : Type 0} → (C → ℕ → ℕ → ℕ → Connection → Type 0) → Source C → ReceivedLog → Type 0
 MayGive gives s l = IsLogOfSource (gives s.connector) s.tries s.replica l
 
--- the connector was left in some state, and where the status is Failed, its failures rose up to there
-pub record IsCausedIn {C : Type 0} (failed : C → ℕ) (before : C) (status : Status) : Type 0 where
+-- calls of the connector reach some state, and where the status is Failed, its failures rose up to there
+pub record IsCausedIn {C : Type 0} (reaches : C → C → Type 0) (failed : C → ℕ) (before : C) (status : Status) : Type 0 where
   pub after : C
+  pub reached : reaches before after
   pub cause : HasCause (failed before) (failed after) status
 
 -- .. the connector of this source
-abbrev pub IsStatusCaused : {C : Type 0} → (C → ℕ) → Source C → SourceReport → Type 0
-IsStatusCaused failed s r = IsCausedIn failed s.connector r.status
+abbrev pub MayFail : {C : Type 0} → (C → C → Type 0) → (C → ℕ) → Source C → SourceReport → Type 0
+MayFail reaches failed s r = IsCausedIn reaches failed s.connector r.status
 
 -- a reader may make so many connections to the source
 abbrev pub MayBeTried : {C : Type 0} → (C → ℕ) → Source C → Type 0
@@ -61,10 +62,28 @@ pub record IsLogFrom (gives : ℕ → ℕ → ℕ → Connection → Type 0) (p 
   pub of : l.replica ≡ replica
   pub outcome : IsOutcome gives 0 p.held p.tries p.last l.frames l.status
 
--- frames that came so far, and what was gathered of them
-pub record IsGathering (old new : ℕ → ℕ → ℕ → Connection → Type 0) (old_left new_left : Connection → Type 0) (p q : Place) (a b : Gathered) (replica frames entries : ℕ) : Type 0 where
+-- where the reader of a source is: what its connector gives, what its connection has left, and its place
+pub record ReaderState : Type 1 where
+  pub gives : ℕ → ℕ → ℕ → Connection → Type 0
+  pub left : Connection → Type 0
+  pub place : Place
+
+abbrev pub reader_at : (ℕ → ℕ → ℕ → Connection → Type 0) → (Connection → Type 0) → Place → ReaderState
+reader_at gives left place = record { gives = gives; left = left; place = place }
+
+-- the replica of a source, and how many frames and entries came of it
+pub record Tally : Type 0 where
+  pub replica : ℕ
+  pub frames : ℕ
+  pub entries : ℕ
+
+abbrev pub tally_of : (replica frames entries : ℕ) → Tally
+tally_of replica frames entries = record { replica = replica; frames = frames; entries = entries }
+
+-- frames that came from one state of the reader to another, and what was gathered of them
+pub record IsGathering (old new : ReaderState) (a b : Gathered) (came : Tally) : Type 0 where
   pub given : List (List ℕ)
-  pub leads : Leads old new old_left new_left p q given
-  pub grown : Grows a b (InSome FrameHasHeader given) (InSome (FrameNamesVote replica) given)
-  pub have : HaveEntries given entries
-  pub counted : frames ≡ length given
+  pub leads : Leads old.gives new.gives old.left new.left old.place new.place given
+  pub grown : Grows a b (InSome FrameHasHeader given) (InSome (FrameNamesVote came.replica) given)
+  pub have : HaveEntries given came.entries
+  pub counted : came.frames ≡ length given

@@ -37,11 +37,11 @@ HasReport (Ok p) r = r ≡ p.report
 HasReport (Err e) r = ⊥
 
 -- the result is that of a log which the source may give, and where the status is Failed, its failures rose
-pub record IsGathered {C : Type 0} (gives : C → ℕ → ℕ → ℕ → Connection → Type 0) (failed : C → ℕ) (connector : C) (tries replica : ℕ) (committee : List ℕ) (r : Result Part EvidenceRefusal) : Type 0 where
+pub record IsGathered {C : Type 0} (gives : C → ℕ → ℕ → ℕ → Connection → Type 0) (reaches : C → C → Type 0) (failed : C → ℕ) (connector : C) (tries replica : ℕ) (committee : List ℕ) (r : Result Part EvidenceRefusal) : Type 0 where
   pub log : ReceivedLog
   pub of : IsLogOfSource (gives connector) tries replica log
   pub result : IsResultOn committee log r
-  pub cause : IfOk r (λ p. IsCausedIn failed connector p.report.status)
+  pub cause : IfOk r (λ p. IsCausedIn reaches failed connector p.report.status)
 
 -- a part was joined to what was gathered
 pub record IsJoined (old new : Gathered) (l : ReceivedLog) (r : SourceReport) : Type 0 where

@@ -3,7 +3,7 @@
 ghost use Rattle.std.specs.Prelude.{◌≡◌, ◌<◌, ℕ, IfErr, IfOk, length, slice_index_or};
 ghost use Rattle.std.specs.List.{All, AllZip};
 ghost use Rattle.log_transfer.specs.Places.{MayTry};
-ghost use Rattle.parallel_verify.specs.Collections.{IsEvidenceOfSources, IsRefusalOfSources, IsStatusCaused, MayBeTried, MayGive};
+ghost use Rattle.parallel_verify.specs.Collections.{IsEvidenceOfSources, IsRefusalOfSources, MayFail, MayBeTried, MayGive};
 ghost use Rattle.parallel_verify.specs.Parts.{IsGathered};
 
 use crate::batch::check_all;
@@ -34,7 +34,7 @@ fn gather_all<N: BoardNaming + Send + Sync, R: Threads + Wait + Sync, C: Connect
     requires tries { All (MayBeTried C.allowed) sources.items }
     ensures len { IfOk result (λ parts. length parts.items ≡ length sources.items) }
     ensures each { IfOk result (λ parts. (i : ℕ) (s : _) (d : _) → i < length sources.items
-        → IsGathered C.gives C.failed (slice_index_or sources.items i s).connector
+        → IsGathered C.gives C.reaches C.failed (slice_index_or sources.items i s).connector
         (slice_index_or sources.items i s).tries
         (slice_index_or sources.items i s).replica committee.now (slice_index_or parts.items i d)) }
 {
@@ -49,8 +49,8 @@ fn gather_all<N: BoardNaming + Send + Sync, R: Threads + Wait + Sync, C: Connect
         sources,
         &|source: Source<C>| -> Result<Part, EvidenceRefusal>
             requires { MayTry (C.allowed source.connector) source.tries }
-            ensures { IsGathered C.gives C.failed source.connector source.tries source.replica
-                committee.entry.now result }
+            ensures { IsGathered C.gives C.reaches C.failed source.connector source.tries
+                source.replica committee.entry.now result }
         { gather(alloc, committee, &keeping, source) },
     )
 }
@@ -72,7 +72,7 @@ fn collect_on<
     requires named { committee.now ≡ N.committee }
     requires tries { All (MayBeTried C.allowed) sources.items }
     ensures ok { IfOk result (IsEvidenceOfSources (MayGive C.gives) committee.now sources.items) }
-    ensures cause { IfOk result (λ e. AllZip (IsStatusCaused C.failed) sources.items e.sources) }
+    ensures cause { IfOk result (λ e. AllZip (MayFail C.reaches C.failed) sources.items e.sources) }
     ensures refused { IfErr result
         (IsRefusalOfSources (MayGive C.gives) committee.now sources.items) }
 {
@@ -104,7 +104,7 @@ pub fn collect<'a, R: Threads + Wait + Sync, C: Connector + Send>(
 ) -> Result<Evidence<'a>, EvidenceRefusal>
     requires tries { All (MayBeTried C.allowed) sources.items }
     ensures ok { IfOk result (IsEvidenceOfSources (MayGive C.gives) committee.now sources.items) }
-    ensures cause { IfOk result (λ e. AllZip (IsStatusCaused C.failed) sources.items e.sources) }
+    ensures cause { IfOk result (λ e. AllZip (MayFail C.reaches C.failed) sources.items e.sources) }
     ensures refused { IfErr result
         (IsRefusalOfSources (MayGive C.gives) committee.now sources.items) }
 {
@@ -121,7 +121,7 @@ pub fn collect_by<'a, R: Threads + Wait + Sync, C: Connector + Send, V: Verifier
 ) -> Result<Evidence<'a>, EvidenceRefusal>
     requires tries { All (MayBeTried C.allowed) sources.items }
     ensures ok { IfOk result (IsEvidenceOfSources (MayGive C.gives) committee.now sources.items) }
-    ensures cause { IfOk result (λ e. AllZip (IsStatusCaused C.failed) sources.items e.sources) }
+    ensures cause { IfOk result (λ e. AllZip (MayFail C.reaches C.failed) sources.items e.sources) }
     ensures refused { IfErr result
         (IsRefusalOfSources (MayGive C.gives) committee.now sources.items) }
 {

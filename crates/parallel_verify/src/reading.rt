@@ -33,6 +33,7 @@ fn gather_frames<K: Keeper, C: Connector>(
         × Grows gathered.old gathered.new (LogHasHeader l) (LogNamesVote l) × IsReportOf l r) }
     ensures cause { IfOk result (λ r.
         HasCause (C.failed pull.old.connector) (C.failed pull.new.connector) r.status) }
+    ensures state { C.reaches pull.old.connector pull.new.connector }
     ensures err { IfErr result (λ e. (l : ReceivedLog)
         × IsLogFrom (C.gives pull.old.connector) pull.old.place replica l
         × IsGatheringRefusal gathered.old (LogHasHeader l) e) }
@@ -71,8 +72,8 @@ pub(crate) fn gather<K: Keeper, C: Connector>(
     source: Source<C>,
 ) -> Result<Part, EvidenceRefusal>
     requires { MayTry (C.allowed source.connector) source.tries }
-    ensures { IsGathered C.gives C.failed source.connector source.tries source.replica committee.now
-        result }
+    ensures { IsGathered C.gives C.reaches C.failed source.connector source.tries source.replica
+        committee.now result }
 {
     let Source {
         replica,

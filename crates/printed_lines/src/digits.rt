@@ -1,23 +1,26 @@
 //! Numbers and ids as digits.
 
-ghost use Rattle.std.specs.Prelude.{◌≡◌, ◌++◌, OnOk};
+ghost use Rattle.std.specs.Prelude.{◌≡◌, ◌<◌, ◌^◌, ◌++◌, ℕ, IfNone, IfSome, OnErr, OnOk, decimal};
 ghost use Rattle.hex.specs.Hex.{encode_lower};
 
 use blocks::Id;
 use itoa::{Buffer, Integer};
 use std::alloc::AllocError;
+use std::str::from_utf8;
 use wire::append;
 
-/// Adds a number in decimal.
+/// Adds a number in decimal. Where memory is refused the text is as it was.
 pub fn put_number<I: Integer>(text: &mut Vec<u8>, number: I) -> Result<(), AllocError>
-    ensures { OnOk result (text.new.items ≡ text.old.items ++ I.text number) }
+    ensures ok { OnOk result (text.new.items ≡ text.old.items ++ I.text number) }
+    ensures err { OnErr result (text.new.items ≡ text.old.items) }
 {
     append(text, Buffer::new().format(number).as_bytes())
 }
 
-/// Adds the 64 hex digits of an id, or of another 32 bytes.
+/// Adds the 64 hex digits of an id, or of another 32 bytes. Where memory is refused the text is as it was.
 pub fn put_id(text: &mut Vec<u8>, id: &Id) -> Result<(), AllocError>
-    ensures { OnOk result (text.new.items ≡ text.old.items ++ encode_lower id.now) }
+    ensures ok { OnOk result (text.new.items ≡ text.old.items ++ encode_lower id.now) }
+    ensures err { OnErr result (text.new.items ≡ text.old.items) }
 {
     append(text, &id_digits(id))
 }
@@ -29,4 +32,22 @@ pub fn id_digits(id: &Id) -> [u8; 64]
     let mut digits = [0; 64];
     let _ = hex::encode_to_slice(&id[..], &mut digits);
     digits
+}
+
+/// The number of 64 bits that is printed so: digits alone, and no leading zero.
+pub fn number_in(digits: &[u8]) -> Option<u64>
+    ensures some { IfSome result (λ number. digits.now ≡ decimal number) }
+    ensures none { IfNone result ((number : ℕ) → number < 2 ^ 64 → digits.now ≡ decimal number
+        → ⊥) }
+{
+    let Ok(text) = from_utf8(digits) else {
+        return None;
+    };
+    let Ok(number) = text.parse::<u64>() else {
+        return None;
+    };
+    if Buffer::new().format(number) != text {
+        return None;
+    }
+    Some(number)
 }

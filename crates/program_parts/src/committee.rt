@@ -1,9 +1,11 @@
 //! The files that programs name by words, and the committees in them.
 
-ghost use Rattle.std.specs.Prelude.{◌≡◌, ◌⊎◌, Err, IfErr, IfOk};
+ghost use Rattle.std.specs.Prelude.{◌≡◌, ◌≤◌, Err, IfErr, IfOk, length};
 ghost use Rattle.blocks.specs.Committees.{IsCommittee};
 ghost use Rattle.blocks.specs.CommitteeReading.{committee_in};
 ghost use Rattle.blocks.specs.declared.committee.CommitteeRefusal.{CommitteeRefusal as RefusalValue};
+ghost use Rattle.program_parts.specs.Faults.{IsMemoryOr};
+ghost use Rattle.program_parts.specs.declared.committee.TheConstants.{MOST_OF_A_SHORT_FILE};
 
 use crate::input::read_file;
 use crate::program_fault::{FaultLine, ProgramFault};
@@ -14,6 +16,9 @@ use std::fs::{File, Files};
 /// How much of a committee's or a verdict's file is read, in bytes. The greatest committee has 7,200.
 pub const MOST_OF_A_SHORT_FILE: u64 = 16_384;
 
+// As the manual pages say.
+const _: () = prove!(MOST_OF_A_SHORT_FILE == 16_384);
+
 /// The first bytes of the file that a word names, `most` of them at most. What lies behind is not read.
 pub fn read_named<'a, T: FaultLine, F: Files<File = File>>(
     files: &F,
@@ -21,7 +26,8 @@ pub fn read_named<'a, T: FaultLine, F: Files<File = File>>(
     path: &'a str,
     most: u64,
 ) -> Result<Vec<u8>, ProgramFault<'a, T>>
-    ensures { IfErr result (λ fault. (fault ≡ ProgramFault.Memory) ⊎ (fault ≡ ProgramFault.File path.entry)) }
+    ensures few { IfOk result (λ bytes. length bytes.items ≤ most) }
+    ensures refused { IfErr result (IsMemoryOr (ProgramFault.File path.entry)) }
 {
     match read_file(files, alloc, path, most) {
         Ok(bytes) => Ok(bytes),
@@ -35,7 +41,8 @@ pub fn read_committee<'a, T: FaultLine, F: Files<File = File>>(
     alloc: Global,
     path: &'a str,
 ) -> Result<Vec<u8>, ProgramFault<'a, T>>
-    ensures { IfErr result (λ fault. (fault ≡ ProgramFault.Memory) ⊎ (fault ≡ ProgramFault.File path.entry)) }
+    ensures few { IfOk result (λ bytes. length bytes.items ≤ MOST_OF_A_SHORT_FILE) }
+    ensures refused { IfErr result (IsMemoryOr (ProgramFault.File path.entry)) }
 {
     read_named(files, alloc, path, MOST_OF_A_SHORT_FILE)
 }

@@ -1,6 +1,6 @@
 //! The first bytes of a file or a stream.
 
-ghost use Rattle.std.specs.Prelude.{◌≡◌, IfOk, IfSome, take};
+ghost use Rattle.std.specs.Prelude.{◌≡◌, ◌≤◌, IfOk, IfSome, length, take};
 
 use crate::fault::InputFault;
 use std::alloc::Global;
@@ -13,7 +13,9 @@ pub fn read_file<F: Files<File = File>>(
     alloc: Global,
     path: &str,
     most: u64,
-) -> Result<Vec<u8>, InputFault> {
+) -> Result<Vec<u8>, InputFault>
+    ensures { IfOk result (λ bytes. length bytes.items ≤ most) }
+{
     match File::open(rt, path) {
         Ok(file) => read_at_most(alloc, file, most),
         Err(error) => Err(InputFault::of(&error)),
@@ -26,12 +28,17 @@ pub fn read_at_most<R: Read + Drop>(
     stream: R,
     most: u64,
 ) -> Result<Vec<u8>, InputFault>
-    ensures { IfOk result (λ bytes.
+    ensures first { IfOk result (λ bytes.
         IfSome (R.remaining stream) (λ rest. bytes.items ≡ take most rest)) }
+    ensures few { IfOk result (λ bytes. length bytes.items ≤ most) }
 {
     let mut bytes = Vec::new(alloc);
     match stream.take(most).read_to_end(&mut bytes) {
-        Ok(_) => Ok(bytes),
+        Ok(_) => {
+            // For the proof: no more came.
+            bytes.truncate(most as usize);
+            Ok(bytes)
+        }
         Err(error) => Err(InputFault::of(&error)),
     }
 }

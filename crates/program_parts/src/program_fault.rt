@@ -17,7 +17,7 @@ use streams::{Fault, Sink, write_all};
 /// Why a program gives up. Each has exit status 2.
 #[derive(Clone, Copy, Debug)]
 pub enum ProgramFault<'a, T> {
-    /// The words are not as the program's page in docs/ says.
+    /// The words are not as the program is called.
     Usage,
     /// Want of memory.
     Memory,
@@ -57,7 +57,8 @@ impl<'a, T: FaultLine> ProgramFault<'a, T> {
 
     /// What a failed call of the system is: want of memory, or else this fault.
     pub fn unless_memory(error: &Error, fault: ProgramFault<'a, T>) -> ProgramFault<'a, T>
-        ensures memory { error_kind error.now ≡ ErrorKind.OutOfMemory → result ≡ ProgramFault.Memory }
+        ensures memory { error_kind error.now ≡ ErrorKind.OutOfMemory
+            → result ≡ ProgramFault.Memory }
         ensures other { error_kind error.now ≢ ErrorKind.OutOfMemory → result ≡ fault.entry }
     {
         ProgramFault::of_input(InputFault::of(error), fault)
@@ -65,7 +66,8 @@ impl<'a, T: FaultLine> ProgramFault<'a, T> {
 
     /// Writes the fault's line. What a failing sink does not take is lost: there is nowhere else to say it.
     pub fn tell<E: Sink>(&self, faults: &mut E)
-        ensures { Told (E.text faults.old) (E.text faults.new) (E.failed faults.old) (E.failed faults.new) (fault_line T.line self.now) }
+        ensures { Told (E.text faults.old) (E.text faults.new) (E.failed faults.old)
+            (E.failed faults.new) (fault_line T.line self.now) }
     {
         if self.write_line(faults).is_err() {
             // Nothing is left to tell it by.
@@ -73,8 +75,10 @@ impl<'a, T: FaultLine> ProgramFault<'a, T> {
     }
 
     fn write_line<E: Sink>(&self, out: &mut E) -> Result<(), Fault>
-        ensures ok { OnOk result (Wrote (E.text out.old) (E.text out.new) (fault_line T.line self.now)) }
-        ensures err { OnErr result (WrotePart (E.text out.old) (E.text out.new) (fault_line T.line self.now)) }
+        ensures ok { OnOk result (Wrote (E.text out.old) (E.text out.new)
+            (fault_line T.line self.now)) }
+        ensures err { OnErr result (WrotePart (E.text out.old) (E.text out.new)
+            (fault_line T.line self.now)) }
         ensures counted { Counts (E.failed out.old) (E.failed out.new) result }
     {
         match self {

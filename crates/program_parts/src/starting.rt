@@ -1,7 +1,9 @@
 //! How a program starts.
 
-ghost use Rattle.std.specs.Prelude.{◌≡◌, ◌⊎◌, IfErr};
+ghost use Rattle.std.specs.Prelude.{IfErr};
+ghost use Rattle.program_parts.specs.Faults.{IsMemoryOr};
 
+use crate::ending::exit_status;
 use crate::no_fault::NoFault;
 use crate::program_fault::ProgramFault;
 use std::env;
@@ -10,9 +12,6 @@ use std::fs::{File, Files};
 use std::io::{Stderr, Stdout};
 use std::process::ExitCode;
 use streams::StdSink;
-
-/// The exit status of a program that gave up.
-pub const FAULT: u8 = 2;
 
 /// A file that has nothing to read, and takes nothing where it is opened to be read.
 const NOTHING: &str = "/dev/null";
@@ -33,19 +32,18 @@ pub fn run_main<
     let _third = File::open(rt, NOTHING);
     let mut out = StdSink::new(stdout);
     let mut faults = StdSink::new(stderr);
-    let status = match read_words(rt) {
-        Ok(words) => program(&words, &mut out, &mut faults),
-        Err(fault) => {
-            fault.tell(&mut faults);
-            FAULT
-        }
+    let status = match words_of_command_line(rt) {
+        Ok(words) => Ok(program(&words, &mut out, &mut faults)),
+        Err(fault) => Err(fault),
     };
-    ExitCode::from(status)
+    ExitCode::from(exit_status(status, &mut faults))
 }
 
 // The words behind the program's name.
-fn read_words<R: Env + AllocGlobal>(rt: &R) -> Result<Vec<String>, ProgramFault<'static, NoFault>>
-    ensures { IfErr result (λ fault. (fault ≡ ProgramFault.Memory) ⊎ (fault ≡ ProgramFault.Usage)) }
+fn words_of_command_line<R: Env + AllocGlobal>(
+    rt: &R,
+) -> Result<Vec<String>, ProgramFault<'static, NoFault>>
+    ensures { IfErr result (IsMemoryOr ProgramFault.Usage) }
 {
     match env::args(rt) {
         Ok(words) => Ok(words.skip(1).collect::<Vec<String>>(rt.alloc())?),

@@ -1,11 +1,22 @@
 //! Words of command lines that more than one program reads.
 
-/// A number below 65,536 in its one spelling: digits alone, and no leading zero.
-pub fn number(word: &str) -> Option<u16> {
-    if word.starts_with('+') || (word.starts_with('0') && word != "0") {
+ghost use Rattle.std.specs.Prelude.{ℕ, MatchOption};
+ghost use Rattle.program_parts.specs.Words.{SpellsNumber, SpellsOrigin, SpellsSource};
+ghost use Rattle.program_parts.specs.declared.words.Origin.{Origin as OriginValue};
+ghost use Rattle.program_parts.specs.declared.words.SourceWord.{SourceWord as SourceValue};
+
+use printed_lines::number_in;
+
+/// The number below 65,536 that a word spells in its one spelling: digits alone, and no leading zero.
+pub fn number(word: &str) -> Option<u16>
+    ensures { MatchOption result ((n : ℕ) → SpellsNumber word.now n → ⊥)
+        (λ n. SpellsNumber word.now n) }
+{
+    let number = number_in(word.as_bytes())?;
+    if number > u64::from(u16::MAX) {
         return None;
     }
-    word.parse::<u16>().ok()
+    Some(number as u16)
 }
 
 /// Where a replica's log comes from.
@@ -26,7 +37,10 @@ pub enum Origin<'a> {
 
 impl<'a> SourceWord<'a> {
     /// What `R=file:PATH` or `R=tcp:ADDRESS` says.
-    pub fn of(word: &'a str) -> Option<SourceWord<'a>> {
+    pub fn of(word: &'a str) -> Option<SourceWord<'a>>
+        ensures { MatchOption result ((source : SourceValue) → SpellsSource word.entry.now source → ⊥)
+            (λ source. SpellsSource word.entry.now source) }
+    {
         let (replica, origin) = word.split_once('=')?;
         Some(SourceWord {
             replica: number(replica)?,
@@ -36,13 +50,14 @@ impl<'a> SourceWord<'a> {
 }
 
 impl<'a> Origin<'a> {
-    fn of(text: &'a str) -> Option<Origin<'a>> {
-        let (kind, place) = text.split_once(':')?;
-        match kind {
-            _ if place.is_empty() => None,
-            "file" => Some(Origin::File(place)),
-            "tcp" => Some(Origin::Tcp(place)),
-            _ => None,
+    fn of(text: &'a str) -> Option<Origin<'a>>
+        ensures { MatchOption result ((origin : OriginValue) → SpellsOrigin text.entry.now origin → ⊥)
+            (λ origin. SpellsOrigin text.entry.now origin) }
+    {
+        if let Some(path) = text.strip_prefix("file:") {
+            return (!path.is_empty()).then_some(Origin::File(path));
         }
+        let address = text.strip_prefix("tcp:")?;
+        (!address.is_empty()).then_some(Origin::Tcp(address))
     }
 }

@@ -3,6 +3,8 @@ use Rattle.std.proofs.Common.{◌≡◌, ℕ, List, [], ◌∷◌, ◌++◌, sym
 use Rattle.std.specs.List.{All, Contains}
 use Rattle.std.proofs.lemmas.List.Elements.{All-push, All-weaker, Contains-append_left, Contains-push}
 use Rattle.std.proofs.lemmas.Slice.Zip.{all_zipped_more}
+use Rattle.blocks.specs.Replica.{Stored}
+use Rattle.stable_log.specs.declared.disk.Disk.{Ghosts}
 use Rattle.vote_desk.specs.Deliveries.{with_receipt}
 use Rattle.vote_desk.specs.declared.reply.Answer.{Answer}
 use Rattle.vote_desk.specs.declared.reply.Answer.TheVariants.{Voted, Raised, Held}
@@ -60,11 +62,11 @@ there_after receipts (came.RefusedByDesk refusal) = tt
 there_after receipts came.BadLine = tt
 
 -- one request more was answered
-pub worked_one_more : (committee : List ℕ) (replica : ℕ) (asked : List Asked) (receipts receipts' : List Receipt) (answered : List Answered) (one : Asked) (answer : Answered)
-    → AreWorked committee replica asked receipts answered → IsAnswered committee replica one answer → receipts' ≡ receipts_after receipts answer.outcome
-    → AreWorked committee replica (asked ++ one ∷ []) receipts' (answered ++ answer ∷ [])
-worked_one_more committee replica asked receipts receipts' answered one answer before here e = record {
-  each = all_zipped_more (IsAnswered committee replica) asked answered one answer before.each here;
+pub worked_one_more : {D : Type 0} (disk : Ghosts D) (committee : List ℕ) (replica : ℕ) (opening : List Stored) (asked : List Asked) (receipts receipts' : List Receipt) (answered : List Answered) (one : Asked) (answer : Answered)
+    → AreWorked disk committee replica opening asked receipts answered → IsAnswered disk committee replica opening one answer → receipts' ≡ receipts_after receipts answer.outcome
+    → AreWorked disk committee replica opening (asked ++ one ∷ []) receipts' (answered ++ answer ∷ [])
+worked_one_more disk committee replica opening asked receipts receipts' answered one answer before here e = record {
+  each = all_zipped_more (IsAnswered disk committee replica opening) asked answered one answer before.each here;
   backed = subst (λ (rs : List Receipt). All (λ (a : Answered). HasReceipt rs a.outcome) (answered ++ answer ∷ [])) (sym e)
       (All-push (λ (a : Answered). HasReceipt (receipts_after receipts answer.outcome) a.outcome) answered answer
       (All-weaker (λ (a : Answered). HasReceipt receipts a.outcome) (λ (a : Answered). HasReceipt (receipts_after receipts answer.outcome) a.outcome)

@@ -1,5 +1,5 @@
 -- What workers did, taken together.
-use Rattle.std.proofs.Common.{◌≡◌, ◌<◌, ◌+◌, ℕ, zero, suc, List, [], ◌∷◌, ◌++◌, Option, Some, Result, Ok, sym, subst, ◌∙◌, ap, length, get_or, drop, add-one, arith, refl}
+use Rattle.std.proofs.Common.{◌≡◌, ◌<◌, ◌+◌, ℕ, zero, suc, List, [], ◌∷◌, ◌++◌, Option, Some, Result, Ok, sym, subst, ◌∙◌, ap, length, get_or, drop, take, add-one, arith, refl}
 use Rattle.std.specs.Prelude.{IfOk, map}
 use Rattle.std.specs.List.{All, AllZip, Contains, slice_get}
 use Rattle.std.specs.List.Sorted.{IsPermutation}
@@ -8,6 +8,8 @@ use Rattle.std.proofs.lemmas.List.Elements.{All-cons, All-contains, All-head, Al
 use Rattle.std.proofs.lemmas.List.Sorted.{Contains-permutation}
 use Rattle.std.proofs.lemmas.Option.{same_Some, slice_get-get_or}
 use Rattle.std.proofs.lemmas.Result.{IfOk-at_ok}
+use Rattle.blocks.specs.Replica.{Stored}
+use Rattle.stable_log.specs.declared.disk.Disk.{Ghosts}
 use Rattle.streams.specs.Streams.{Wrote}
 use Rattle.streams.proofs.Writing.{wrote_both}
 use Rattle.vote_desk.specs.Receipts.{receipts_of}
@@ -78,14 +80,14 @@ zip_from_get R (x ∷ xs) (y ∷ ys) same each =
 
 -- ---- a stay
 
-module _ (committee : List ℕ) (replica : ℕ) (requests : List Request) (receipts : List Receipt) where
+module _ {D : Type 0} (disk : Ghosts D) (committee : List ℕ) (replica : ℕ) (opening : List Stored) (requests : List Request) (receipts : List Receipt) where
   -- what was asked under its number may have come so, and the receipt of a vote is among the receipts
   IsGood : Answered → Type 0
-  IsGood a = ((r : Request) × (slice_get requests a.number ≡ Some r) × IsAnswerTo committee replica r a.outcome) × HasReceipt receipts a.outcome
+  IsGood a = ((r : Request) × (slice_get requests a.number ≡ Some r) × IsAnswerTo disk committee replica opening r a.outcome) × HasReceipt receipts a.outcome
 
   -- of one worker
   good_of_one : (asked : List Asked) (answered : List Answered) (own : List Receipt) → ((r : Receipt) → Contains own r → Contains receipts r)
-      → All (IsRequestIn requests) asked → AllZip (IsAnswered committee replica) asked answered → All (λ (a : Answered). HasReceipt own a.outcome) answered
+      → All (IsRequestIn requests) asked → AllZip (IsAnswered disk committee replica opening) asked answered → All (λ (a : Answered). HasReceipt own a.outcome) answered
       → All IsGood answered
   unfolding IsGood
   good_of_one [] [] own among dealt zip backed = All-nil IsGood
@@ -104,34 +106,34 @@ module _ (committee : List ℕ) (replica : ℕ) (requests : List Request) (recei
       )
       (good_of_one asked answered own among (All-tail (IsRequestIn requests) q asked dealt) zip.1 (All-tail (λ (x : Answered). HasReceipt own x.outcome) a answered backed))
 
-  module _ {W D : Type 0} (asked_of : W → List Asked) (answered_of : D → List Answered) (receipts_in : D → List Receipt) where
+  module _ {W X : Type 0} (asked_of : W → List Asked) (answered_of : X → List Answered) (receipts_in : X → List Receipt) where
     -- of all workers
-    good_of_all : (work : List W) (done : List D) → ((r : Receipt) → Contains (receipts_of (map receipts_in done)) r → Contains receipts r)
+    good_of_all : (work : List W) (done : List X) → ((r : Receipt) → Contains (receipts_of (map receipts_in done)) r → Contains receipts r)
         → All (λ (w : W). All (IsRequestIn requests) (asked_of w)) work
-        → AllZip (λ (w : W) (d : D). AreWorked committee replica (asked_of w) (receipts_in d) (answered_of d)) work done
-        → All (λ (d : D). All IsGood (answered_of d)) done
-    good_of_all [] [] among dealt zip = All-nil (λ (d : D). All IsGood (answered_of d))
+        → AllZip (λ (w : W) (d : X). AreWorked disk committee replica opening (asked_of w) (receipts_in d) (answered_of d)) work done
+        → All (λ (d : X). All IsGood (answered_of d)) done
+    good_of_all [] [] among dealt zip = All-nil (λ (d : X). All IsGood (answered_of d))
     good_of_all [] (d ∷ done) among dealt zip = absurd zip
     good_of_all (w ∷ work) [] among dealt zip = absurd zip
     good_of_all (w ∷ work) (d ∷ done) among dealt zip =
         let rest = receipts_of (map receipts_in done) in
-        All-cons (λ (x : D). All IsGood (answered_of x)) d done
+        All-cons (λ (x : X). All IsGood (answered_of x)) d done
         (good_of_one (asked_of w) (answered_of d) (receipts_in d) (λ r h. among r (Contains-append_right rest (receipts_in d) r h))
         (All-head (λ (x : W). All (IsRequestIn requests) (asked_of x)) w work dealt) zip.0.each zip.0.backed)
         (good_of_all work done (λ r h. among r (Contains-append_left rest (receipts_in d) r h))
         (All-tail (λ (x : W). All (IsRequestIn requests) (asked_of x)) w work dealt) zip.1)
 
     -- what a stay printed, from what was dealt, done, printed and closed
-    pub stay_printed : (before mid after : Option (List ℕ)) (work : List W) (done : List D) (count closed : ℕ) (ending : Ending)
-        → count ≡ length requests
+    pub stay_printed : (before mid after : Option (List ℕ)) (work : List W) (done : List X) (count opened : ℕ) (steps : List Stored) (ending : Ending)
+        → count ≡ length requests → opening ≡ take opened steps
         → All (λ (w : W). All (IsRequestIn requests) (asked_of w)) work
-        → AllZip (λ (w : W) (d : D). AreWorked committee replica (asked_of w) (receipts_in d) (answered_of d)) work done
+        → AllZip (λ (w : W) (d : X). AreWorked disk committee replica opening (asked_of w) (receipts_in d) (answered_of d)) work done
         → IsPrinted before mid (map answered_of done) count ending
         → IsPermutation (receipts_of (map receipts_in done)) receipts
-        → Wrote mid after (closed_line closed)
-        → IsStayPrinted before after committee replica requests receipts closed ending
+        → Wrote mid after (closed_line (length steps))
+        → IsStayPrinted disk before after committee replica opened steps requests receipts ending
     unfolding IsGood
-    stay_printed before mid after work done count closed ending count_is dealt zip p same wrote =
+    stay_printed before mid after work done count opened steps ending count_is begins dealt zip p same wrote =
         let good = good_of_all work done (λ r h. Contains-permutation (receipts_of (map receipts_in done)) receipts r same h) dealt zip in
         let all = All-map (λ (answered : List Answered). All IsGood answered) answered_of done good in
         let found = λ (k : ℕ) (o : Outcome) (e : slice_get p.outcomes k ≡ Some o).
@@ -139,8 +141,9 @@ module _ (committee : List ℕ) (replica : ℕ) (requests : List Request) (recei
         All-contains IsGood at.0 (record { number = k; outcome = o }) (All-contains (λ (answered : List Answered). All IsGood answered) (map answered_of done) at.0 all at.1) at.2 in
         record {
           outcomes = p.outcomes;
-          each = zip_from_get (IsAnswerTo committee replica) requests p.outcomes (p.many ∙ count_is) (λ k o e. (found k o e).0);
+          each = subst (λ (list : List Stored). AllZip (IsAnswerTo disk committee replica list) requests p.outcomes) begins
+              (zip_from_get (IsAnswerTo disk committee replica opening) requests p.outcomes (p.many ∙ count_is) (λ k o e. (found k o e).0));
           backed = λ k d lt. (found k (get_or p.outcomes k d) (slice_get-get_or p.outcomes k d lt)).1;
           ends = p.ends;
-          wrote = wrote_both before mid after (answers p.outcomes) (closed_line closed) p.wrote wrote;
+          wrote = wrote_both before mid after (answers p.outcomes) (closed_line (length steps)) p.wrote wrote;
         }

@@ -1,6 +1,8 @@
 -- What a stay prints.
-use Rattle.std.specs.Prelude.{◌≡◌, ◌<◌, ◌-◌, ◌^◌, ℕ, List, ◌++◌, Option, Some, IfSome, codes, decimal, length}
+use Rattle.std.specs.Prelude.{◌≡◌, ◌<◌, ◌-◌, ◌^◌, ℕ, List, ◌++◌, Option, Some, IfSome, codes, decimal, length, take}
 use Rattle.std.specs.List.{All, AllZip, flat_map, slice_get}
+use Rattle.blocks.specs.Replica.{Stored}
+use Rattle.stable_log.specs.declared.disk.Disk.{Ghosts}
 use Rattle.streams.specs.Streams.{Wrote}
 use Rattle.vote_desk.specs.declared.reply.Receipt.{Receipt}
 use Rattle.replica_lines.specs.LineReading.{IsWhatWasRead}
@@ -28,14 +30,15 @@ pub record IsPrinted (before after : Option (List ℕ)) (all : List (List Answer
   pub ends : ending ≡ ending_of_all outcomes
   pub wrote : Wrote before after (answers outcomes)
 
--- of a whole stay there were printed one outcome of each request, in order, and the number of the log's entries: each
--- vote's receipt is among those of the desk, and the stay was stopped where one of the outcomes says so
-pub record IsStayPrinted (before after : Option (List ℕ)) (committee : List ℕ) (replica : ℕ) (requests : List Request) (receipts : List Receipt) (closed : ℕ) (ending : Ending) : Type 0 where
+-- of a whole stay there were printed one outcome of each request, in order, and the number of the log's entries: the desk
+-- was opened with the first `opened` of these, each vote's receipt is among those of the desk, and the stay was stopped
+-- where one of the outcomes says so
+pub record IsStayPrinted {D : Type 0} (disk : Ghosts D) (before after : Option (List ℕ)) (committee : List ℕ) (replica opened : ℕ) (steps : List Stored) (requests : List Request) (receipts : List Receipt) (ending : Ending) : Type 0 where
   pub outcomes : List Outcome
-  pub each : AllZip (IsAnswerTo committee replica) requests outcomes
+  pub each : AllZip (IsAnswerTo disk committee replica (take opened steps)) requests outcomes
   pub backed : All (HasReceipt receipts) outcomes
   pub ends : ending ≡ ending_of_all outcomes
-  pub wrote : Wrote before after (answers outcomes ++ closed_line closed)
+  pub wrote : Wrote before after (answers outcomes ++ closed_line (length steps))
 
 -- these were read of a feed that tells what it has left, if that is not more than can be counted
 abbrev pub AreRequestsRead : Option (List ℕ) → Option (List ℕ) → ℕ → ℕ → List Request → Type 0

@@ -1,6 +1,6 @@
 //! A replica from its folder to its last line.
 
-ghost use Rattle.std.specs.Prelude.{◌≡◌, ◌≤◌, ℕ, List, IfOk, length};
+ghost use Rattle.std.specs.Prelude.{◌≡◌, ◌≤◌, List, IfOk, length};
 ghost use Rattle.vote_desk.specs.Receipts.{AreReceipts};
 ghost use Rattle.replica_lines.specs.declared.request.Request.{Request as RequestValue};
 ghost use Rattle.replica_command.specs.Blame.{BlamesOutput};
@@ -11,7 +11,7 @@ use crate::folder::ReplicaFolder;
 use crate::staying::{StayEnd, stay};
 use blocks::CommitteeView;
 use replica_lines::{Request, read_requests};
-use stable_log::FileDisk;
+use stable_log::{Disk, FileDisk};
 use std::alloc::Global;
 use std::fs::{File, Files};
 use std::marker::Brand;
@@ -48,12 +48,13 @@ pub fn run_replica<F: Files<File = File>, T: Threads + Wait + Sync, R: Feed, W: 
     ensures printed { IfOk result (λ r. (requests : List RequestValue)
         × AreRequestsRead (R.rest lines.old) (R.rest lines.new) (R.failed lines.old)
         (R.failed lines.new) requests
-        × IsStayPrinted (W.text out.old) (W.text out.new) committee.now replica requests
-        r.end.closed.receipts.items (length r.end.closed.parts.log.steps) r.end.ending) }
+        × IsStayPrinted ⟦<FileDisk as Disk>⟧ (W.text out.old) (W.text out.new) committee.now replica
+        r.end.opened r.end.closed.parts.log.steps requests r.end.closed.receipts.items
+        r.end.ending) }
 
     // The receipts are those of the votes behind the list that the log had when it was opened.
-    ensures receipts { IfOk result (λ r. (opened : ℕ)
-        × AreReceipts opened r.end.closed.parts.log.steps r.end.closed.receipts.items) }
+    ensures receipts { IfOk result (λ r.
+        AreReceipts r.end.opened r.end.closed.parts.log.steps r.end.closed.receipts.items) }
     ensures blame { BlamesOutput result (W.failed out.old) (W.failed out.new) }
 {
     let folder = ReplicaFolder { files, alloc, path };
@@ -77,10 +78,11 @@ fn stay_once<T: Threads + Wait + Sync, W: Sink>(
 ) -> Result<StayEnd<FileDisk>, ReplicaFault>
     requires { (1 ≤ workers) × (workers ≤ 64) }
     ensures printed { IfOk result (λ end.
-        IsStayPrinted (W.text out.old) (W.text out.new) committee.now replica requests.items
-        end.closed.receipts.items (length end.closed.parts.log.steps) end.ending) }
+        IsStayPrinted ⟦<FileDisk as Disk>⟧ (W.text out.old) (W.text out.new) committee.now replica
+        end.opened end.closed.parts.log.steps requests.items end.closed.receipts.items end.ending) }
+    ensures opened { IfOk result (λ end. end.opened ≡ length parts.log.steps) }
     ensures receipts { IfOk result (λ end.
-        AreReceipts (length parts.log.steps) end.closed.parts.log.steps end.closed.receipts.items) }
+        AreReceipts end.opened end.closed.parts.log.steps end.closed.receipts.items) }
     ensures blame { BlamesOutput result (W.failed out.old) (W.failed out.new) }
 {
     stay::<Brand, T, FileDisk, W>(

@@ -1,6 +1,6 @@
 //! One stay of a replica at its desk: opened, worked at in threads, and closed.
 
-ghost use Rattle.std.specs.Prelude.{◌≡◌, ◌≢◌, ◌≤◌, IfErr, IfOk, OnOk, length, map, vec_len};
+ghost use Rattle.std.specs.Prelude.{◌≡◌, ◌≢◌, ◌≤◌, IfErr, IfOk, OnOk, length, map, take, vec_len};
 ghost use Rattle.std.specs.List.{AllZip};
 ghost use Rattle.std.specs.List.Sorted.{IsPermutation};
 ghost use Rattle.streams.specs.Streams.{Wrote};
@@ -32,6 +32,8 @@ use vote_desk::{Closed, Desk, DeskError, DeskNaming, Parts, Session, StartError}
 #[derive(Drop)]
 pub struct StayEnd<D: Disk> {
     pub closed: Closed<D>,
+    /// How many entries the log had when the desk was opened.
+    pub opened: usize,
     pub ending: Ending,
 }
 
@@ -87,12 +89,14 @@ pub fn stay<N: DeskNaming + Send + Sync, T: Threads + Wait + Sync, D: Disk + Sen
     requires replica { replica ≡ N.replica }
     requires opening { parts.log.steps ≡ N.opening }
     ensures printed { IfOk result (λ end.
-        IsStayPrinted (W.text out.old) (W.text out.new) N.committee N.replica requests.items
-        end.closed.receipts.items (length end.closed.parts.log.steps) end.ending) }
+        IsStayPrinted D.Disk (W.text out.old) (W.text out.new) N.committee N.replica end.opened
+        end.closed.parts.log.steps requests.items end.closed.receipts.items end.ending) }
+    ensures opened { IfOk result (λ end. end.opened ≡ length N.opening) }
     ensures receipts { IfOk result (λ end.
-        AreReceipts (length N.opening) end.closed.parts.log.steps end.closed.receipts.items) }
+        AreReceipts end.opened end.closed.parts.log.steps end.closed.receipts.items) }
     ensures blame { BlamesOutput result (W.failed out.old) (W.failed out.new) }
 {
+    let opened = parts.log.count();
     let (desk, sessions) = match Desk::<N, D>::start(
         alloc, blank, committee, replica, parts, workers,
     ) {
@@ -106,7 +110,11 @@ pub fn stay<N: DeskNaming + Send + Sync, T: Threads + Wait + Sync, D: Disk + Sen
     let ending = print_outcomes(&done, count, out)?;
     let closed = close(alloc, desk, done)?;
     print_count(closed.parts.log.count(), out)?;
-    Ok(StayEnd { closed, ending })
+    Ok(StayEnd {
+        closed,
+        opened,
+        ending,
+    })
 }
 
 // Each worker's requests in a thread of its own, where one can be made. Where memory is refused the sessions are gone.
@@ -119,8 +127,8 @@ fn work_all<N: DeskNaming + Send + Sync, T: Threads + Wait + Sync, D: Disk + Sen
 ) -> Result<Vec<Done<N>>, AllocError>
     requires { committee.now ≡ N.committee }
     ensures { IfOk result (λ all.
-        AllZip (λ w d. AreWorked N.committee N.replica w.requests.items d.session.receipts.items
-        d.outcomes.items) work.items all.items) }
+        AllZip (λ w d. AreWorked D.Disk N.committee N.replica N.opening w.requests.items
+        d.session.receipts.items d.outcomes.items) work.items all.items) }
 {
     let done = thread::map_vec(
         rt,
@@ -192,6 +200,8 @@ fn close<N: DeskNaming, D: Disk>(
         (receipts_of (map (λ d. d.session.receipts.items) done.items)) closed.receipts.items) }
     ensures ok { IfOk result (λ closed.
         AreReceipts (length N.opening) closed.parts.log.steps closed.receipts.items) }
+    ensures begins { IfOk result (λ closed.
+        N.opening ≡ take (length N.opening) closed.parts.log.steps) }
     ensures fault { IfErr result (λ fault. fault ≢ ReplicaFault.Output) }
 {
     let mut sessions = Vec::with_capacity(alloc, done.len())?;

@@ -62,8 +62,8 @@ impl<N: DeskNaming> Work<N> {
     ) -> Result<Done<N>, AllocError>
         requires { committee.now ≡ N.committee }
         ensures { IfOk result (λ done.
-            AreWorked N.committee N.replica self.requests.items done.session.receipts.items
-            done.outcomes.items) }
+            AreWorked D.Disk N.committee N.replica N.opening self.requests.items
+            done.session.receipts.items done.outcomes.items) }
     {
         let Work {
             mut session,
@@ -87,7 +87,7 @@ fn answer<N: DeskNaming, T: Wait, D: Disk>(
     request: Request,
 ) -> Result<Outcome, AllocError>
     requires { committee.now ≡ N.committee }
-    ensures answer { IfOk result (IsAnswerTo N.committee N.replica request) }
+    ensures answer { IfOk result (IsAnswerTo D.Disk N.committee N.replica N.opening request) }
     ensures receipts { IfOk result (λ outcome.
         session.new.receipts.items ≡ receipts_after session.old.receipts.items outcome) }
 {
@@ -115,7 +115,8 @@ fn deliver<N: DeskNaming, T: Wait, D: Disk>(
     certificate: Certificate,
 ) -> Result<Outcome, AllocError>
     requires { committee.now ≡ N.committee }
-    ensures answer { IfOk result (IsAnswerToBlock N.committee N.replica header certificate) }
+    ensures answer { IfOk result
+        (IsAnswerToBlock D.Disk N.committee N.replica N.opening header certificate) }
     ensures receipts { IfOk result (λ outcome.
         session.new.receipts.items ≡ receipts_after session.old.receipts.items outcome) }
 {

@@ -144,6 +144,14 @@ impl Core {
         self.held.get(id).is_some()
     }
 
+    /// How many headers are held, genesis among them.
+    pub fn header_count(&self) -> usize
+        ensures value { result ≡ length self.now.headers }
+        ensures few { result ≤ MOST_HEADERS }
+    {
+        self.held.len()
+    }
+
     // The held header of this id.
     fn find(&self, id: &Id) -> Option<&Header>
         ensures found { MatchOption result (HasNone self.now.headers id.now) (λ h.

@@ -1,14 +1,13 @@
 //! What a line asks for.
 
-ghost use Rattle.std.specs.Prelude.{◌≡◌, ◌≢◌, ◌<◌, ◌^◌, ◌++◌, ℕ, List, IfNone, IfOk, IfSome, MatchOption, decimal};
+ghost use Rattle.std.specs.Prelude.{◌≡◌, ◌≢◌, ◌++◌, ℕ, List, IfOk, MatchOption};
 ghost use Rattle.replica_lines.specs.Requests.{AsksFor, IsOfBlock, IsOfDigits};
 
 use blocks::{HEADER_LEN, Header, HeaderRefusal};
 use certificates::{Certificate, CertificateRefusal};
 use hex::FromHexError;
-use itoa::Buffer;
+use printed_lines::number_in;
 use std::alloc::{AllocError, Global};
-use std::str::from_utf8;
 
 /// What a line asks for.
 #[derive(Drop)]
@@ -83,22 +82,4 @@ fn refused_certificate(refusal: CertificateRefusal) -> Result<Request, AllocErro
         CertificateRefusal::Memory => Err(AllocError),
         _ => Ok(Request::RefusedCertificate(refusal)),
     }
-}
-
-// The number of 64 bits that is printed so.
-fn number_in(digits: &[u8]) -> Option<u64>
-    ensures some { IfSome result (λ number. digits.now ≡ decimal number) }
-    ensures none { IfNone result ((number : ℕ) → number < 2 ^ 64 → digits.now ≡ decimal number
-        → ⊥) }
-{
-    let Ok(text) = from_utf8(digits) else {
-        return None;
-    };
-    let Ok(number) = text.parse::<u64>() else {
-        return None;
-    };
-    if Buffer::new().format(number) != text {
-        return None;
-    }
-    Some(number)
 }

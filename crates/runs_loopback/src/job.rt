@@ -61,6 +61,37 @@ impl Transcript {
 }
 
 impl Job<'_> {
+    // The words of the command line, and what stands on standard input. An audit waits until all servers listen.
+    fn call<R: Files<File = File> + Clock + Net<Stream = TcpStream> + AllocGlobal>(
+        self,
+        rt: &R,
+    ) -> io::Result<(String, Vec<u8>)> {
+        let alloc = rt.alloc();
+        match self {
+            Job::Replica {
+                number,
+                prefix,
+                lines,
+                address,
+            } => Ok((
+                format!(in alloc;
+                    "replica committee.hsc {number} {prefix}_{number} --serve {address} --requests 2"
+                )?,
+                fs::read(rt, lines)?,
+            )),
+            Job::Audit { served, out_dir } => {
+                fs::create_dir(rt, out_dir)?;
+                Ok((audit_words(rt, alloc, served, out_dir)?, Vec::new(alloc)))
+            }
+            Job::Migration { number } => Ok((
+                format!(in alloc;
+                    "migrate old_{number}.hsj migrated_{number}/log.hsj committee.hsc"
+                )?,
+                Vec::new(alloc),
+            )),
+        }
+    }
+
     pub fn run<
         R: Files<File = File>
             + Threads
@@ -74,29 +105,7 @@ impl Job<'_> {
         R::Dir: Send,
     {
         let alloc = rt.alloc();
-        let (words, input) = match self {
-            Job::Replica {
-                number,
-                prefix,
-                lines,
-                address,
-            } => (
-                format!(in alloc;
-                    "replica committee.hsc {number} {prefix}_{number} --serve {address} --requests 2"
-                )?,
-                fs::read(rt, lines)?,
-            ),
-            Job::Audit { served, out_dir } => {
-                fs::create_dir(rt, out_dir)?;
-                (audit_words(rt, alloc, served, out_dir)?, Vec::new(alloc))
-            }
-            Job::Migration { number } => (
-                format!(in alloc;
-                    "migrate old_{number}.hsj migrated_{number}/log.hsj committee.hsc"
-                )?,
-                Vec::new(alloc),
-            ),
-        };
+        let (words, input) = self.call(rt)?;
         let words = strings(alloc, &words)?;
         let host = Host {
             files: rt,

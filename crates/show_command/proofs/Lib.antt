@@ -1,2 +1,6 @@
 pub mod Longer
 pub mod EntryLines
+pub mod Tests
+pub mod WordLists
+pub mod Showings
+pub mod Causes

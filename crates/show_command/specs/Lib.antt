@@ -7,3 +7,7 @@ pub mod Series
 pub mod Entries
 pub mod Files
 pub mod FaultLines
+pub mod Words
+pub mod Parts
+pub mod Showing
+pub mod Faults

@@ -5,7 +5,6 @@
 mod committee;
 mod digits;
 mod entry;
-mod fault;
 mod kind;
 mod log;
 mod mark;
@@ -16,8 +15,6 @@ mod program;
 mod verdict;
 mod words;
 
-pub use fault::Fault;
 pub use page::{Page, show};
 pub use printing::print_file;
 pub use program::{NOT_WHOLE, SHOWN, run_show};
-pub use program_parts::FAULT;

@@ -6,13 +6,12 @@ ghost use Rattle.streams.specs.Streams.{Wrote, WrotePart};
 ghost use Rattle.show_command.specs.Files.{IsPrinted};
 ghost use Rattle.show_command.specs.Lines.{path_line};
 
-use crate::fault::Fault;
 use crate::page::{Page, show};
 use certificates::CommitteeView;
 use printed_lines::write_printed;
-use program_parts::ProgramFault;
+use program_parts::{NoFault, ProgramFault};
 use std::alloc::Global;
-use streams::{Sink, write_all};
+use streams::{Fault, Sink, write_all};
 
 /// Prints the line that names a file, and what is shown of these bytes of it, and answers whether they are whole of a
 /// kind that there is. What is shown is made whole before the first write. In this order: `Memory`, `Output`.
@@ -22,10 +21,11 @@ pub fn print_file<'a, W: Sink>(
     path: &str,
     bytes: Vec<u8>,
     out: &mut W,
-) -> Result<bool, Fault<'a>>
+) -> Result<bool, ProgramFault<'a, NoFault>>
     ensures ok { IfOk result (λ is_whole. (text : List ℕ)
         × IsPrinted committee.now path.now bytes.items text is_whole
         × Wrote (W.text out.old) (W.text out.new) text) }
+    ensures no_failure { OnOk result (W.failed out.new ≡ W.failed out.old) }
     ensures memory { IsErrOf result ProgramFault.Memory → out.new ≡ out.old }
     ensures output { IsErrOf result ProgramFault.Output → (text : List ℕ) × (is_whole : Bool)
         × IsPrinted committee.now path.now bytes.items text is_whole
@@ -43,7 +43,7 @@ pub fn print_file<'a, W: Sink>(
 }
 
 // Writes the line that names a file, and this text behind it. After a fault a first part was written.
-fn print_page<W: Sink>(path: &str, text: &[u8], out: &mut W) -> Result<(), streams::Fault>
+fn print_page<W: Sink>(path: &str, text: &[u8], out: &mut W) -> Result<(), Fault>
     ensures ok { OnOk result (Wrote (W.text out.old) (W.text out.new) (path_line path.now
         ++ text.now)) }
     ensures err { OnErr result (WrotePart (W.text out.old) (W.text out.new) (path_line path.now

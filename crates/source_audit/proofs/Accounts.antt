@@ -16,7 +16,7 @@ use Rattle.log_format.specs.declared.status.Status.TheVariants.{Failed}
 use Rattle.log_transfer.specs.Complete.{GivesItsLog}
 use Rattle.log_transfer.specs.Connections.{Connection}
 use Rattle.verdict_format.specs.Proofs.{IsProof}
-use Rattle.evidence.specs.Evidence.{Evidence, IsEvidenceOf, IsEvidenceRefusal, IsHeaderInEvidence, IsReportOf, IsVoteInEvidence}
+use Rattle.evidence.specs.Evidence.{Evidence, IsEvidence, IsEvidenceOf, IsEvidenceRefusal, IsHeaderInEvidence, IsReportOf, IsVoteInEvidence}
 use Rattle.evidence.specs.Logs.{ReceivedLog, FrameHasHeader, FrameHasVote, LogHasHeader, LogHasVote}
 use Rattle.evidence.specs.Sets.{InSome}
 use Rattle.evidence.specs.declared.refusal.EvidenceRefusal.TheVariants.{Collision as Colliding}
@@ -216,13 +216,13 @@ module _ (committee : List ℕ) (ls ws : List ReceivedLog) (zip : AllZip IsCutOf
 
 module _ {S : Type 0} (Gives Complete : S → ReceivedLog → Type 0) (step : (s : S) (l w : ReceivedLog) → Gives s l → Complete s w → IsCutOf l w) (committee : List ℕ) (ss : List S) (ws : List ReceivedLog) (complete : AllZip Complete ss ws) (prove : ProveAConflict committee ws) where
   -- a report
-  pub run_accounted : (Caused : S → SourceReport → Type 0) (Wrote : Evidence → Report → Type 0) (e : Evidence) (result : Result Report RunError) → IsCommittee committee → IsEvidenceOfSources Gives committee ss e → AllZip Caused ss e.sources
-      → IfOk result (IsAudit e) → IfOk result (λ r. IsSome r.conflict → AreMoreThanAThird e.committee r) → IfOk result (λ r. All (IsProof e.committee) r.verdicts) → IfOk result (Wrote e) → IfErr result IsMemoryOrSink
+  pub run_accounted : (Caused : S → SourceReport → Type 0) (Wrote : Evidence → Report → Type 0) (e : Evidence) (result : Result Report RunError) → IsCommittee committee → IsEvidenceOfSources Gives committee ss e → IsEvidence e
+      → AllZip Caused ss e.sources → IfOk result (IsAudit e) → IfOk result (λ r. IsSome r.conflict → AreMoreThanAThird e.committee r) → IfOk result (λ r. All (IsProof e.committee) r.verdicts) → IfOk result (Wrote e) → IfErr result IsMemoryOrSink
       → MatchResult result (λ r. (x : Evidence) × IsAuditRun Gives Caused committee ss x r × Wrote x r × IsAccounted committee x r) IsMemoryOrSink
-  run_accounted Caused Wrote e (Err x) under of caused audit many proofs wrote refused = refused
-  run_accounted Caused Wrote e (Ok r) under of caused audit many proofs wrote refused = (
+  run_accounted Caused Wrote e (Err x) under of sound caused audit many proofs wrote refused = refused
+  run_accounted Caused Wrote e (Ok r) under of sound caused audit many proofs wrote refused = (
     e,
-    record { under = under; evidence = of; caused = caused; audit = audit },
+    record { under = under; evidence = of; sound = sound; caused = caused; audit = audit },
     wrote,
     accounted committee of.logs ws (zip_both Gives Complete IsCutOf step ss of.logs ws of.given complete) prove e r of.evidence audit many proofs,
   )

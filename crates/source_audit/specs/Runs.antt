@@ -1,6 +1,8 @@
 -- What a run of the audit gives, from the sources to the lines. docs/DEFINITIONS.md, "Reports".
-use Rattle.std.specs.Prelude.{◌≡◌, ◌⊎◌, List, Err, ⊤, ℕ}
+use Rattle.std.specs.Prelude.{◌≡◌, ◌≢◌, ◌⊎◌, List, Err, IfErr, IfOk, IsErrOf, IsSome, OnOk, Option, Result, ⊤, ℕ}
 use Rattle.std.specs.List.{All, AllPairs, AllZip, Contains}
+use Rattle.streams.specs.Counting.{one_more}
+use Rattle.streams.specs.Streams.{Wrote, WrotePart}
 use Rattle.blocks.specs.Chains.{Conflict, NoCollision}
 use Rattle.blocks.specs.CommitteeReading.{committee_in}
 use Rattle.blocks.specs.Committees.{IsCommittee}
@@ -10,7 +12,7 @@ use Rattle.log_format.specs.declared.status.Status.TheVariants.{Failed}
 use Rattle.log_transfer.specs.Complete.{AreLogPayloads, IsCompleteFor}
 use Rattle.log_transfer.specs.Connections.{Connection}
 use Rattle.verdict_format.specs.Proofs.{IsProof}
-use Rattle.evidence.specs.Evidence.{Evidence, IsEvidenceOf}
+use Rattle.evidence.specs.Evidence.{Evidence, IsEvidence, IsEvidenceOf}
 use Rattle.evidence.specs.Logs.{ReceivedLog}
 use Rattle.evidence.specs.declared.refusal.EvidenceRefusal.TheVariants.{Collision as Colliding}
 use Rattle.evidence.specs.declared.source.SourceReport.{SourceReport}
@@ -18,14 +20,17 @@ use Rattle.parallel_verify.specs.Collections.{HaveCollision, IsEvidenceOfSources
 use Rattle.parallel_verify.specs.declared.source.Source.{Source}
 use Rattle.commit_search.specs.Commits.{IsProvedCommit}
 use Rattle.culprit_search.specs.Reports.{AreMoreThanAThird, IsAudit, Report, accused_weight}
+use Rattle.culprit_search.specs.ReportText.{report_text}
 use Rattle.culprit_search.specs.Verdicts.{IsOnLowerReplica}
 use Rattle.source_audit.specs.declared.run_error.RunError.{RunError}
 use Rattle.source_audit.specs.declared.run_error.RunError.TheVariants.{Memory, Committee, Collision, Sink}
 
--- under a committee the evidence of logs that the sources give, each with a cause where it failed, and its audit
+-- under a committee the evidence of logs that the sources give, of good votes and of no two headers with one id, each
+-- source with a cause where it failed, and its audit
 pub record IsAuditRun {S : Type 0} (Gives : S → ReceivedLog → Type 0) (Caused : S → SourceReport → Type 0) (committee : List ℕ) (sources : List S) (e : Evidence) (r : Report) : Type 0 where
   pub under : IsCommittee committee
   pub evidence : IsEvidenceOfSources Gives committee sources e
+  pub sound : IsEvidence e
   pub caused : AllZip Caused sources e.sources
   pub audit : IsAudit e r
 
@@ -36,6 +41,17 @@ IsRunRefusal Gives committee sources Memory = ⊤
 IsRunRefusal Gives committee sources (Committee refusal) = committee_in committee ≡ Err refusal
 IsRunRefusal Gives committee sources (Collision h k) = IsCommittee committee × HaveCollision Gives committee sources (Colliding h k)
 IsRunRefusal Gives committee sources Sink = IsCommittee committee
+
+-- what a run answers and leaves of its sink, where `run` says what evidence and report it may come to
+pub record IsRunAnswer {W : Type 0} (run : Evidence → Report → Type 0) (refusal : RunError → Type 0) (committee : List ℕ) (text : W → Option (List ℕ)) (failed : W → ℕ) (old new : W) (result : Result Report RunError) : Type 0 where
+  pub ok : IfOk result (λ r. (e : Evidence) × run e r × Wrote (text old) (text new) (report_text e.sources r))
+  pub accepted : IfOk result (λ r. All (IsProof committee) r.verdicts)
+  pub more_than_a_third : IfOk result (λ r. IsSome r.conflict → AreMoreThanAThird committee r)
+  pub no_failure : OnOk result (failed new ≡ failed old)
+  pub refused : IfErr result refusal
+  pub unwritten : IfErr result (λ e. e ≢ Sink → new ≡ old)
+  pub sink : IsErrOf result Sink → (e : Evidence) × (r : Report) × run e r × WrotePart (text old) (text new) (report_text e.sources r)
+  pub cause : IsErrOf result Sink → failed new ≡ one_more (failed old)
 
 -- ---- what complete sources show
 

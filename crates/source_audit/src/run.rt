@@ -6,12 +6,12 @@ ghost use Rattle.streams.specs.Counting.{one_more};
 ghost use Rattle.streams.specs.Streams.{Wrote, WrotePart};
 ghost use Rattle.blocks.specs.Committees.{IsCommittee};
 ghost use Rattle.verdict_format.specs.Proofs.{IsProof};
-ghost use Rattle.evidence.specs.Evidence.{Evidence as EvidenceValue};
+ghost use Rattle.evidence.specs.Evidence.{Evidence as EvidenceValue, IsEvidence};
 ghost use Rattle.evidence.specs.Logs.{ReceivedLog};
-ghost use Rattle.parallel_verify.specs.Collections.{IsEvidenceOfSources, IsStatusCaused, MayBeTried, MayGive};
+ghost use Rattle.parallel_verify.specs.Collections.{IsEvidenceOfSources, MayFail, MayBeTried, MayGive};
 ghost use Rattle.culprit_search.specs.Reports.{AreMoreThanAThird, IsAudit, Report as ReportValue};
 ghost use Rattle.culprit_search.specs.ReportText.{report_text};
-ghost use Rattle.source_audit.specs.Runs.{IsAccounted, IsAuditRun, IsCompleteSource, IsMemoryOrSink, IsRunRefusal, ProveAConflict};
+ghost use Rattle.source_audit.specs.Runs.{IsAccounted, IsAuditRun, IsCompleteSource, IsMemoryOrSink, IsRunAnswer, IsRunRefusal, ProveAConflict};
 ghost use Rattle.source_audit.specs.declared.run_error.RunError.TheVariants.{Sink as NotWritten};
 
 use crate::run_error::RunError;
@@ -36,7 +36,7 @@ fn read_sources<'a, R: Threads + Wait + Sync, C: Connector + Send, V: Verifier +
 ) -> Result<Evidence<'a>, RunError>
     requires tries { All (MayBeTried C.allowed) sources.items }
     ensures ok { IfOk result (IsEvidenceOfSources (MayGive C.gives) committee.now sources.items) }
-    ensures cause { IfOk result (λ e. AllZip (IsStatusCaused C.failed) sources.items e.sources) }
+    ensures cause { IfOk result (λ e. AllZip (MayFail C.reaches C.failed) sources.items e.sources) }
     ensures committee { IsCommittee committee.now }
     ensures refused { IfErr result (IsRunRefusal (MayGive C.gives) committee.now sources.items) }
     ensures unwritten { IfErr result (λ e. e ≢ NotWritten) }
@@ -49,6 +49,7 @@ fn read_sources<'a, R: Threads + Wait + Sync, C: Connector + Send, V: Verifier +
 
 // Audits evidence, and writes the report.
 fn report_on<W: Sink>(alloc: Global, evidence: &Evidence, sink: &mut W) -> Result<Report, RunError>
+    ensures sound { IsEvidence evidence.now }
     ensures audit { IfOk result (IsAudit evidence.now) }
     ensures accepted { IfOk result (λ r. All (IsProof evidence.now.committee) r.verdicts) }
     ensures more_than_a_third { IfOk result (λ r. IsSome r.conflict
@@ -63,6 +64,8 @@ fn report_on<W: Sink>(alloc: Global, evidence: &Evidence, sink: &mut W) -> Resul
     ensures cause { IsErrOf result RunError.Sink
         → W.failed sink.new ≡ one_more (W.failed sink.old) }
 {
+    // For the proof: the headers of evidence have different ids, and its votes are good.
+    let _headers = evidence.headers();
     let report = audit(alloc, evidence)?;
     write_report(alloc, evidence, &report, sink)?;
     Ok(report)
@@ -87,22 +90,14 @@ pub fn audit_run<R: Threads + Wait + Sync, C: Connector + Send, W: Sink>(
     sink: &mut W,
 ) -> Result<Report, RunError>
     requires tries { All (MayBeTried C.allowed) sources.items }
-    ensures ok { IfOk result (λ r. (e : EvidenceValue)
-        × IsAuditRun (MayGive C.gives) (IsStatusCaused C.failed) committee.now sources.items e r
-        × Wrote (W.text sink.old) (W.text sink.new) (report_text e.sources r)) }
-    ensures accepted { IfOk result (λ r. All (IsProof committee.now) r.verdicts) }
-    ensures no_failure { OnOk result (W.failed sink.new ≡ W.failed sink.old) }
-    ensures refused { IfErr result (IsRunRefusal (MayGive C.gives) committee.now sources.items) }
-    ensures unwritten { IfErr result (λ e. e ≢ NotWritten → sink.new ≡ sink.old) }
-    ensures sink { IsErrOf result RunError.Sink → (e : EvidenceValue) × (r : ReportValue)
-        × IsAuditRun (MayGive C.gives) (IsStatusCaused C.failed) committee.now sources.items e r
-        × WrotePart (W.text sink.old) (W.text sink.new) (report_text e.sources r) }
-    ensures cause { IsErrOf result RunError.Sink
-        → W.failed sink.new ≡ one_more (W.failed sink.old) }
+    ensures answer { IsRunAnswer
+        (IsAuditRun (MayGive C.gives) (MayFail C.reaches C.failed) committee.now sources.items)
+        (IsRunRefusal (MayGive C.gives) committee.now sources.items)
+        committee.now W.text W.failed sink.old sink.new result }
     ensures accountability { (logs : List ReceivedLog) → IsCommittee committee.now
         → AllZip (IsCompleteSource C.gives) sources.items logs → ProveAConflict committee.now logs
         → MatchResult result (λ r. (e : EvidenceValue)
-        × IsAuditRun (MayGive C.gives) (IsStatusCaused C.failed) committee.now sources.items e r
+        × IsAuditRun (MayGive C.gives) (MayFail C.reaches C.failed) committee.now sources.items e r
         × Wrote (W.text sink.old) (W.text sink.new) (report_text e.sources r)
         × IsAccounted committee.now e r) IsMemoryOrSink }
 {
@@ -119,22 +114,14 @@ pub fn audit_run_by<R: Threads + Wait + Sync, C: Connector + Send, V: Verifier +
     sink: &mut W,
 ) -> Result<Report, RunError>
     requires tries { All (MayBeTried C.allowed) sources.items }
-    ensures ok { IfOk result (λ r. (e : EvidenceValue)
-        × IsAuditRun (MayGive C.gives) (IsStatusCaused C.failed) committee.now sources.items e r
-        × Wrote (W.text sink.old) (W.text sink.new) (report_text e.sources r)) }
-    ensures accepted { IfOk result (λ r. All (IsProof committee.now) r.verdicts) }
-    ensures no_failure { OnOk result (W.failed sink.new ≡ W.failed sink.old) }
-    ensures refused { IfErr result (IsRunRefusal (MayGive C.gives) committee.now sources.items) }
-    ensures unwritten { IfErr result (λ e. e ≢ NotWritten → sink.new ≡ sink.old) }
-    ensures sink { IsErrOf result RunError.Sink → (e : EvidenceValue) × (r : ReportValue)
-        × IsAuditRun (MayGive C.gives) (IsStatusCaused C.failed) committee.now sources.items e r
-        × WrotePart (W.text sink.old) (W.text sink.new) (report_text e.sources r) }
-    ensures cause { IsErrOf result RunError.Sink
-        → W.failed sink.new ≡ one_more (W.failed sink.old) }
+    ensures answer { IsRunAnswer
+        (IsAuditRun (MayGive C.gives) (MayFail C.reaches C.failed) committee.now sources.items)
+        (IsRunRefusal (MayGive C.gives) committee.now sources.items)
+        committee.now W.text W.failed sink.old sink.new result }
     ensures accountability { (logs : List ReceivedLog) → IsCommittee committee.now
         → AllZip (IsCompleteSource C.gives) sources.items logs → ProveAConflict committee.now logs
         → MatchResult result (λ r. (e : EvidenceValue)
-        × IsAuditRun (MayGive C.gives) (IsStatusCaused C.failed) committee.now sources.items e r
+        × IsAuditRun (MayGive C.gives) (MayFail C.reaches C.failed) committee.now sources.items e r
         × Wrote (W.text sink.old) (W.text sink.new) (report_text e.sources r)
         × IsAccounted committee.now e r) IsMemoryOrSink }
 {
@@ -152,23 +139,15 @@ pub fn audit_run_of<R: Threads + Wait + Sync, C: Connector + Send, V: Verifier +
     sink: &mut W,
 ) -> Result<Report, RunError>
     requires tries { All (MayBeTried C.allowed) sources.items }
-    ensures ok { IfOk result (λ r. (e : EvidenceValue)
-        × IsAuditRun (MayGive C.gives) (IsStatusCaused C.failed) committee.now sources.items e r
-        × Wrote (W.text sink.old) (W.text sink.new) (report_text e.sources r)) }
+    ensures answer { IsRunAnswer
+        (IsAuditRun (MayGive C.gives) (MayFail C.reaches C.failed) committee.now sources.items)
+        (IsRunRefusal (MayGive C.gives) committee.now sources.items)
+        committee.now W.text W.failed sink.old sink.new result }
     ensures is_committee { IsCommittee committee.now }
-    ensures accepted { IfOk result (λ r. All (IsProof committee.now) r.verdicts) }
-    ensures no_failure { OnOk result (W.failed sink.new ≡ W.failed sink.old) }
-    ensures refused { IfErr result (IsRunRefusal (MayGive C.gives) committee.now sources.items) }
-    ensures unwritten { IfErr result (λ e. e ≢ NotWritten → sink.new ≡ sink.old) }
-    ensures sink { IsErrOf result RunError.Sink → (e : EvidenceValue) × (r : ReportValue)
-        × IsAuditRun (MayGive C.gives) (IsStatusCaused C.failed) committee.now sources.items e r
-        × WrotePart (W.text sink.old) (W.text sink.new) (report_text e.sources r) }
-    ensures cause { IsErrOf result RunError.Sink
-        → W.failed sink.new ≡ one_more (W.failed sink.old) }
     ensures accountability { (logs : List ReceivedLog)
         → AllZip (IsCompleteSource C.gives) sources.items logs → ProveAConflict committee.now logs
         → MatchResult result (λ r. (e : EvidenceValue)
-        × IsAuditRun (MayGive C.gives) (IsStatusCaused C.failed) committee.now sources.items e r
+        × IsAuditRun (MayGive C.gives) (MayFail C.reaches C.failed) committee.now sources.items e r
         × Wrote (W.text sink.old) (W.text sink.new) (report_text e.sources r)
         × IsAccounted committee.now e r) IsMemoryOrSink }
 {

@@ -1,6 +1,10 @@
 //! A sink over memory.
 
-ghost use Rattle.std.specs.Prelude.{◌≡◌, [], None, Some};
+ghost use Rattle.std.specs.Prelude.{◌≡◌, ◌≤◌, ◌<◌, [], false, None, Some, IfOk, OnOk, OnErr, length, take};
+ghost use Rattle.std.specs.Io.KnownBytes.{Keeps};
+ghost use Rattle.streams.specs.Counting.{Counts};
+ghost use Rattle.streams.specs.Fuse.{is_burning, after_call};
+ghost use Rattle.streams.specs.Streams.{Wrote};
 
 use crate::sink::Sink;
 use crate::{Fault, Fuse};
@@ -60,7 +64,16 @@ impl Sink for MemorySink {
 
     ghost failed = { λ s. s.failures };
 
-    fn write(&mut self, bytes: &[u8]) -> Result<usize, Fault> {
+    // Fails where the fuse burns, and for want of memory.
+    fn write(&mut self, bytes: &[u8]) -> Result<usize, Fault>
+        ensures taken { IfOk result (λ n. (n ≤ length bytes.now) × (0 < length bytes.now → 0 < n)) }
+        ensures ok { IfOk result (λ n. Wrote (Some self.old.bytes) (Some self.new.bytes)
+            (take n bytes.now)) }
+        ensures err { OnErr result (Keeps (Some self.old.bytes) (Some self.new.bytes)) }
+        ensures counted { Counts self.old.failures self.new.failures result }
+        ensures burns { OnOk result (is_burning self.old.fuse ≡ false) }
+        ensures fuse { self.new.fuse ≡ after_call self.old.fuse }
+    {
         if self.fuse.burns() || self.given.extend_from_slice(bytes).is_err() {
             self.failed = self.failed.saturating_add(1);
             return Err(Fault);

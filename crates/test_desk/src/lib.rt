@@ -1,16 +1,22 @@
-//! Tests of the desk: worked runs over blocks, certificates and logs of an independent program, calls that overlap in
-//! threads, refusals, limits, and crashes.
+//! Tests of the desk: worked runs over blocks, certificates and logs of an independent program, at a desk and behind no
+//! lock, calls that overlap in threads, refusals, limits, further keys, and crashes.
 #![tactic(auto)]
 
 #[cfg(test)]
 mod crash_runs;
 #[cfg(test)]
+mod further_keys;
+#[cfg(test)]
 mod limits;
+#[cfg(test)]
+mod live_calls;
 #[cfg(test)]
 mod overlaps;
 #[cfg(test)]
 mod refusals;
 #[cfg(test)]
 mod replicas;
+#[cfg(test)]
+mod unlocked_runs;
 #[cfg(test)]
 mod worked_runs;

@@ -5,6 +5,7 @@ use crate::replicas::{
 };
 use blocks::{CommitteeView, Header};
 use fixtures::certificates as texts;
+use lms_tree::SigningTree;
 use replica_core::CoreRefusal;
 use stable_log::MemoryDisk;
 use std::alloc::{AllocError, Global};
@@ -48,23 +49,31 @@ fn push_entry(bytes: &mut Vec<u8>, genesis: &Header, block: &Header) -> Result<(
     bytes.extend_from_slice(texts::of_genesis())
 }
 
-// The bytes of a log that has all the entries that it has room for: votes of the views 1 to 4,096 on genesis.
-fn full_log(alloc: Global, committee: &CommitteeView) -> Result<Vec<u8>, AllocError> {
+// The bytes of a log of votes of the views from 1 to this one on genesis.
+fn log_of_votes(
+    alloc: Global,
+    committee: &CommitteeView,
+    last: u64,
+) -> Result<Vec<u8>, AllocError> {
     let genesis = committee.genesis();
     let mut bytes = b"HSJ1\x00\x00\x00\x00".to_vec(alloc)?;
-    for view in 1..4097 {
+    for view in 1..=last {
         push_entry(&mut bytes, &genesis, &on_genesis(committee, view))?;
     }
     bytes.push(0)?;
     Ok(bytes)
 }
 
-// A new replica but for its log, which is full.
-fn parts_with_a_full_log<R: Abort + AllocGlobal>(rt: &R) -> Parts<MemoryDisk> {
-    let bytes = full_log(rt.alloc(), &committee(rt)).expect(rt, "memory");
+/// A new replica but for its log, which has votes of the views from 1 to this one on genesis.
+pub(crate) fn parts_with_votes<R: Abort + AllocGlobal>(
+    rt: &R,
+    trees: Vec<SigningTree>,
+    last: u64,
+) -> Parts<MemoryDisk> {
+    let bytes = log_of_votes(rt.alloc(), &committee(rt), last).expect(rt, "memory");
     let disk = MemoryDisk::new(rt.alloc(), bytes).expect(rt, "memory");
     let index = new_store(rt, new_disk(rt)).into_disk();
-    found_on(rt, new_keys(rt), index, disk)
+    found_on(rt, trees, index, disk)
 }
 
 const FULL_LOG: [Step; 3] = [
@@ -76,7 +85,8 @@ const FULL_LOG: [Step; 3] = [
 // A full log refuses a vote, and no index is drawn for it; a block that is only held is not refused.
 #[test]
 fn log_is_full_at_4096_entries(rt: HostRuntime) {
-    let closed = stay(&rt, parts_with_a_full_log(&rt), &FULL_LOG);
+    let parts = parts_with_votes(&rt, new_keys(&rt), 4096);
+    let closed = stay(&rt, parts, &FULL_LOG);
     assert!(rt; has_left(&closed.parts, 4096, 1024));
 }
 

@@ -10,7 +10,7 @@ use lmots::PrivateSeed;
 use lms_tree::SigningTree;
 use sha2::{Digest, Sha256};
 use stable_log::MemoryDisk;
-use std::alloc::Global;
+use std::alloc::{AllocError, Global};
 use std::marker::Brand;
 use std::process::Abort;
 use std::sync::Wait;
@@ -86,7 +86,7 @@ fn stored_header(block: Block) -> Option<Header> {
     Header::from_bytes(text).ok()
 }
 
-fn certificate_of(block: Block) -> &'static [u8] {
+fn stored_certificate(block: Block) -> &'static [u8] {
     match block {
         Block::A1 | Block::W4 | Block::Z4 | Block::OnGenesis(_) => texts::of_genesis(),
         Block::A2 | Block::A3OnA1 | Block::F5 | Block::X8 | Block::X9 => {
@@ -96,6 +96,25 @@ fn certificate_of(block: Block) -> &'static [u8] {
         Block::A4 => core_blocks::certificate_of_a3(),
         Block::X5 => core_blocks::certificate_of_w4(),
         Block::X6 => core_blocks::certificate_of_x5(),
+    }
+}
+
+// The certificate with no votes on a committee's genesis.
+fn certificate_of_genesis(alloc: Global, committee: &CommitteeView) -> Result<Vec<u8>, AllocError> {
+    let mut text = [0; 8].to_vec(alloc)?;
+    text.extend_from_slice(&committee.chain())?;
+    text.extend_from_slice(&[0; 2])?;
+    Ok(text)
+}
+
+// The certificate of a block's parent. Blocks on genesis are of any committee, the others of the stored one.
+fn certificate_of(alloc: Global, committee: &CommitteeView, block: Block) -> Option<Certificate> {
+    match block {
+        Block::OnGenesis(_) => {
+            let text = certificate_of_genesis(alloc, committee).ok()?;
+            Certificate::read(alloc, &text).ok()
+        }
+        _ => Certificate::read(alloc, stored_certificate(block)).ok(),
     }
 }
 
@@ -128,7 +147,8 @@ fn x_on_a1(view: u8) -> Option<Header>
     })
 }
 
-fn header_of(committee: &CommitteeView, block: Block) -> Option<Header> {
+/// The header of a block, if its bytes are one.
+pub(crate) fn header_of(committee: &CommitteeView, block: Block) -> Option<Header> {
     match block {
         Block::X8 => x_on_a1(8),
         Block::X9 => x_on_a1(9),
@@ -147,7 +167,7 @@ pub(crate) fn checked_by<'a, V: Verifier>(
     ensures { IfSome result (λ b. b.committee ≡ committee.now) }
 {
     let header = header_of(committee, block)?;
-    let certificate = Certificate::read(alloc, certificate_of(block)).ok()?;
+    let certificate = certificate_of(alloc, committee, block)?;
     check_block(committee, verifier, header, certificate).ok()
 }
 
@@ -156,19 +176,43 @@ pub(crate) fn new_disk<R: Abort + AllocGlobal>(rt: &R) -> MemoryDisk {
     MemoryDisk::new(rt.alloc(), Vec::new(rt.alloc())).expect(rt, "memory")
 }
 
+// A key of a replica. The first ones are those of the stored committee.
+fn tree_of<R: Abort + AllocGlobal>(rt: &R, replica: u8, number: u8) -> SigningTree {
+    let name = number.wrapping_mul(4).wrapping_add(replica);
+    let secret = PrivateSeed {
+        key_id: [name; 16],
+        seed: [name.wrapping_add(16); 32],
+    };
+    SigningTree::generate(rt.alloc(), secret).expect(rt, "memory")
+}
+
+/// So many keys of a replica.
+pub(crate) fn trees_of<R: Abort + AllocGlobal>(rt: &R, replica: u8, count: u8) -> Vec<SigningTree> {
+    let mut trees = Vec::new(rt.alloc());
+    for number in 0..count {
+        let pushed = trees.push(tree_of(rt, replica, number)).ok();
+        pushed.expect(rt, "memory");
+    }
+    trees
+}
+
 /// The key of replica 0.
 pub(crate) fn new_keys<R: Abort + AllocGlobal>(rt: &R) -> Vec<SigningTree> {
-    let secret = PrivateSeed {
-        key_id: [0; 16],
-        seed: [16; 32],
-    };
-    let tree = SigningTree::generate(rt.alloc(), secret).expect(rt, "memory");
-    vec![in rt.alloc(); tree].expect(rt, "memory")
+    trees_of(rt, 0, 1)
+}
+
+/// The log of a committee's chain that has no entries.
+pub(crate) fn new_log_of<R: Abort + AllocGlobal>(
+    rt: &R,
+    committee: &CommitteeView,
+    disk: MemoryDisk,
+) -> VoteLog<MemoryDisk> {
+    let log = VoteLog::create(rt.alloc(), disk, committee.genesis()).ok();
+    log.expect(rt, "a log")
 }
 
 pub(crate) fn new_log<R: Abort + AllocGlobal>(rt: &R, disk: MemoryDisk) -> VoteLog<MemoryDisk> {
-    let log = VoteLog::create(rt.alloc(), disk, committee(rt).genesis()).ok();
-    log.expect(rt, "a log")
+    new_log_of(rt, &committee(rt), disk)
 }
 
 pub(crate) fn new_store<R: Abort + AllocGlobal>(
@@ -252,27 +296,55 @@ fn outcome_of(act: &Answer) -> Outcome {
     }
 }
 
-fn is_answered(reply: &Result<Reply, DeskError>, want: Outcome, committed: Option<Id>) -> bool {
+/// A block that is delivered, and what that is to come to.
+#[derive(Clone, Copy)]
+pub(crate) struct Delivery {
+    pub block: Block,
+    want: Outcome,
+    committed: Option<Id>,
+}
+
+/// The delivery of a step, if it is that of one block.
+pub(crate) fn delivery_of(step: Step) -> Option<Delivery> {
+    let (block, want, committed) = match step {
+        Step::Votes(block, number) => (block, Outcome::Voted(number), None),
+        Step::VotesAndCommitsA1(block, number) => (block, Outcome::Voted(number), id_of_a1()),
+        Step::Raises(block) => (block, Outcome::Raised, None),
+        Step::Holds(block) => (block, Outcome::Held, None),
+        Step::Refuses(block, why) => (block, Outcome::Refused(why), None),
+        Step::VotesForAll(_) | Step::HoldsAll(_) | Step::TimesOut(_) | Step::IsStopped => {
+            return None;
+        }
+    };
+    Some(Delivery {
+        block,
+        want,
+        committed,
+    })
+}
+
+/// Whether a delivery is answered as it is to be.
+pub(crate) fn is_answered(reply: &Result<Reply, DeskError>, delivery: &Delivery) -> bool {
     match reply {
-        Ok(reply) => outcome_of(&reply.act) == want && reply.committed == committed,
-        Err(e) => want == Outcome::Refused(*e),
+        Ok(reply) => {
+            outcome_of(&reply.act) == delivery.want && reply.committed == delivery.committed
+        }
+        Err(e) => delivery.want == Outcome::Refused(*e),
     }
 }
 
-// Delivers a block, and answers whether that comes to this.
+// Delivers a block, and answers whether that comes to what it is to.
 fn comes_to<N: DeskNaming, R: Wait + AllocGlobal>(
     rt: &R,
     desk: &Desk<N, MemoryDisk>,
     session: &mut Session<N>,
     committee: &CommitteeView,
-    block: Block,
-    want: Outcome,
-    committed: Option<Id>,
+    delivery: &Delivery,
 ) -> bool
     requires { committee.now ≡ N.committee }
 {
-    match checked_by(rt.alloc(), &LmsVerifier, committee, block) {
-        Some(block) => is_answered(&desk.deliver(rt, session, block), want, committed),
+    match checked_by(rt.alloc(), &LmsVerifier, committee, delivery.block) {
+        Some(block) => is_answered(&desk.deliver(rt, session, block), delivery),
         None => false,
     }
 }
@@ -294,8 +366,12 @@ fn all_come_to<N: DeskNaming, R: Wait + AllocGlobal>(
         } else {
             Outcome::Held
         };
-        let block = Block::OnGenesis(u64::from(k) + 1);
-        if !comes_to(rt, desk, session, committee, block, want, None) {
+        let delivery = Delivery {
+            block: Block::OnGenesis(u64::from(k) + 1),
+            want,
+            committed: None,
+        };
+        if !comes_to(rt, desk, session, committee, &delivery) {
             return false;
         }
     }
@@ -312,18 +388,16 @@ fn takes<N: DeskNaming, R: Wait + AllocGlobal>(
 ) -> bool
     requires { committee.now ≡ N.committee }
 {
-    let (block, want, committed) = match step {
-        Step::Votes(block, number) => (block, Outcome::Voted(number), None),
-        Step::VotesAndCommitsA1(block, number) => (block, Outcome::Voted(number), id_of_a1()),
-        Step::Raises(block) => (block, Outcome::Raised, None),
-        Step::Holds(block) => (block, Outcome::Held, None),
-        Step::Refuses(block, why) => (block, Outcome::Refused(why), None),
-        Step::VotesForAll(count) => return all_come_to(rt, desk, session, committee, count, true),
-        Step::HoldsAll(count) => return all_come_to(rt, desk, session, committee, count, false),
-        Step::TimesOut(view) => return desk.timeout(rt, view).is_ok(),
-        Step::IsStopped => return desk.timeout(rt, 1).is_err(),
-    };
-    comes_to(rt, desk, session, committee, block, want, committed)
+    match step {
+        Step::VotesForAll(count) => all_come_to(rt, desk, session, committee, count, true),
+        Step::HoldsAll(count) => all_come_to(rt, desk, session, committee, count, false),
+        Step::TimesOut(view) => desk.timeout(rt, view).is_ok(),
+        Step::IsStopped => desk.timeout(rt, 1).is_err(),
+        _ => match delivery_of(step) {
+            Some(delivery) => comes_to(rt, desk, session, committee, &delivery),
+            None => false,
+        },
+    }
 }
 
 fn take_all<N: DeskNaming, R: Wait + Abort + AllocGlobal>(
@@ -372,13 +446,22 @@ fn left_of(parts: &Parts<MemoryDisk>) -> Left {
     }
 }
 
-/// One stay of replica 0 at a desk of its own.
+/// One stay of replica 0 of this committee at a desk of its own.
+pub(crate) fn stay_in<R: Wait + Abort + AllocGlobal>(
+    rt: &R,
+    committee: &CommitteeView,
+    parts: Parts<MemoryDisk>,
+    steps: &[Step],
+) -> Closed<MemoryDisk> {
+    let closed = stays::<Brand, R>(rt, Blank::new(1), committee, parts, steps);
+    closed.expect(rt, "a desk that is opened and closed")
+}
+
+/// The same of the stored committee.
 pub(crate) fn stay<R: Wait + Abort + AllocGlobal>(
     rt: &R,
     parts: Parts<MemoryDisk>,
     steps: &[Step],
 ) -> Closed<MemoryDisk> {
-    let committee = committee(rt);
-    let closed = stays::<Brand, R>(rt, Blank::new(1), &committee, parts, steps);
-    closed.expect(rt, "a desk that is opened and closed")
+    stay_in(rt, &committee(rt), parts, steps)
 }

@@ -23,11 +23,11 @@ const LOG_OF_A1_TO_A4: &[u8; 32] =
 const LOG_WITH_A_RAISE_AND_NO_VOTE: &[u8; 32] =
     b"\xa3\x76\x41\x56\x31\x08\x5d\x3c\xad\xd1\x51\x35\xb9\x55\x43\xaf\xda\xf3\x3d\x86\x21\xb3\xda\x09\x16\x38\x66\x8a\xd9\x30\x1f\x77";
 
-// One stay at a desk, and the digest of the log that it leaves.
+/// One stay at a desk, and the digest of the log that it leaves.
 #[derive(Clone, Copy)]
-struct Stay {
-    steps: &'static [Step],
-    log: &'static [u8; 32],
+pub(crate) struct Stay {
+    pub steps: &'static [Step],
+    pub log: &'static [u8; 32],
 }
 
 // The stays of a new replica, one after the other.
@@ -64,7 +64,8 @@ fn raised_lock_survives_restart(rt: HostRuntime) {
     lives(&rt, &RAISED_LOCK);
 }
 
-const TIMEOUT: [Stay; 2] = [
+/// The stays of a new replica, the first of which ends behind a timeout.
+pub(crate) const TIMEOUT: [Stay; 2] = [
     Stay {
         steps: &[
             Step::Votes(Block::A1, 0),

@@ -1,5 +1,5 @@
-//! Tests of audits from their sources: bytes of an independent program, failures in turn, sources that overlap, and how often a
-//! vote is checked.
+//! Tests of audits from their sources: bytes of an independent program, failures in turn, sources that overlap, how often a
+//! vote is checked, and that checks are split among threads.
 #![tactic(auto)]
 
 #[cfg(test)]
@@ -12,3 +12,5 @@ mod overlap_tests;
 mod report_tests;
 #[cfg(test)]
 mod sources;
+#[cfg(test)]
+mod split_tests;

@@ -34,6 +34,8 @@ fn is_set(flag: &AtomicBool) -> bool {
 struct InTurn<'a> {
     text: &'static [u8],
     given: usize,
+    // How many of them since the last connect.
+    taken: usize,
     waits: bool,
     flag: &'a AtomicBool,
     failures: u64,
@@ -44,11 +46,18 @@ impl<'a> Connector for InTurn<'a> {
 
     ghost left = { λ s c. ⊤ };
 
+    ghost asked = { λ s t first most. ⊤ };
+
+    ghost taken = { λ s. s.taken };
+
     ghost failed = { λ s. s.failures };
+
+    ghost reaches = { λ s t. ⊤ };
 
     ghost allowed = { λ s. MOST_TRIES };
 
     fn connect(&mut self, _first: u32, _most: u32) -> Result<(), Fault> {
+        self.taken = 0;
         if self.waits && !is_set(self.flag) {
             self.failures = self.failures.saturating_add(1);
             return Err(Fault);
@@ -61,6 +70,7 @@ impl<'a> Connector for InTurn<'a> {
         let n = buffer.len().min(rest.len());
         buffer[..n].copy_from_slice(&rest[..n]);
         self.given = self.given.saturating_add(n);
+        self.taken += n;
         if !self.waits && n == rest.len() {
             self.flag.store(true, Ordering::SeqCst);
         }
@@ -76,6 +86,8 @@ impl<'a> Connector for InTurn<'a> {
     }
 
     ghost some = { λ s. (ended, tt) };
+
+    ghost stays = { λ s. tt };
 }
 
 // A log of one entry.
@@ -87,6 +99,7 @@ fn source_of<'a>(text: &'static [u8], flag: &'a AtomicBool, waits: bool) -> Sour
         connector: InTurn {
             text,
             given: 0,
+            taken: 0,
             waits,
             flag,
             failures: 0,

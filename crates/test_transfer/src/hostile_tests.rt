@@ -78,6 +78,24 @@ fn room_for_one_more(rt: HostRuntime) {
 #[derive(Drop)]
 struct Endless {
     sent: usize,
+    // How many bytes were read since the last connect.
+    taken: usize,
+}
+
+// The next bytes, where so many were sent.
+fn send(sent: &mut usize, buffer: &mut [u8]) {
+    for byte in buffer.iter_mut() {
+        *byte = match *sent {
+            0 => b'H',
+            1 => b'S',
+            2 => b'L',
+            3 => b'1',
+            sent if sent % 5 == 2 => 1,
+            sent if sent % 5 == 3 => 5,
+            _ => 0,
+        };
+        *sent = sent.wrapping_add(1);
+    }
 }
 
 impl Connector for Endless {
@@ -85,28 +103,25 @@ impl Connector for Endless {
 
     ghost left = { λ s c. ⊤ };
 
+    ghost asked = { λ s t first most. ⊤ };
+
+    ghost taken = { λ s. s.taken };
+
     ghost failed = { λ s. 0 };
+
+    ghost reaches = { λ s t. ⊤ };
 
     ghost allowed = { λ s. 3 };
 
     fn connect(&mut self, _first: u32, _most: u32) -> Result<(), Fault> {
         self.sent = 0;
+        self.taken = 0;
         Ok(())
     }
 
     fn read(&mut self, buffer: &mut [u8]) -> Result<usize, Fault> {
-        for byte in buffer.iter_mut() {
-            *byte = match self.sent {
-                0 => b'H',
-                1 => b'S',
-                2 => b'L',
-                3 => b'1',
-                sent if sent % 5 == 2 => 1,
-                sent if sent % 5 == 3 => 5,
-                _ => 0,
-            };
-            self.sent = self.sent.wrapping_add(1);
-        }
+        send(&mut self.sent, buffer);
+        self.taken += buffer.len();
         Ok(buffer.len())
     }
 
@@ -119,6 +134,8 @@ impl Connector for Endless {
     }
 
     ghost some = { λ s. (ended, tt) };
+
+    ghost stays = { λ s. tt };
 }
 
 #[test]
@@ -126,7 +143,7 @@ fn a_stream_without_end(rt: HostRuntime) {
     assert!(rt;
         has(
             rt.alloc(),
-            &mut Endless { sent: 0 },
+            &mut Endless { sent: 0, taken: 0 },
             3,
             4096,
             Status::TooLong

@@ -7,6 +7,8 @@ mod budget_tests;
 #[cfg(test)]
 mod connector_tests;
 #[cfg(test)]
+mod dial_tests;
+#[cfg(test)]
 mod fetch_tests;
 #[cfg(test)]
 mod hostile_tests;

@@ -20,6 +20,8 @@ struct ServedSource {
     alloc: Global,
     log: VoteLog<MemoryDisk>,
     answer: MemoryFeed,
+    // How many bytes were read since the last connect.
+    taken: usize,
     fuse: Fuse,
     failures: u64,
 }
@@ -30,6 +32,7 @@ impl ServedSource {
             alloc,
             log,
             answer: MemoryFeed::new(Vec::new(alloc)),
+            taken: 0,
             fuse,
             failures: 0,
         }
@@ -60,11 +63,18 @@ impl Connector for ServedSource {
 
     ghost left = { λ s c. ⊤ };
 
+    ghost asked = { λ s t first most. ⊤ };
+
+    ghost taken = { λ s. s.taken };
+
     ghost failed = { λ s. s.failures };
+
+    ghost reaches = { λ s t. ⊤ };
 
     ghost allowed = { λ s. 3 };
 
     fn connect(&mut self, first: u32, most: u32) -> Result<(), Fault> {
+        self.taken = 0;
         if !self.fuse.burns() {
             if let Ok(answer) = ask(self.alloc, &mut self.log, FrameRequest { first, most }) {
                 self.answer = answer;
@@ -78,6 +88,7 @@ impl Connector for ServedSource {
     fn read(&mut self, buffer: &mut [u8]) -> Result<usize, Fault> {
         if !self.fuse.burns() {
             if let Ok(n) = self.answer.read(buffer) {
+                self.taken += n;
                 return Ok(n);
             }
         }
@@ -94,6 +105,8 @@ impl Connector for ServedSource {
     }
 
     ghost some = { λ s. (ended, tt) };
+
+    ghost stays = { λ s. tt };
 }
 
 // Of nine frames: one connect, the magic, a length and a payload of each, and the two halves of the end mark.

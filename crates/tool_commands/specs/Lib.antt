@@ -1,6 +1,9 @@
 pub use Rattle.printed_lines.specs.Printed
 pub mod Audits
+pub mod Commands
 pub mod FaultLines
+pub mod Lines
+pub mod OpenedSources
 pub mod SourceTries
 pub mod Stays
 pub mod Writes

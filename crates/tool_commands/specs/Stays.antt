@@ -1,31 +1,44 @@
 -- What a replica prints.
-use Rattle.std.specs.Prelude.{◌≡◌, ◌⊎◌, ℕ, List, Option, Bool}
+use Rattle.std.specs.Prelude.{◌≡◌, ℕ, List, Option, Some, None, Bool, length}
+use Rattle.blocks.specs.Committees.{IsCommittee}
+use Rattle.blocks.specs.Replica.{Stored}
+use Rattle.stable_log.specs.declared.disk.Disk.{Ghosts}
+use Rattle.streams.specs.declared.feed.Feed.{Ghosts as FeedGhosts}
 use Rattle.vote_desk.specs.declared.reply.Receipt.{Receipt}
 use Rattle.log_server.specs.Answers.{IsServed}
 use Rattle.replica_lines.specs.declared.request.Request.{Request}
-use Rattle.replica_command.specs.StayText.{IsStayPrinted}
+use Rattle.replica_command.specs.StayText.{AreRequestsRead, IsStayPrinted}
 use Rattle.replica_command.specs.declared.staying.Ending.{Ending}
 use Rattle.replica_command.specs.declared.staying.Ending.TheVariants.{Done, Stopped}
+use Rattle.tool_words.specs.declared.command.Service.{Service}
 
--- the outcomes of a whole stay that ended so
-pub record IsRunPrinted (before after : Option (List ℕ)) (ending : Ending) : Type 0 where
+-- these were read of a feed
+abbrev pub AreReadOf : {R : Type 0} → FeedGhosts R → (old new : R) → List Request → Type 0
+AreReadOf feed old new requests = AreRequestsRead (feed.rest old) (feed.rest new) (feed.failed old) (feed.failed new) requests
+
+-- under some committee the outcomes of a whole stay of this replica, over such disks, of requests that were read, which
+-- ended so and left these steps in the log
+pub record IsRunPrinted {D : Type 0} (disk : Ghosts D) (AreRead : List Request → Type 0) (replica : ℕ) (before after : Option (List ℕ)) (steps : List Stored) (ending : Ending) : Type 0 where
   pub committee : List ℕ
-  pub replica : ℕ
+  pub is_committee : IsCommittee committee
+  pub opened : ℕ
   pub requests : List Request
+  pub read : AreRead requests
   pub receipts : List Receipt
-  pub closed : ℕ
-  pub stay : IsStayPrinted before after committee replica requests receipts closed ending
+  pub stay : IsStayPrinted disk before after committee replica opened steps requests receipts ending
 
 -- .. that was stopped: one of them says so
-abbrev pub IsStopPrinted : Option (List ℕ) → Option (List ℕ) → Type 0
-IsStopPrinted before after = IsRunPrinted before after Stopped
+abbrev pub IsStopPrinted : {D : Type 0} → Ghosts D → (List Request → Type 0) → ℕ → Option (List ℕ) → Option (List ℕ) → Type 0
+IsStopPrinted disk AreRead replica before after = (steps : List Stored) × IsRunPrinted disk AreRead replica before after steps Stopped
 
--- some requests for the log were answered
-abbrev pub AreRequestsPrinted : Option (List ℕ) → Option (List ℕ) → Type 0
-AreRequestsPrinted before after = (stopped : Bool) × (entries : ℕ) × (requests : ℕ) × IsServed stopped entries requests before after
+-- what came of requests for a log of so many entries, as many as were asked to be served
+abbrev pub AreServed : Option Service → ℕ → Option (List ℕ) → Option (List ℕ) → Type 0
+AreServed None entries before after = after ≡ before
+AreServed (Some service) entries before after = (stopped : Bool) × IsServed stopped entries service.requests.count before after
 
--- .. that was not stopped, and then what came of requests for the log, if it was handed out
-pub record IsDonePrinted (before after : Option (List ℕ)) : Type 0 where
+-- .. that was not stopped, and then what came of requests for the log, if it is to be handed out
+pub record IsReplicaDone {D : Type 0} (disk : Ghosts D) (AreRead : List Request → Type 0) (replica : ℕ) (service : Option Service) (before after : Option (List ℕ)) : Type 0 where
   pub middle : Option (List ℕ)
-  pub run : IsRunPrinted before middle Done
-  pub requests : (after ≡ middle) ⊎ AreRequestsPrinted middle after
+  pub steps : List Stored
+  pub run : IsRunPrinted disk AreRead replica before middle steps Done
+  pub served : AreServed service (length steps) middle after

@@ -1,9 +1,9 @@
 //! `hs_tool audit COMMITTEE OUTDIR SOURCE.. [--tries T]`: what logs prove, and whom they accuse.
 
-ghost use Rattle.std.specs.Prelude.{◌≡◌, ◌≢◌, [], false, true, IfErr, IfOk};
+ghost use Rattle.std.specs.Prelude.{◌≡◌, ◌≢◌, [], false, true, IfErr, IfOk, map};
 ghost use Rattle.std.specs.List.{All};
 ghost use Rattle.parallel_verify.specs.Collections.{MayBeTried};
-ghost use Rattle.tool_commands.specs.Audits.{AreCulpritsPrinted, IsAuditPrinted, IsNoCulpritPrinted};
+ghost use Rattle.tool_commands.specs.Audits.{AreCulpritsPrinted, IsAuditOfWords, IsAuditPrinted};
 ghost use Rattle.program_parts.specs.Writes.{CountsWrites};
 
 use crate::fault::{Fault, FolderFile, ToolFault, fault_of_run};
@@ -28,8 +28,8 @@ use std::time::Clock;
 use streams::Sink;
 use tool_words::Tries;
 
-/// Audits the logs of the sources that the words name, under the committee of the file, as `audit_run` does, which prints
-/// the report. Then the verdict on each culprit is written to a file of `folder`, new or in place of what was there. Where
+/// Audits the logs of the sources that the words name, under the committee of the file, as `audit_run_of` does, which
+/// prints the report. Then the verdict on each culprit is written to a file of `folder`, new or in place of what was there. Where
 /// `folder` is no folder, no source is read and nothing printed. Answers whether there are culprits.
 pub fn audit_sources<
     'a,
@@ -47,9 +47,9 @@ pub fn audit_sources<
 where
     F::Dir: Send,
     ensures culprits { IfOk result (λ found. found ≡ true
-        → AreCulpritsPrinted (W.text out.old) (W.text out.new)) }
+        → AreCulpritsPrinted words.now (W.text out.old) (W.text out.new)) }
     ensures none { IfOk result (λ found. found ≡ false
-        → IsNoCulpritPrinted (W.text out.old) (W.text out.new)) }
+        → IsAuditOfWords words.now (W.text out.old) (W.text out.new) []) }
     ensures counted { CountsWrites result (W.failed out.old) (W.failed out.new) }
 {
     let sources = read_source_words(host.alloc, words)?;
@@ -73,7 +73,8 @@ fn print_report<'a, T: Threads + Wait + Sync, C: Connector + Send, V: Verifier +
 ) -> Result<Report, Fault<'a>>
     requires tries { All (MayBeTried C.allowed) sources.items }
     ensures printed { IfOk result (λ report.
-        IsAuditPrinted committee.now (W.text out.old) (W.text out.new) report.verdicts) }
+        IsAuditPrinted committee.now (map (λ s. s.replica) sources.items) (W.text out.old)
+        (W.text out.new) report.verdicts) }
     ensures counted { CountsWrites result (W.failed out.old) (W.failed out.new) }
 {
     match audit_run_of(rt, alloc, committee, verifier, sources, out) {

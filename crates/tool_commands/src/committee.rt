@@ -1,15 +1,18 @@
 //! `hs_tool committee F OUT KEY..` and `hs_tool weighted OUT WEIGHT=PATH,PATH..`: a committee's file from its replicas' key
 //! files.
 
-ghost use Rattle.std.specs.Prelude.{◌≢◌, IfErr};
+ghost use Rattle.std.specs.Prelude.{◌≡◌, ◌≢◌, ◌⊎◌, IfErr, IfOk, OnOk, length};
+ghost use Rattle.blocks.specs.Committees.{multikey_text, weighted_text};
 ghost use Rattle.program_parts.specs.Writes.{CountsWrites};
+ghost use Rattle.tool_commands.specs.Lines.{IsChainPrinted, IsMemberOf, IsTextOfKeys, IsTextOfReplicas, chain_line as chain_text};
 
 use crate::fault::Fault;
 use crate::new_file::replace_file;
-use blocks::{Member, write_committee, write_multikey_committee, write_weighted_committee};
+use blocks::{Id, Member, write_committee, write_multikey_committee, write_weighted_committee};
 use lms_tree::PUBLIC_KEY_LEN;
+use printed_lines::put_id;
 use program_parts::{ProgramFault, parse_committee, read_named};
-use std::alloc::Global;
+use std::alloc::{AllocError, Global};
 use std::fs::{File, Files};
 use streams::{Sink, write_all};
 use tool_words::WeightedReplica;
@@ -27,7 +30,9 @@ pub fn committee<'a, F: Files<File = File>, W: Sink>(
     keys: &[&'a str],
     out: &mut W,
 ) -> Result<(), Fault<'a>>
-    ensures { CountsWrites result (W.failed out.old) (W.failed out.new) }
+    ensures printed { OnOk result (IsChainPrinted (IsTextOfKeys f (length keys.now))
+        (W.text out.old) (W.text out.new)) }
+    ensures counted { CountsWrites result (W.failed out.old) (W.failed out.new) }
 {
     if keys.contains(&path) {
         return Err(Fault::File(path));
@@ -52,7 +57,9 @@ pub fn weighted<'a, F: Files<File = File>, W: Sink>(
     replicas: &[WeightedReplica<'a>],
     out: &mut W,
 ) -> Result<(), Fault<'a>>
-    ensures { CountsWrites result (W.failed out.old) (W.failed out.new) }
+    ensures printed { OnOk result (IsChainPrinted (IsTextOfReplicas replicas.now)
+        (W.text out.old) (W.text out.new)) }
+    ensures counted { CountsWrites result (W.failed out.old) (W.failed out.new) }
 {
     if replicas.iter().any(|replica| replica.paths.contains(&path)) {
         return Err(Fault::File(path));
@@ -70,7 +77,8 @@ fn read_member<'a, F: Files<File = File>>(
     alloc: Global,
     replica: &WeightedReplica<'a>,
 ) -> Result<Member, Fault<'a>>
-    ensures { IfErr result (λ fault. fault ≢ ProgramFault.Output) }
+    ensures member { IfOk result (IsMemberOf replica.now) }
+    ensures fault { IfErr result (λ fault. fault ≢ ProgramFault.Output) }
 {
     let mut keys = Vec::new(alloc);
     for path in &replica.paths {
@@ -84,7 +92,9 @@ fn read_member<'a, F: Files<File = File>>(
 
 // The bytes of the committee of these replicas, in the format with room for several keys where one has several.
 fn text_of<'a>(alloc: Global, members: &[Member]) -> Result<Vec<u8>, Fault<'a>>
-    ensures { IfErr result (λ fault. fault ≢ ProgramFault.Output) }
+    ensures text { IfOk result (λ text. (text.items ≡ weighted_text members.now)
+        ⊎ (text.items ≡ multikey_text members.now)) }
+    ensures fault { IfErr result (λ fault. fault ≢ ProgramFault.Output) }
 {
     // There are 4 to 31 of them, each with one to four keys; the writers ask for these bounds.
     if members.len() > 65_535 || members.iter().any(|m| m.keys.len() > MOST_KEYS as usize) {
@@ -105,15 +115,28 @@ fn publish<'a, F: Files<File = File>, W: Sink>(
     bytes: &[u8],
     out: &mut W,
 ) -> Result<(), Fault<'a>>
-    ensures { CountsWrites result (W.failed out.old) (W.failed out.new) }
+    ensures printed { OnOk result
+        (IsChainPrinted (λ b. b ≡ bytes.now) (W.text out.old) (W.text out.new)) }
+    ensures counted { CountsWrites result (W.failed out.old) (W.failed out.new) }
 {
-    let chain = parse_committee(bytes)?.chain();
-    let digits = hex::encode(alloc, &chain[..])?;
-    let line = format!(in alloc; "chain {digits}\n")?;
+    let line = chain_line(alloc, &parse_committee(bytes)?.chain())?;
     if let Err(error) = replace_file(rt, alloc, path, bytes) {
         return Err(Fault::unless_memory(&error, Fault::File(path)));
     }
-    write_all(out, line.as_bytes()).map_err(|_| Fault::Output)
+    match write_all(out, &line) {
+        Ok(()) => Ok(()),
+        Err(_) => Err(Fault::Output),
+    }
+}
+
+// `chain ` and the id's digits.
+fn chain_line(alloc: Global, chain: &Id) -> Result<Vec<u8>, AllocError>
+    ensures { IfOk result (λ line. line.items ≡ chain_text chain.now) }
+{
+    let mut line = b"chain ".to_vec(alloc)?;
+    put_id(&mut line, chain)?;
+    line.push(b'\n')?;
+    Ok(line)
 }
 
 // The bytes of a public key's file. One byte more than a key has is read, to see that it ends there.

@@ -1,8 +1,9 @@
 //! `hs_tool keygen SEED DIR [--key K]`: a replica's key files.
 
-ghost use Rattle.std.specs.Prelude.{◌≡◌};
+ghost use Rattle.std.specs.Prelude.{◌≡◌, OnOk};
 ghost use Rattle.key_files.specs.declared.files.KeyFile.{KeyFile as KeyFileValue};
 ghost use Rattle.program_parts.specs.Writes.{CountsWrites};
+ghost use Rattle.tool_commands.specs.Lines.{IsKeyPrinted};
 
 use crate::fault::{Fault, FolderFile, ToolFault};
 use crate::host::Host;
@@ -23,7 +24,9 @@ pub fn keygen<'a, F: Files<File = File>, T: Threads + Sync, W: Sink>(
     key: KeyNumber,
     out: &mut W,
 ) -> Result<(), Fault<'a>>
-    ensures { CountsWrites result (W.failed out.old) (W.failed out.new) }
+    ensures line { OnOk result
+        (IsKeyPrinted seed.entry.now (W.text out.old) (W.text out.new)) }
+    ensures counted { CountsWrites result (W.failed out.old) (W.failed out.new) }
 {
     let mut bytes = [0; PRIVATE_SEED_LEN];
     if hex::decode_to_slice(seed, &mut bytes).is_err() {

@@ -1,14 +1,19 @@
 //! `hs_tool migrate OLD NEW COMMITTEE`: a log from before votes named their keys, carried over to the form of today.
 
-ghost use Rattle.std.specs.Prelude.{◌≢◌, IfErr};
+ghost use Rattle.std.specs.Prelude.{◌≡◌, ◌≢◌, IfErr, IfOk, OnOk};
 ghost use Rattle.blocks.specs.Headers.{IsGenesis};
+ghost use Rattle.stable_log.specs.declared.file_disk.FileDisk.{FileDisk as FileDiskValue};
+ghost use Rattle.vote_log.specs.Logs.{LogState};
+ghost use Rattle.vote_log.specs.Migrations.{IsRunningLog};
 ghost use Rattle.program_parts.specs.Writes.{CountsWrites};
+ghost use Rattle.tool_commands.specs.Lines.{IsMigrationPrinted, migrated_line as migrated_text};
 
 use crate::fault::{Fault, ToolFault};
 use blocks::Header;
+use printed_lines::put_number;
 use program_parts::{ProgramFault, parse_committee, read_committee};
 use stable_log::{FileDisk, Journal, JournalError};
-use std::alloc::Global;
+use std::alloc::{AllocError, Global};
 use std::fs;
 use std::fs::{File, Files, OpenOptions};
 use std::io::ErrorKind;
@@ -29,7 +34,8 @@ pub fn migrate_log<'a, F: Files<File = File>, W: Sink>(
     path: &'a str,
     out: &mut W,
 ) -> Result<(), Fault<'a>>
-    ensures { CountsWrites result (W.failed out.old) (W.failed out.new) }
+    ensures printed { OnOk result (IsMigrationPrinted (W.text out.old) (W.text out.new)) }
+    ensures counted { CountsWrites result (W.failed out.old) (W.failed out.new) }
 {
     let log = open_old(rt, alloc, old)?;
     let bytes = read_committee(rt, alloc, path)?;
@@ -44,8 +50,21 @@ pub fn migrate_log<'a, F: Files<File = File>, W: Sink>(
             return Err(fault);
         }
     };
-    let line = format!(in alloc; "migrated {count}\n")?;
-    write_all(out, line.as_bytes()).map_err(|_| Fault::Output)
+    let line = migrated_line(alloc, count)?;
+    match write_all(out, &line) {
+        Ok(()) => Ok(()),
+        Err(_) => Err(Fault::Output),
+    }
+}
+
+// `migrated ` and how many entries.
+fn migrated_line(alloc: Global, count: usize) -> Result<Vec<u8>, AllocError>
+    ensures { IfOk result (λ line. line.items ≡ migrated_text count) }
+{
+    let mut line = b"migrated ".to_vec(alloc)?;
+    put_number(&mut line, count)?;
+    line.push(b'\n')?;
+    Ok(line)
 }
 
 // The journal of the old log, in a file that is only read.
@@ -87,7 +106,9 @@ fn carry<'a>(
     genesis: Header,
 ) -> Result<usize, Fault<'a>>
     requires { IsGenesis genesis }
-    ensures { IfErr result (λ fault. fault ≢ ProgramFault.Output) }
+    ensures log { IfOk result (λ count. (log : LogState FileDiskValue)
+        × IsRunningLog genesis count log) }
+    ensures fault { IfErr result (λ fault. fault ≢ ProgramFault.Output) }
 {
     match migrate(alloc, old, disk, genesis) {
         Ok((log, _)) => Ok(log.count()),

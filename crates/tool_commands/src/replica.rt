@@ -2,7 +2,7 @@
 
 ghost use Rattle.std.specs.Prelude.{◌≡◌, ◌↔◌, ℕ, IfOk};
 ghost use Rattle.key_files.specs.declared.files.KeyFile.{KeyFile as KeyFileValue};
-ghost use Rattle.tool_commands.specs.Stays.{IsDonePrinted, IsRunPrinted, IsStopPrinted};
+ghost use Rattle.tool_commands.specs.Stays.{AreReadOf, IsReplicaDone, IsRunPrinted, IsStopPrinted};
 ghost use Rattle.program_parts.specs.Writes.{CountsWrites};
 
 use crate::fault::{Fault, FolderFile, ToolFault, fault_of_service};
@@ -10,6 +10,7 @@ use crate::host::Host;
 use log_server::serve_requests;
 use program_parts::{ProgramFault, parse_committee, read_committee};
 use replica_command::{Ending, ReplicaEnd, ReplicaFault, ReplicaFile, run_replica};
+use stable_log::{Disk, FileDisk};
 use std::fs::{File, Files};
 use std::net::{Net, TcpListener, TcpStream};
 use std::sync::Wait;
@@ -38,16 +39,18 @@ pub fn replica<
     out: &mut W,
 ) -> Result<Ending, Fault<'a>>
     ensures stopped { IfOk result (λ ending. ending ≡ Ending.Stopped
-        → IsStopPrinted (W.text out.old) (W.text out.new)) }
+        → IsStopPrinted ⟦<FileDisk as Disk>⟧ (AreReadOf R.Feed lines.old lines.new)
+        number (W.text out.old) (W.text out.new)) }
     ensures done { IfOk result (λ ending. ending ≡ Ending.Done
-        → IsDonePrinted (W.text out.old) (W.text out.new)) }
+        → IsReplicaDone ⟦<FileDisk as Disk>⟧ (AreReadOf R.Feed lines.old lines.new)
+        number service.entry (W.text out.old) (W.text out.new)) }
     ensures counted { CountsWrites result (W.failed out.old) (W.failed out.new) }
 {
     let mut end = run(host, committee, number, path, workers, lines, out)?;
     match (end.end.ending, service) {
         (Ending::Done, Some(service)) => {
             let log = &mut end.end.closed.parts.log;
-            match serve_requests(host.rt, service.address, service.requests, log, out) {
+            match serve_requests(host.rt, service.address, service.requests.count(), log, out) {
                 Ok(()) => Ok(Ending::Done),
                 Err(fault) => Err(fault_of_service(fault)),
             }
@@ -67,7 +70,9 @@ fn run<'a, F: Files<File = File>, T: Threads + Wait + Sync, R: Feed, W: Sink>(
     out: &mut W,
 ) -> Result<ReplicaEnd, Fault<'a>>
     ensures printed { IfOk result (λ r.
-        IsRunPrinted (W.text out.old) (W.text out.new) r.end.ending) }
+        IsRunPrinted ⟦<FileDisk as Disk>⟧ (AreReadOf R.Feed lines.old lines.new)
+        number (W.text out.old) (W.text out.new)
+        r.end.closed.parts.log.steps r.end.ending) }
     ensures counted { CountsWrites result (W.failed out.old) (W.failed out.new) }
 {
     let bytes = read_committee(host.files, host.alloc, committee)?;

@@ -1,7 +1,8 @@
 //! The words that name the sources of an audit.
 
-ghost use Rattle.std.specs.Prelude.{◌≡◌, ◌≢◌, IfErr, IfOk, length};
-ghost use Rattle.std.specs.List.{All};
+ghost use Rattle.std.specs.Prelude.{◌≡◌, ◌≢◌, IfErr, IfOk};
+ghost use Rattle.std.specs.List.{All, AllZip};
+ghost use Rattle.tool_commands.specs.OpenedSources.{IsOpenedAs, SpellSources};
 ghost use Rattle.tool_commands.specs.SourceTries.{IsTriedAs};
 
 use crate::fault::{Fault, ToolFault};
@@ -22,7 +23,8 @@ pub(crate) fn read_source_words<'a>(
     alloc: Global,
     words: &[&'a str],
 ) -> Result<Vec<SourceWord<'a>>, Fault<'a>>
-    ensures { IfErr result (λ fault. fault ≢ ProgramFault.Output) }
+    ensures spelled { IfOk result (λ sources. SpellSources words.now sources.items) }
+    ensures fault { IfErr result (λ fault. fault ≢ ProgramFault.Output) }
 {
     let mut sources = Vec::with_capacity(alloc, words.len())?;
     for (i, word) in words.iter().enumerate() {
@@ -56,7 +58,7 @@ fn source_of<'a, 'p, F: Files<File = File>, T: Net<Stream = TcpStream> + Clock, 
     number: usize,
 ) -> Source<Watched<'p, SourceConnector<'a, T, F>, P>>
     ensures tries { IsTriedAs tries.count result.connector.connector result.tries }
-    ensures replica { result.replica ≡ word.now.replica }
+    ensures opened { IsOpenedAs word.now result.replica result.connector.connector }
 {
     let connector = match word.origin {
         Origin::File(path) => SourceConnector::File(FileConnector::new(host.files, path)),
@@ -84,7 +86,9 @@ pub(crate) fn open_sources<
 ) -> Result<Vec<Source<Watched<'p, SourceConnector<'a, T, F>, P>>>, AllocError>
     ensures tries { IfOk result (λ sources.
         All (λ s. IsTriedAs tries.count s.connector.connector s.tries) sources.items) }
-    ensures many { IfOk result (λ sources. length sources.items ≡ length words.now) }
+    ensures opened { IfOk result (λ sources.
+        AllZip (λ word s. IsOpenedAs word s.replica s.connector.connector)
+        words.now sources.items) }
 {
     let mut sources = Vec::with_capacity(host.alloc, words.len())?;
     for (i, word) in words.iter().enumerate() {

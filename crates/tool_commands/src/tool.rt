@@ -1,9 +1,12 @@
 //! The tool over handed-in words and streams, so that tests run it whole.
 
-ghost use Rattle.std.specs.Prelude.{◌≡◌, ◌≢◌, ◌⊎◌, ◌↔◌, IfOk};
+ghost use Rattle.std.specs.Prelude.{◌≡◌, ◌≢◌, ◌⊎◌, ◌↔◌, ℕ, List, IfOk};
+ghost use Rattle.std.specs.Borrow.{Bor};
 ghost use Rattle.program_parts.specs.Writes.{CountsWrites};
+ghost use Rattle.tool_words.specs.declared.command.Command.{Command as CommandValue};
 ghost use Rattle.tool_commands.specs.Audits.{AreCulpritsPrinted};
-ghost use Rattle.tool_commands.specs.Stays.{IsStopPrinted};
+ghost use Rattle.tool_commands.specs.Commands.{IsDone};
+ghost use Rattle.tool_commands.specs.Stays.{AreReadOf, IsStopPrinted};
 ghost use Rattle.tool_commands.specs.Writes.{TellsFault};
 
 use crate::audit::audit_sources;
@@ -15,6 +18,7 @@ use crate::migrate::migrate_log;
 use crate::replica::replica;
 use program_parts::FAULT;
 use replica_command::Ending;
+use stable_log::{Disk, FileDisk};
 use std::fs::{File, Files};
 use std::net::{Net, TcpListener, TcpStream};
 use std::sync::Wait;
@@ -52,10 +56,15 @@ pub fn run_tool<
 where
     F::Dir: Send,
     ensures status { (result ≡ 0) ⊎ (result ≡ 2) ⊎ (result ≡ 3) }
-    ensures culprits { result ≡ 3 → AreCulpritsPrinted (W.text out.old) (W.text out.new) }
-    ensures done { result ≢ 2 → (faults.new ≡ faults.old) × (W.failed out.new ≡ W.failed out.old) }
+    ensures done { result ≡ 0 → (command : CommandValue)
+        × IsDone ⟦<FileDisk as Disk>⟧ (AreReadOf R.Feed lines.old lines.new)
+        command (W.text out.old) (W.text out.new) }
+    ensures culprits { result ≡ 3 → (words : List (Bor (List ℕ)))
+        × AreCulpritsPrinted words (W.text out.old) (W.text out.new) }
+    ensures quiet { result ≢ 2 → (faults.new ≡ faults.old) × (W.failed out.new ≡ W.failed out.old) }
     ensures told { result ≡ 2 → ((faults.new ≡ faults.old) × (W.failed out.new ≡ W.failed out.old)
-        × IsStopPrinted (W.text out.old) (W.text out.new))
+        × (replica : ℕ) × IsStopPrinted ⟦<FileDisk as Disk>⟧ (AreReadOf R.Feed lines.old lines.new)
+        replica (W.text out.old) (W.text out.new))
         ⊎ TellsFault (E.text faults.old) (E.text faults.new) (E.failed faults.old)
         (E.failed faults.new) (W.failed out.old) (W.failed out.new) }
 {
@@ -115,10 +124,15 @@ fn run<
 ) -> Result<Ended, Fault<'a>>
 where
     F::Dir: Send,
+    ensures done { IfOk result (λ ended. ended ≡ Ended.Done → (command : CommandValue)
+        × IsDone ⟦<FileDisk as Disk>⟧ (AreReadOf R.Feed lines.old lines.new)
+        command (W.text out.old) (W.text out.new)) }
     ensures culprits { IfOk result (λ ended. ended ≡ Ended.Culprits
-        → AreCulpritsPrinted (W.text out.old) (W.text out.new)) }
-    ensures stopped { IfOk result (λ ended. ended ≡ Ended.Stopped
-        → IsStopPrinted (W.text out.old) (W.text out.new)) }
+        → (words : List (Bor (List ℕ)))
+        × AreCulpritsPrinted words (W.text out.old) (W.text out.new)) }
+    ensures stopped { IfOk result (λ ended. ended ≡ Ended.Stopped → (replica : ℕ)
+        × IsStopPrinted ⟦<FileDisk as Disk>⟧ (AreReadOf R.Feed lines.old lines.new)
+        replica (W.text out.old) (W.text out.new)) }
     ensures counted { CountsWrites result (W.failed out.old) (W.failed out.new) }
 {
     match read_words(host.alloc, words) {
@@ -142,10 +156,15 @@ fn done<
 ) -> Result<Ended, Fault<'a>>
 where
     F::Dir: Send,
+    ensures done { IfOk result (λ ended. ended ≡ Ended.Done
+        → IsDone ⟦<FileDisk as Disk>⟧ (AreReadOf R.Feed lines.old lines.new)
+        command.now (W.text out.old) (W.text out.new)) }
     ensures culprits { IfOk result (λ ended. ended ≡ Ended.Culprits
-        → AreCulpritsPrinted (W.text out.old) (W.text out.new)) }
-    ensures stopped { IfOk result (λ ended. ended ≡ Ended.Stopped
-        → IsStopPrinted (W.text out.old) (W.text out.new)) }
+        → (words : List (Bor (List ℕ)))
+        × AreCulpritsPrinted words (W.text out.old) (W.text out.new)) }
+    ensures stopped { IfOk result (λ ended. ended ≡ Ended.Stopped → (replica : ℕ)
+        × IsStopPrinted ⟦<FileDisk as Disk>⟧ (AreReadOf R.Feed lines.old lines.new)
+        replica (W.text out.old) (W.text out.new)) }
     ensures counted { CountsWrites result (W.failed out.old) (W.failed out.new) }
 {
     let (files, alloc) = (host.files, host.alloc);

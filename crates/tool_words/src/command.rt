@@ -1,6 +1,6 @@
 //! What the words of a command line ask for.
 
-ghost use Rattle.std.specs.Prelude.{◌≡◌, ◌≤◌};
+ghost use Rattle.std.specs.Prelude.{◌≡◌, ◌≤◌, MatchOption};
 
 use wire::KeyNumber;
 
@@ -63,8 +63,7 @@ pub struct WeightedReplica<'a> {
 pub struct Service<'a> {
     /// The address to listen on.
     pub address: &'a str,
-    /// How many requests are served: 1 to 1,000.
-    pub requests: u16,
+    pub requests: Requests,
 }
 
 /// How many workers a replica has: 1 to 8.
@@ -77,7 +76,9 @@ pub struct Workers {
 
 impl Workers {
     /// So many workers, where they are 1 to 8.
-    pub fn of(count: u16) -> Option<Workers> {
+    pub fn of(count: u16) -> Option<Workers>
+        ensures { MatchOption result (1 ≤ count → count ≤ 8 → ⊥) (λ w. w.count ≡ count) }
+    {
         if count < 1 || count > 8 {
             return None;
         }
@@ -86,6 +87,7 @@ impl Workers {
 
     /// How many they are.
     pub fn count(self) -> u8
+        ensures value { result ≡ self.count }
         ensures least { 1 ≤ result }
         ensures most { result ≤ 8 }
     {
@@ -103,7 +105,9 @@ pub struct Tries {
 
 impl Tries {
     /// So many tries, where they are 1 to 3.
-    pub fn of(count: u16) -> Option<Tries> {
+    pub fn of(count: u16) -> Option<Tries>
+        ensures { MatchOption result (1 ≤ count → count ≤ 3 → ⊥) (λ t. t.count ≡ count) }
+    {
         if count < 1 || count > 3 {
             return None;
         }
@@ -115,6 +119,35 @@ impl Tries {
         ensures value { result ≡ self.count }
         ensures least { 1 ≤ result }
         ensures most { result ≤ 3 }
+    {
+        self.count
+    }
+}
+
+/// How many requests are served: 1 to 1,000.
+#[derive(Clone, Copy, Debug)]
+pub struct Requests {
+    count: u16,
+    pub ghost least: { 1 ≤ count },
+    pub ghost most: { count ≤ 1000 },
+}
+
+impl Requests {
+    /// So many requests, where they are 1 to 1,000.
+    pub fn of(count: u16) -> Option<Requests>
+        ensures { MatchOption result (1 ≤ count → count ≤ 1000 → ⊥) (λ r. r.count ≡ count) }
+    {
+        if count < 1 || count > 1000 {
+            return None;
+        }
+        Some(Requests { count })
+    }
+
+    /// How many they are.
+    pub fn count(self) -> u16
+        ensures value { result ≡ self.count }
+        ensures least { 1 ≤ result }
+        ensures most { result ≤ 1000 }
     {
         self.count
     }

@@ -1,9 +1,14 @@
 //! From words to what they ask for.
 
-use crate::command::{Command, Service, Tries, WeightedReplica, Workers};
+ghost use Rattle.std.specs.Prelude.{◌≡◌, ◌≤◌, ◌<◌, ◌^◌, ℕ, IfOk, MatchOption, decimal};
+ghost use Rattle.program_parts.specs.Words.{SpellsNumber};
+ghost use Rattle.tool_words.specs.Commands.{HasItsCounts, IsWeighted};
+
+use crate::command::{Command, Requests, Service, Tries, WeightedReplica, Workers};
 use crate::grammar::parsed;
 use clap::ArgMatches;
 use clap::error::ErrorKind;
+use printed_lines::number_in;
 use program_parts::number;
 use std::alloc::{AllocError, AllocFailed, Global};
 use wire::{KeyNumber, MOST_KEYS};
@@ -18,12 +23,20 @@ pub enum WordsFault {
 }
 
 impl From<AllocError> for WordsFault {
+    ghost use Rattle.tool_words.specs.declared.reading.WordsFault.TheVariants.{Memory};
+
+    ghost from_gives = { λ _ fault. fault ≡ Memory };
+
     fn from(_error: AllocError) -> WordsFault {
         WordsFault::Memory
     }
 }
 
 impl<T: Drop> From<AllocFailed<T>> for WordsFault {
+    ghost use Rattle.tool_words.specs.declared.reading.WordsFault.TheVariants.{Memory};
+
+    ghost from_gives = { λ _ fault. fault ≡ Memory };
+
     fn from(_refused: AllocFailed<T>) -> WordsFault {
         WordsFault::Memory
     }
@@ -31,7 +44,9 @@ impl<T: Drop> From<AllocFailed<T>> for WordsFault {
 
 /// Reads the words, without the program's name. Refused as usage where they are not written as
 /// docs/hs_tool.md says.
-pub fn read_words<'a>(alloc: Global, words: &'a [String]) -> Result<Command<'a>, WordsFault> {
+pub fn read_words<'a>(alloc: Global, words: &'a [String]) -> Result<Command<'a>, WordsFault>
+    ensures { IfOk result HasItsCounts }
+{
     if words.is_empty() {
         return Ok(Command::Usage);
     }
@@ -46,7 +61,9 @@ pub fn read_words<'a>(alloc: Global, words: &'a [String]) -> Result<Command<'a>,
     }
 }
 
-fn command<'a>(alloc: Global, matches: &ArgMatches<'a>) -> Result<Command<'a>, WordsFault> {
+fn command<'a>(alloc: Global, matches: &ArgMatches<'a>) -> Result<Command<'a>, WordsFault>
+    ensures { IfOk result HasItsCounts }
+{
     match matches.subcommand() {
         Some(("keygen", given)) => keygen(given),
         Some(("committee", given)) => committee(alloc, given),
@@ -58,7 +75,9 @@ fn command<'a>(alloc: Global, matches: &ArgMatches<'a>) -> Result<Command<'a>, W
     }
 }
 
-fn keygen<'a>(given: &ArgMatches<'a>) -> Result<Command<'a>, WordsFault> {
+fn keygen<'a>(given: &ArgMatches<'a>) -> Result<Command<'a>, WordsFault>
+    ensures { IfOk result HasItsCounts }
+{
     let (Some(seed), Some(folder)) = (given.get_str("SEED"), given.get_str("DIR")) else {
         return Err(WordsFault::Usage);
     };
@@ -86,7 +105,9 @@ fn key_number(word: Option<&str>) -> Result<KeyNumber, WordsFault> {
 }
 
 // F of 1 to 10, and 3F + 1 key files.
-fn committee<'a>(alloc: Global, given: &ArgMatches<'a>) -> Result<Command<'a>, WordsFault> {
+fn committee<'a>(alloc: Global, given: &ArgMatches<'a>) -> Result<Command<'a>, WordsFault>
+    ensures { IfOk result HasItsCounts }
+{
     let (Some(f), Some(out), Some(keys)) = (
         given.get_str("F"),
         given.get_str("OUT"),
@@ -108,7 +129,9 @@ fn committee<'a>(alloc: Global, given: &ArgMatches<'a>) -> Result<Command<'a>, W
 }
 
 // 4 to 31 replicas, each with its weight and its key files.
-fn weighted<'a>(alloc: Global, given: &ArgMatches<'a>) -> Result<Command<'a>, WordsFault> {
+fn weighted<'a>(alloc: Global, given: &ArgMatches<'a>) -> Result<Command<'a>, WordsFault>
+    ensures { IfOk result HasItsCounts }
+{
     let (Some(out), Some(words)) = (given.get_str("OUT"), given.get_strs("KEY")) else {
         return Err(WordsFault::Usage);
     };
@@ -123,7 +146,9 @@ fn weighted<'a>(alloc: Global, given: &ArgMatches<'a>) -> Result<Command<'a>, Wo
 }
 
 // What `WEIGHT=PATH,PATH..` says. The first `=` ends the weight, so a path may have one, but it can have no comma.
-fn weighted_replica<'a>(alloc: Global, word: &'a str) -> Result<WeightedReplica<'a>, WordsFault> {
+fn weighted_replica<'a>(alloc: Global, word: &'a str) -> Result<WeightedReplica<'a>, WordsFault>
+    ensures { IfOk result IsWeighted }
+{
     let Some((digits, list)) = word.split_once('=') else {
         return Err(WordsFault::Usage);
     };
@@ -137,11 +162,17 @@ fn weighted_replica<'a>(alloc: Global, word: &'a str) -> Result<WeightedReplica<
         }
         paths.push(path)?;
     }
+    // For the proof: what is split has a piece at least.
+    if paths.is_empty() {
+        return Err(WordsFault::Usage);
+    }
     Ok(WeightedReplica { weight, paths })
 }
 
 // R below 65,536; one worker, and one request, where no number is said.
-fn replica<'a>(given: &ArgMatches<'a>) -> Result<Command<'a>, WordsFault> {
+fn replica<'a>(given: &ArgMatches<'a>) -> Result<Command<'a>, WordsFault>
+    ensures { IfOk result HasItsCounts }
+{
     let (Some(committee), Some(replica), Some(folder)) = (
         given.get_str("COMMITTEE"),
         given.get_str("R"),
@@ -169,7 +200,10 @@ fn replica<'a>(given: &ArgMatches<'a>) -> Result<Command<'a>, WordsFault> {
 }
 
 // Where no address is said, nothing is served, whatever the number of requests.
-fn service<'a>(address: Option<&'a str>, requests: u16) -> Result<Option<Service<'a>>, WordsFault> {
+fn service<'a>(
+    address: Option<&'a str>,
+    requests: Requests,
+) -> Result<Option<Service<'a>>, WordsFault> {
     match address {
         Some("") => Err(WordsFault::Usage),
         Some(address) => Ok(Some(Service { address, requests })),
@@ -178,7 +212,9 @@ fn service<'a>(address: Option<&'a str>, requests: u16) -> Result<Option<Service
 }
 
 // None or more sources, and three tries where no number is said. What a source's word says is not judged here.
-fn audit<'a>(alloc: Global, given: &ArgMatches<'a>) -> Result<Command<'a>, WordsFault> {
+fn audit<'a>(alloc: Global, given: &ArgMatches<'a>) -> Result<Command<'a>, WordsFault>
+    ensures { IfOk result HasItsCounts }
+{
     let (Some(committee), Some(folder)) = (given.get_str("COMMITTEE"), given.get_str("OUTDIR"))
     else {
         return Err(WordsFault::Usage);
@@ -201,7 +237,9 @@ fn audit<'a>(alloc: Global, given: &ArgMatches<'a>) -> Result<Command<'a>, Words
     })
 }
 
-fn migrate<'a>(given: &ArgMatches<'a>) -> Result<Command<'a>, WordsFault> {
+fn migrate<'a>(given: &ArgMatches<'a>) -> Result<Command<'a>, WordsFault>
+    ensures { IfOk result HasItsCounts }
+{
     let (Some(old), Some(new), Some(committee)) = (
         given.get_str("OLD"),
         given.get_str("NEW"),
@@ -224,29 +262,46 @@ fn has_empty(words: &[&str]) -> bool {
 }
 
 // 1 to 2^32 - 1, in its one spelling.
-fn weight(word: &str) -> Option<u32> {
-    if word.starts_with('+') || word.starts_with('0') {
+fn weight(word: &str) -> Option<u32>
+    ensures { MatchOption result ((n : ℕ) → 1 ≤ n → n < 2 ^ 32 → word.now ≡ decimal n → ⊥)
+        (λ n. (1 ≤ n) × (word.now ≡ decimal n)) }
+{
+    let weight = number_in(word.as_bytes())?;
+    if weight < 1 || weight > u64::from(u32::MAX) {
         return None;
     }
-    word.parse::<u32>().ok()
+    Some(weight as u32)
 }
 
 // 1 to 10.
-fn faulty(word: &str) -> Option<u16> {
+fn faulty(word: &str) -> Option<u16>
+    ensures { MatchOption result ((f : ℕ) → 1 ≤ f → f ≤ 10 → SpellsNumber word.now f → ⊥)
+        (λ f. (1 ≤ f) × (f ≤ 10) × SpellsNumber word.now f) }
+{
     let f = number(word)?;
-    (1 <= f && f <= 10).then_some(f)
+    if f < 1 || f > 10 {
+        return None;
+    }
+    Some(f)
 }
 
-fn workers(word: &str) -> Option<Workers> {
+fn workers(word: &str) -> Option<Workers>
+    ensures { MatchOption result ((n : ℕ) → 1 ≤ n → n ≤ 8 → SpellsNumber word.now n → ⊥)
+        (λ w. SpellsNumber word.now w.count) }
+{
     Workers::of(number(word)?)
 }
 
-fn tries(word: &str) -> Option<Tries> {
+fn tries(word: &str) -> Option<Tries>
+    ensures { MatchOption result ((n : ℕ) → 1 ≤ n → n ≤ 3 → SpellsNumber word.now n → ⊥)
+        (λ t. SpellsNumber word.now t.count) }
+{
     Tries::of(number(word)?)
 }
 
-// 1 to 1,000.
-fn requests(word: &str) -> Option<u16> {
-    let requests = number(word)?;
-    (1 <= requests && requests <= 1000).then_some(requests)
+fn requests(word: &str) -> Option<Requests>
+    ensures { MatchOption result ((n : ℕ) → 1 ≤ n → n ≤ 1000 → SpellsNumber word.now n → ⊥)
+        (λ r. SpellsNumber word.now r.count) }
+{
+    Requests::of(number(word)?)
 }

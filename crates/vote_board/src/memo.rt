@@ -51,7 +51,7 @@ impl<N: BoardNaming> Memo<N> {
         self.posted.get(vote).copied().flatten()
     }
 
-    // The vote, as it was posted first. What is remembered stays, of all votes.
+    // The vote, as it was posted first. What is remembered stays, of all votes. Where memory is refused nothing changes.
     pub(crate) fn post(
         &mut self,
         vote: Shared<SignedVote>,
@@ -59,6 +59,7 @@ impl<N: BoardNaming> Memo<N> {
         ensures same { IfOk result (λ v. v ≡ vote) }
         ensures posted { OnOk result (IsPosted self.new vote) }
         ensures answers { (v : SignedVoteValue) → answer_in self.new v ≡ answer_in self.old v }
+        ensures err { OnErr result (self.new ≡ self.old) }
     {
         if let Some((held, _)) = self.posted.get_key_value(&vote) {
             return held.again();

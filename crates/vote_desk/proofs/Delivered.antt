@@ -19,13 +19,13 @@ use Rattle.key_index_store.specs.State.{IndexState}
 use Rattle.stable_log.proofs.Told.{some_if, if_some}
 use Rattle.log_format.specs.EntryText.{Entry, IsEntry}
 use Rattle.log_format.specs.declared.entry.KeyedSignature.{KeyedSignature}
-use Rattle.vote_log.specs.Logs.{IsLogBeforeOrAfter, LeavesEntries, LogState}
+use Rattle.vote_log.specs.Logs.{AddsEntry, IsLogBeforeOrAfter, LeavesEntries, LogState}
 use Rattle.vote_desk.specs.declared.desk_error.DeskError.{DeskError}
 use Rattle.vote_desk.specs.declared.desk_error.DeskError.TheVariants as error
 use Rattle.vote_desk.specs.declared.planned_block.PlannedBlock.{PlannedBlock}
 use Rattle.vote_desk.specs.declared.reply.Answer.{Answer}
 use Rattle.vote_desk.specs.declared.reply.Receipt.{Receipt}
-use Rattle.vote_desk.specs.Deliveries.{AddsEntry, CommitsIn, HasEffect, IsDelivered, IsLeftBy, IsLeftWith, IsLegalPlan, IsStored, Votes, act_of, entry_for, planned_entry, released_by, signed_in, vote_under}
+use Rattle.vote_desk.specs.Deliveries.{CommitsIn, HasEffect, IsDelivered, IsLeftBy, IsLeftWith, IsLegalPlan, IsStored, Votes, act_of, entry_for, planned_entry, released_by, signed_in, vote_under}
 use Rattle.vote_desk.specs.DeskRefusals.{Asks, IsDeskRefusal, IsPlanRefusal, IsRoomRefusal, IsRunning, IsStorageRefusal, Stores}
 use Rattle.vote_desk.specs.Desks.{DeskView, KeepsDesk, index_of}
 use Rattle.vote_desk.proofs.Keeping.{legal_next}

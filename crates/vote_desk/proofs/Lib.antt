@@ -7,3 +7,6 @@ pub mod Gathered
 pub mod ClosedLogs
 pub mod Stays
 pub mod Numbers
+pub mod Moments
+pub mod OnlyRead
+pub mod FoundVotes

@@ -20,11 +20,11 @@ use Rattle.key_index_store.specs.State.{IndexState}
 use Rattle.stable_log.proofs.Told.{some_if, if_some}
 use Rattle.stable_log.specs.Crash.{LeavesOnly}
 use Rattle.log_format.specs.EntryText.{Entry, IsEntry, stored_in}
-use Rattle.vote_log.specs.Logs.{AreListed, IsLogBeforeOrAfter, LeavesEntries, LogState, StandsForEntries, steps_of}
+use Rattle.vote_log.specs.Logs.{AddsEntry, AreListed, IsLogBeforeOrAfter, LeavesEntries, LogState, StandsForEntries, steps_of}
 use Rattle.vote_log.proofs.LogLaws.{steps_push}
 use Rattle.vote_desk.specs.declared.desk_error.DeskError.{DeskError}
 use Rattle.vote_desk.specs.declared.desk_error.DeskError.TheVariants as error
-use Rattle.vote_desk.specs.Deliveries.{AddsEntry, IsLeftWith, act_on, planned_entry}
+use Rattle.vote_desk.specs.Deliveries.{IsLeftWith, act_on, planned_entry}
 use Rattle.vote_desk.specs.Desks.{AreRising, DeskView, IsFittingImage, AreKeysOf, KeepsDesk, KeepsEntries, KeepsList, indices_in, vote_count}
 use Rattle.vote_desk.proofs.Lists.{attached, fits_none, fits_push, length_listed, long_enough, rising_above}
 use Rattle.vote_desk.proofs.Keeping.{all_kept, entries_same, kept_held, kept_stored, legal_next, told_before}

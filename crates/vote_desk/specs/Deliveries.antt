@@ -1,10 +1,10 @@
 -- What one delivery or one timeout does to a desk.
-use Rattle.std.specs.Prelude.{◌≡◌, ◌≢◌, ◌<◌, ◌+◌, ◌++◌, ◌⊎◌, ℕ, List, [], ◌∷◌, Option, Some, None, IfSome, Bool, true, false, length}
+use Rattle.std.specs.Prelude.{◌≡◌, ◌≢◌, ◌<◌, ◌+◌, ◌++◌, ◌⊎◌, ◌↔◌, ℕ, List, [], ◌∷◌, Option, Some, None, IfSome, IsSome, Bool, true, false, length}
 use Rattle.streams.specs.Counting.{HasFailed}
 use Rattle.lmots.specs.declared.keys.PrivateSeed.{PrivateSeed}
 use Rattle.lms_tree.specs.Tree.{lms_signature, tree_root, Verifies}
 use Rattle.blocks.specs.Headers.{Header, header_id}
-use Rattle.blocks.specs.Genesis.{chain_id_of}
+use Rattle.blocks.specs.Genesis.{chain_id_of, genesis_of}
 use Rattle.blocks.specs.Chains.{IsChain}
 use Rattle.blocks.specs.Replica.{Stored, Takes}
 use Rattle.blocks.specs.Replay.{IsLegal}
@@ -19,14 +19,22 @@ use Rattle.replica_core.specs.Cores.{Core, IsSameCore}
 use Rattle.replica_core.specs.Plans.{IsChainOf, IsActOn, HoldsAlso, committed_of, event_of, TakesEvent}
 use Rattle.log_format.specs.EntryText.{Entry, IsEntry, stored_in}
 use Rattle.log_format.specs.declared.entry.KeyedSignature.{KeyedSignature}
-use Rattle.key_index_store.specs.Indices.{key_of, q_of}
-use Rattle.vote_log.specs.Logs.{LogState, StandsForEntries, LeavesEntries}
+use Rattle.stable_log.specs.Devices.{AtAnyMoment}
+use Rattle.stable_log.specs.declared.disk.Disk.{Ghosts}
+use Rattle.key_index_store.specs.Boundary.{IsBoundedBy, LeavesBoundary}
+use Rattle.key_index_store.specs.Indices.{key_of, limit_of, q_of}
+use Rattle.key_index_store.specs.State.{IndexState}
+use Rattle.vote_log.specs.Logs.{AddsEntry, StandsForEntries, LeavesEntries}
 use Rattle.vote_desk.specs.declared.planned_block.PlannedBlock.{PlannedBlock}
 use Rattle.vote_desk.specs.declared.reply.Receipt.{Receipt}
 use Rattle.vote_desk.specs.declared.reply.Answer.{Answer}
 use Rattle.vote_desk.specs.declared.reply.Answer.TheVariants.{Voted, Raised, Held}
 use Rattle.vote_desk.specs.declared.reply.Reply.{Reply}
+use Rattle.vote_desk.specs.declared.desk_error.DeskError.{DeskError}
+use Rattle.vote_desk.specs.declared.desk_error.DeskError.TheVariants as error
+use Rattle.vote_desk.specs.DeskRefusals.{IsRunning, IsStopped}
 use Rattle.vote_desk.specs.Desks.{DeskView, index_of, seed_of}
+use Rattle.vote_desk.specs.Stays.{IsImageAfter, stay_in}
 
 -- what the replica does where it answers so
 abbrev pub act_of : Answer → Act
@@ -67,11 +75,6 @@ entry_for b p own = record { block = b.header; parent = p; own = own; certificat
 -- the entry of a planned block, with what it keeps of the own vote, if there is one
 abbrev pub entry_of : PlannedBlock → Option KeyedSignature → Entry
 entry_of planned own = entry_for planned.block planned.plan.parent own
-
--- the log's list is the old one and this entry
-pub record AddsEntry {D : Type 0} (bytes : D → Option (List ℕ)) (old new : LogState D) (e : Entry) : Type 0 where
-  pub steps : new.steps ≡ old.steps ++ stored_in e ∷ []
-  pub entries : IfSome (bytes old.disk) (λ _. new.entries ≡ old.entries ++ e ∷ [])
 
 -- the signature of these bytes by a key of this seed, at its one-time key q
 abbrev pub signature_at : PrivateSeed → ℕ → List ℕ → List ℕ
@@ -147,6 +150,16 @@ IsGoodAnswer committee replica b (Voted receipt) =
 IsGoodAnswer committee replica b Raised = Unit {0}
 IsGoodAnswer committee replica b Held = Unit {0}
 
+-- .. and what is committed stands in the block's chain
+pub record IsGoodReply (committee : List ℕ) (replica : ℕ) (b : Header) (reply : Reply) : Type 0 where
+  pub answer : IsGoodAnswer committee replica b reply.act
+  pub committed : IfSome reply.committed (CommitsIn (genesis_of committee) b)
+
+-- the receipt of an answer, if it has one, is added to a session's receipts, and its share of the book moves with it
+pub record IsTold (receipts later : List Receipt) (share moved : ℕ) (a : Answer) : Type 0 where
+  pub receipts_are : later ≡ with_receipt receipts a
+  pub share_is : moved ≡ share + released_by a
+
 -- ---- a refusal
 
 -- core, list and the count are as before
@@ -187,6 +200,46 @@ pub record FailsIndices {D : Type 0} (failed : D → ℕ) (old new : DeskView D)
 abbrev pub FailsOne : {D : Type 0} → (D → ℕ) → (old new : DeskView D) → Type 0
 FailsOne failed old new = FailsLog failed old new ⊎ FailsIndices failed old new
 
+-- ---- what a delivery leaves
+
+-- the desk runs on, no disk failed, and from now on each crash leaves the list
+pub record RunsOn {D : Type 0} (disk : Ghosts D) (old new : DeskView D) : Type 0 where
+  pub running : IsRunning new
+  pub no_failure : FailsNone disk.failed old new
+  pub durable : IfSome (disk.bytes old.log.disk) (λ _. LeavesEntries (disk.images new.log.disk) new.log.entries)
+
+-- no disk failed, the log is as before, and the index store runs if it did
+pub record IsUndisturbed {D : Type 0} (failed : D → ℕ) (old new : DeskView D) : Type 0 where
+  pub log : new.log ≡ old.log
+  pub indices : new.indices.stopped ≡ old.indices.stopped
+  pub no_failure : FailsNone failed old new
+
+-- one disk failed, and stopped the desk
+pub record IsBroken {D : Type 0} (failed : D → ℕ) (old new : DeskView D) : Type 0 where
+  pub stopped : IsStopped new
+  pub cause : FailsOne failed old new
+
+-- what a refusal leaves: core, list and count as before, and at most one index drawn
+pub record IsLeftAfter {D : Type 0} (failed : D → ℕ) (old new : DeskView D) (e : DeskError) : Type 0 where
+  pub kept : IsKept old new
+  pub at_most_one : DrawsAtMostOne old new
+  pub other : e ≢ error.Device → IsUndisturbed failed old new
+  pub device : e ≡ error.Device → IsBroken failed old new
+
+-- there are as many keys as before, the log's disk tells its bytes if it did, the list begins with the old one, and a
+-- stopped desk's log is not touched
+pub record IsLike {D : Type 0} (bytes : D → Option (List ℕ)) (old new : DeskView D) : Type 0 where
+  pub keys : new.indices.keys ≡ old.indices.keys
+  pub tells : IsSome (bytes new.log.disk) ↔ IsSome (bytes old.log.disk)
+  pub grows : ListGrows old.log.steps new.log.steps
+  pub stopped : IsStopped old → new.log ≡ old.log
+
+-- no index is given twice: a crash at any moment leaves a boundary that is at least the old mark, and one from now on a
+-- boundary that is at least the new mark
+pub record BoundsIndices {D : Type 0} (disk : Ghosts D) (old new : IndexState D) : Type 0 where
+  pub any_moment : AtAnyMoment disk old.disk new.disk (IsBoundedBy (limit_of old.keys) old.mark)
+  pub bounded : LeavesBoundary (disk.images new.disk) (limit_of new.keys) new.mark
+
 -- ---- a crash during a delivery
 
 -- what this act stores of the own vote: for a vote that under the next index, else nothing
@@ -211,6 +264,11 @@ abbrev pub IsLeftBy : {D : Type 0} → List ℕ → ℕ → DeskView D → Check
 IsLeftBy committee replica old b image =
     StandsForEntries image old.log.entries
     ⊎ ((e : Entry) × IsPlannedEntry committee replica old b e × StandsForEntries image (old.log.entries ++ e ∷ []))
+
+-- a crash at any moment leaves such an image, and what one reads in one is found after the stay that the desk was
+pub record SurvivesCrash {D : Type 0} (disk : Ghosts D) (committee : List ℕ) (replica : ℕ) (opening : List Stored) (old new : DeskView D) (b : CheckedBlock) : Type 0 where
+  pub any_moment : IsRunning old → AtAnyMoment disk old.log.disk new.log.disk (IsLeftBy committee replica old b)
+  pub finds : (image : List ℕ) → IsLeftBy committee replica old b image → IsImageAfter (genesis_of committee) (stay_in opening old) image
 
 -- ---- parts of a delivery
 

@@ -66,6 +66,12 @@ HasRoomTo log store act.Vote = HasRoom log × (store.mark < limit_of store.keys)
 HasRoomTo log store act.Raise = HasRoom log
 HasRoomTo log store act.Pass = Unit {0}
 
+-- the desk runs, the block passes the core's tests, and there is what an act needs
+pub record MayDo {D : Type 0} (d : DeskView D) (b : Header) (a : Act) : Type 0 where
+  pub running : IsRunning d
+  pub admissible : IsAdmissible d.core b
+  pub room : HasRoomTo d.log d.indices a
+
 -- the core plans an act that is stored
 abbrev pub AsksToStore : {D : Type 0} → DeskView D → Header → Type 0
 AsksToStore d b = Asks d b act.Vote ⊎ Asks d b act.Raise

@@ -1,5 +1,5 @@
 -- The desk of a replica: what contracts see of it, and what it keeps from one call to the next.
-use Rattle.std.specs.Prelude.{◌≡◌, ◌<◌, ◌≤◌, ◌⊎◌, ◌+◌, ◌-◌, ◌*◌, ◌++◌, ℕ, List, [], ◌∷◌, Option, Some, None, IfSome, false, length, drop, slice_index_or, if◌then◌else◌}
+use Rattle.std.specs.Prelude.{◌≡◌, ◌<◌, ◌≤◌, ◌⊎◌, ◌+◌, ◌-◌, ◌*◌, ◌++◌, ◌||◌, ℕ, List, [], ◌∷◌, Option, Some, None, IfSome, Bool, false, length, drop, slice_index_or, if◌then◌else◌}
 use Rattle.std.specs.List.{All, AllPairs, count_by}
 use Rattle.lmots.specs.declared.keys.PrivateSeed.{PrivateSeed}
 use Rattle.lms_tree.specs.Tree.{tree_root}
@@ -7,14 +7,16 @@ use Rattle.wire.specs.Pieces.{number_at}
 use Rattle.blocks.specs.Headers.{Header}
 use Rattle.blocks.specs.Committees.{n_of, keys_of, key_id_at, root_at}
 use Rattle.blocks.specs.Genesis.{chain_id_of, genesis_of}
-use Rattle.blocks.specs.Replica.{Stored}
+use Rattle.blocks.specs.Replica.{Stored, timed_out}
 use Rattle.blocks.specs.Replay.{FitsOpening, durable_of, replay}
 use Rattle.replica_core.specs.Cores.{Core, restarted_with}
 use Rattle.replica_core.specs.Restarts.{HoldsLinked}
+use Rattle.replica_core.specs.Tables.{HasId}
 use Rattle.key_index_store.specs.State.{IndexState}
 use Rattle.key_index_store.specs.Indices.{limit_of}
 use Rattle.wire.specs.declared.limits.TheConstants.{MOST_ENTRIES}
 use Rattle.vote_desk.specs.declared.parts.Left.{Left}
+use Rattle.vote_desk.specs.declared.parts.DeskStatus.{DeskStatus}
 use Rattle.key_index_store.specs.declared.store.TheConstants.{INDICES}
 use Rattle.log_format.specs.EntryText.{Entry, IsEntry, stored_in}
 use Rattle.log_format.specs.declared.entry.KeyedSignature.{KeyedSignature}
@@ -38,6 +40,30 @@ left_of d = record {
   indices = if d.indices.stopped then 0 else limit_of d.indices.keys - d.indices.mark;
   entries = MOST_ENTRIES - length d.log.steps;
 }
+
+-- whether the log or the index store is stopped
+abbrev pub is_stopped : {D : Type 0} → DeskView D → Bool
+is_stopped d = d.log.stopped || d.indices.stopped
+
+-- what a desk tells of itself
+abbrev pub status_of : {D : Type 0} → DeskView D → DeskStatus
+status_of d = record {
+  vote_view = d.core.state.vote_view;
+  stored_vote_view = d.core.state.stored_vote_view;
+  lock = record { id = d.core.state.lock_id; view = d.core.state.lock_view };
+  headers = length d.core.headers;
+  entries = length d.log.steps;
+  left = left_of d;
+  stopped = is_stopped d;
+}
+
+-- a header of this id is held
+abbrev pub HoldsId : {D : Type 0} → DeskView D → List ℕ → Type 0
+HoldsId d id = (h : Header) × HasId d.core.headers id h
+
+-- the desk after a timeout of this view
+abbrev pub timed_out_at : {D : Type 0} → DeskView D → ℕ → DeskView D
+timed_out_at d view = record d { core = record d.core { state = timed_out d.core.state view } }
 
 -- ---- votes and their indices
 
@@ -117,17 +143,19 @@ pub record KeepsDesk {D : Type 0} (bytes : D → Option (List ℕ)) (images : D 
   pub list : KeepsList opening d.core d.log.genesis d.log.steps d.released
   pub entries : IfSome (bytes d.log.disk) (λ _. KeepsEntries (images d.log.disk) opening d.core.headers d.indices.mark d.log)
 
--- a desk that keeps so has this left
-abbrev pub IsLeftAtDesk : {D : Type 0} → (D → Option (List ℕ)) → (D → List ℕ → Type 0) → List ℕ → ℕ → List Stored → Left → Type 0
-IsLeftAtDesk {D} bytes images committee replica opening left =
-    (d : DeskView D) × KeepsDesk bytes images committee replica opening d × (left ≡ left_of d)
+-- what it has beside what contracts see: its replica's number, the id of its chain, and how many entries the opening list
+-- has
+pub record Beside : Type 0 where
+  pub replica : ℕ
+  pub chain : List ℕ
+  pub opened : ℕ
 
--- .. with what it keeps beside what contracts see: its replica, the id of its chain, and the length of the opening list
-pub record KeepsState {D : Type 0} (bytes : D → Option (List ℕ)) (images : D → List ℕ → Type 0) (committee : List ℕ) (replica : ℕ) (opening : List Stored) (d : DeskView D) (replica_here : ℕ) (chain : List ℕ) (opened : ℕ) : Type 0 where
-  pub desk : KeepsDesk bytes images committee replica opening d
-  pub replica_is : replica_here ≡ replica
-  pub chain_is : chain ≡ chain_id_of committee
-  pub opened_is : opened ≡ length opening
+-- a desk that keeps so, and what it has beside is of this committee, replica and opening list
+pub record KeepsState {D : Type 0} (Keeps : DeskView D → Type 0) (committee : List ℕ) (replica : ℕ) (opening : List Stored) (d : DeskView D) (here : Beside) : Type 0 where
+  pub desk : Keeps d
+  pub replica_is : here.replica ≡ replica
+  pub chain_is : here.chain ≡ chain_id_of committee
+  pub opened_is : here.opened ≡ length opening
 
 -- ---- a desk that was just opened
 
@@ -140,3 +168,13 @@ pub record IsOpened {D : Type 0} (committee : List ℕ) (seeds : List PrivateSee
   pub indices_are : d.indices ≡ indices
   pub log_is : d.log ≡ log
   pub none : d.released ≡ 0
+
+-- ---- a desk that was closed
+
+-- all but the count is the desk's, and it keeps what a desk keeps
+pub record IsClosed {D : Type 0} (Keeps : DeskView D → Type 0) (d closed : DeskView D) : Type 0 where
+  pub core_is : closed.core ≡ d.core
+  pub seeds_are : closed.seeds ≡ d.seeds
+  pub indices_are : closed.indices ≡ d.indices
+  pub log_is : closed.log ≡ d.log
+  pub keeps : Keeps closed

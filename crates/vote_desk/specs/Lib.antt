@@ -3,3 +3,6 @@ pub mod Deliveries
 pub mod DeskRefusals
 pub mod Receipts
 pub mod Stays
+pub mod SomeDesk
+pub mod Votes
+pub mod Exports

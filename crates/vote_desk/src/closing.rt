@@ -5,7 +5,7 @@ ghost use Rattle.std.specs.List.{All, Contains};
 ghost use Rattle.std.specs.List.Sorted.{IsPermutation};
 ghost use Rattle.blocks.specs.Genesis.{genesis_of};
 ghost use Rattle.blocks.specs.Replay.{ballots_in};
-ghost use Rattle.vote_desk.specs.Desks.{KeepsDesk, desk_of, vote_count};
+ghost use Rattle.vote_desk.specs.Desks.{IsClosed, KeepsDesk, desk_of, vote_count};
 ghost use Rattle.vote_desk.specs.Receipts.{AreRisingByNumber, AreReceipts, KeepsReceipts, receipt_ballot, receipts_of};
 ghost use Rattle.vote_desk.specs.Stays.{AreLeftByStay, IsStay};
 
@@ -69,10 +69,9 @@ pub fn close_on<N: DeskNaming, D: Disk>(
         AreReceipts (length N.opening) c.parts.log.steps c.receipts.items) }
     ensures order { IfOk result (λ c. AreRisingByNumber c.receipts.items) }
 
-    // Core, key, indices and log are the desk's, and what it kept still holds of them.
-    ensures same { IfOk result (λ c. (c.core ≡ state.core) × (c.parts.trees.items ≡ state.seeds)
-        × (c.parts.index ≡ state.indices) × (c.parts.log ≡ state.log)) }
-    ensures keeps { IfOk result (λ c. KeepsDesk D.bytes D.images N.committee N.replica N.opening
+    // Core, keys, indices and log are the desk's, and what it kept still holds of them.
+    ensures same { IfOk result (λ c.
+        IsClosed (KeepsDesk D.bytes D.images N.committee N.replica N.opening) state
         (desk_of c.core c.parts.trees.items c.parts.index c.parts.log (vec_len c.receipts))) }
 
     // Each image of the log has the receipts' entries, and fits the opening list and the core's headers.

@@ -1,15 +1,11 @@
 //! One delivery, and one timeout.
 
-ghost use Rattle.stable_log.specs.Devices.{AtAnyMoment};
-ghost use Rattle.std.specs.Prelude.{ℕ, ◌≡◌, ◌≢◌, ◌+◌, ◌⊎◌, ◌↔◌, List, IfErr, IfOk, IfSome, IsErrOf, IsSome, OnErr, OnOk};
-ghost use Rattle.blocks.specs.Genesis.{genesis_of};
+ghost use Rattle.std.specs.Prelude.{ℕ, ◌≡◌, ◌≢◌, IfErr, IfOk, IfSome, MatchResult, OnErr, OnOk};
 ghost use Rattle.blocks.specs.Replica.{Takes, Timeout};
-ghost use Rattle.replica_core.specs.Admission.{IsAdmissible};
-ghost use Rattle.stable_log.specs.Crash.{LeavesOnly};
-ghost use Rattle.vote_log.specs.Logs.{LeavesEntries};
-ghost use Rattle.vote_desk.specs.Deliveries.{CommitsIn, DrawsAtMostOne, FailsNone, FailsOne, ListGrows, IsDelivered, IsGoodAnswer, IsKept, IsLeftBy, act_of, released_by, with_receipt};
-ghost use Rattle.vote_desk.specs.DeskRefusals.{HasRoomTo, IsDeskRefusal, IsRunning, IsStopped};
-ghost use Rattle.vote_desk.specs.Stays.{IsImageAfter, stay_in};
+ghost use Rattle.vote_desk.specs.Deliveries.{BoundsIndices, IsDelivered, IsGoodReply, IsLeftAfter, IsLike, IsTold, RunsOn, SurvivesCrash, act_of};
+ghost use Rattle.vote_desk.specs.DeskRefusals.{IsDeskRefusal, IsRunning, IsStopped, MayDo};
+ghost use Rattle.vote_desk.specs.Desks.{timed_out_at};
+ghost use Rattle.vote_desk.specs.SomeDesk.{RefusesUnvoted};
 
 use crate::desk_error::DeskError;
 use crate::naming::DeskNaming;
@@ -38,61 +34,34 @@ pub fn deliver_on<N: DeskNaming, D: Disk>(
     // One event of the run, on the block's chain in the core, as the core plans it.
     ensures ok { IfOk result (IsDelivered D.bytes N.committee N.replica state.old state.new
         block.entry) }
-    ensures committed { IfOk result (λ reply. IfSome reply.committed
-        (CommitsIn (genesis_of N.committee) block.entry.header)) }
-    ensures answer { IfOk result (λ reply.
-        IsGoodAnswer N.committee N.replica block.entry.header reply.act) }
-    ensures exact { IfOk result (λ reply. IsRunning state.old
-        × IsAdmissible state.old.core block.entry.header
-        × HasRoomTo state.old.log state.old.indices (act_of reply.act)) }
-    ensures running { OnOk result (IsRunning state.new) }
+    ensures exact { IfOk result (λ reply. MayDo state.old block.entry.header (act_of reply.act)) }
+    ensures reply { IfOk result (IsGoodReply N.committee N.replica block.entry.header) }
+    ensures durable { OnOk result (RunsOn D.Disk state.old state.new) }
 
     // Just the answer's receipt is added to the session, and its share of the book moves with it.
-    ensures receipt { IfOk result (λ reply.
-        session.new.receipts.items ≡ with_receipt session.old.receipts.items reply.act) }
-    ensures share { IfOk result (λ reply.
-        session.new.share.amount ≡ session.old.share.amount + released_by reply.act) }
-
-    // From then on each crash leaves the list.
-    ensures durable { OnOk result (IfSome (D.bytes state.old.log.disk) (λ _.
-        LeavesEntries (D.images state.new.log.disk) state.new.log.entries)) }
+    ensures session { MatchResult result (λ reply.
+        IsTold session.old.receipts.items session.new.receipts.items session.old.share.amount
+        session.new.share.amount reply.act) (λ _. IsTold session.old.receipts.items
+        session.new.receipts.items session.old.share.amount session.new.share.amount Answer.Held) }
 
     // A crash at any moment of the call leaves the list from before it, or that with the entry of the planned event.
-    ensures any_moment { IsRunning state.old
-        → IfSome (D.bytes state.old.log.disk) (λ _.
-        AtAnyMoment D.Disk state.old.log.disk state.new.log.disk
-        (IsLeftBy N.committee N.replica state.old block.entry)) }
+    ensures any_moment { IfSome (D.bytes state.old.log.disk) (λ _.
+        SurvivesCrash D.Disk N.committee N.replica N.opening state.old state.new block.entry) }
+    ensures like { IsLike D.bytes state.old state.new }
 
-    // What one reads in such an image is found after the stay that the desk was before the call.
-    ensures finds { IfSome (D.bytes state.old.log.disk) (λ _.
-        (image : List ℕ) → IsLeftBy N.committee N.replica state.old block.entry image →
-        IsImageAfter (genesis_of N.committee) (stay_in N.opening state.old) image) }
-    ensures stopped { IsStopped state.old → state.new.log ≡ state.old.log }
-    ensures grows { ListGrows state.old.log.steps state.new.log.steps }
-
-    // There are as many keys as before, and the disk tells its bytes if it did.
-    ensures keys { state.new.indices.keys ≡ state.old.indices.keys }
-    ensures tells { IsSome (D.bytes state.new.log.disk) ↔ IsSome (D.bytes state.old.log.disk) }
-
-    // After a refusal core, list and session are as before, and at most one index was drawn.
+    // After a refusal core, list and count are as before; `Device` comes exactly where a disk failed, and stops the desk.
     ensures first_refusal { IfErr result (IsDeskRefusal state.old block.entry.header) }
-    ensures err { OnErr result (IsKept state.old state.new) }
-    ensures at_most_one { OnErr result (DrawsAtMostOne state.old state.new) }
-    ensures log { IfErr result (λ e. e ≢ DeskError.Device → state.new.log ≡ state.old.log) }
-    ensures undisturbed { IfErr result (λ e. e ≢ DeskError.Device →
-        state.new.indices.stopped ≡ state.old.indices.stopped) }
-    ensures session { OnErr result ((session.new.receipts.items ≡ session.old.receipts.items)
-        × (session.new.share.amount ≡ session.old.share.amount)) }
+    ensures err { IfErr result (IsLeftAfter D.failed state.old state.new) }
 
-    // `Device` comes exactly where a disk failed, and stops the desk.
-    ensures device { IsErrOf result DeskError.Device → IsStopped state.new }
-    ensures cause { IsErrOf result DeskError.Device → FailsOne D.failed state.old state.new }
-    ensures no_failure { OnOk result (FailsNone D.failed state.old state.new) }
-    ensures kept { IfErr result (λ e. e ≢ DeskError.Device
-        → FailsNone D.failed state.old state.new) }
+    // An index is used up by a vote and, where memory is refused or a disk fails, by what would have been one.
+    ensures undrawn { IfErr result (λ e. e ≢ DeskError.Memory → e ≢ DeskError.Device →
+        state.new.indices ≡ state.old.indices) }
+    ensures not_again { IfSome (D.bytes state.old.indices.disk) (λ _.
+        BoundsIndices D.Disk state.old.indices state.new.indices) }
 {
-    // For the proof: each image that a crash leaves is found after the stay.
+    // For the proof: each image that a crash leaves is found after the stay, and bounds the indices.
     state.crash_is_found(&block);
+    state.indices_are_bounded();
     let planned = state.plan(block)?;
     let committed = planned.plan.committed;
     match planned.plan.act {
@@ -128,8 +97,7 @@ pub fn timeout_on<N: DeskNaming, D: Disk>(
 ) -> Result<(), DeskError>
     ensures ok { OnOk result (Takes state.old.core.genesis state.old.core.state
         (Timeout view) state.new.core.state) }
-    ensures same { OnOk result (state.new
-        ≡ record state.old { core = record state.old.core { state = state.new.core.state } }) }
+    ensures same { OnOk result (state.new ≡ timed_out_at state.old view) }
     ensures exact { OnOk result (IsRunning state.old) }
     ensures err { IfErr result (λ e. (e ≡ DeskError.Stopped) × IsStopped state.old
         × (state.new ≡ state.old)) }
@@ -139,4 +107,44 @@ pub fn timeout_on<N: DeskNaming, D: Disk>(
     }
     state.time_out(view);
     Ok(())
+}
+
+/// Gives up on all views up to the block's and delivers the block, at a replica that stands behind no lock: so it is raised
+/// or held, and never voted for. Refused as `deliver_on` refuses, and left so, but that the timeout is taken; `Stopped`
+/// changes nothing.
+pub fn deliver_unvoted_on<N: DeskNaming, D: Disk>(
+    state: &mut DeskState<N, D>,
+    session: &mut Session<N>,
+    block: CheckedBlock,
+) -> Result<Reply, DeskError>
+    requires { block.committee ≡ N.committee }
+
+    // The event of a delivery to the desk as the timeout leaves it.
+    ensures ok { let later = timed_out_at state.old block.entry.header.view in
+        IfOk result (IsDelivered D.bytes N.committee N.replica later state.new block.entry) }
+    ensures exact { let later = timed_out_at state.old block.entry.header.view in
+        IfOk result (λ reply. MayDo later block.entry.header (act_of reply.act)) }
+    ensures unvoted { IfOk result (λ reply. act_of reply.act ≢ Act.Vote) }
+    ensures reply { IfOk result (IsGoodReply N.committee N.replica block.entry.header) }
+    ensures durable { OnOk result
+        (RunsOn D.Disk (timed_out_at state.old block.entry.header.view) state.new) }
+    ensures session { IsTold session.old.receipts.items session.new.receipts.items
+        session.old.share.amount session.new.share.amount Answer.Held }
+
+    // A crash at any moment of the call leaves the list from before it, or that with the entry of the planned event.
+    ensures any_moment { let later = timed_out_at state.old block.entry.header.view in
+        IsRunning state.old → IfSome (D.bytes state.old.log.disk) (λ _.
+        SurvivesCrash D.Disk N.committee N.replica N.opening later state.new block.entry) }
+    ensures like { IsLike D.bytes (timed_out_at state.old block.entry.header.view) state.new }
+    ensures refused { IfErr result (λ e.
+        RefusesUnvoted D.Disk block.entry.header e state.old state.new) }
+    ensures undrawn { IfErr result (λ e. e ≢ DeskError.Memory → e ≢ DeskError.Device →
+        state.new.indices ≡ state.old.indices) }
+    ensures not_again { IfSome (D.bytes state.old.indices.disk) (λ _.
+        BoundsIndices D.Disk state.old.indices state.new.indices) }
+{
+    // For the proof: as long as no index is drawn none can come twice.
+    state.indices_are_bounded();
+    timeout_on(state, block.header().view)?;
+    deliver_on(state, session, block)
 }

@@ -1,33 +1,138 @@
 //! The desk behind its lock.
 
-ghost use Rattle.std.specs.Prelude.{List, ℕ, ◌≡◌, ◌≤◌, ◌+◌, ◌++◌, ◌<◌, ◌⊎◌, [], length, drop, map, vec_len, IfErr, IfOk, IfSome, OnErr, OnOk};
+ghost use Rattle.std.specs.Prelude.{List, ℕ, ◌≡◌, ◌≢◌, ◌≤◌, ◌+◌, ◌++◌, ◌<◌, ◌⊎◌, ◌↔◌, [], length, drop, map, min, vec_len, IfErr, IfOk, IfSome, IsTrue, OnErr, OnOk, Some};
 ghost use Rattle.std.specs.List.{All, Contains};
 ghost use Rattle.std.specs.List.Sorted.{IsPermutation};
 ghost use Rattle.blocks.specs.Genesis.{genesis_of};
 ghost use Rattle.blocks.specs.Replay.{ballots_in};
 ghost use Rattle.wire.specs.declared.limits.TheConstants.{MOST_ENTRIES, MOST_KEYS};
 ghost use Rattle.key_index_store.specs.Indices.{limit_of};
-ghost use Rattle.vote_desk.specs.Deliveries.{CommitsIn, IsGoodAnswer, released_by, with_receipt};
+ghost use Rattle.vote_desk.specs.Deliveries.{CommitsIn, IsGoodAnswer, IsGoodReply, act_of, released_by, with_receipt};
 ghost use Rattle.vote_desk.specs.DeskRefusals.{IsStartRefusal, IsStartable};
-ghost use Rattle.vote_desk.specs.Desks.{IsLeftAtDesk, KeepsDesk, desk_of, vote_count};
+ghost use Rattle.vote_desk.specs.Desks.{HoldsId, KeepsDesk, desk_of, left_of, status_of, vote_count};
+ghost use Rattle.vote_desk.specs.Exports.{IsOut, RefusesExport};
 ghost use Rattle.vote_desk.specs.Receipts.{AreRisingByNumber, AreReceipts, KeepsReceipts, receipt_ballot, receipts_of};
+ghost use Rattle.vote_desk.specs.SomeDesk.{IsDeskOf, Refuses, RefusesUnvoted, Replies, RepliesUnvoted, SomeDesk, SomeDeskMoves};
 ghost use Rattle.vote_desk.specs.Stays.{AreLeftByStay, IsStay};
+ghost use Rattle.vote_desk.specs.Votes.{IsVoteFound, RefusesVoteIn};
 
 use crate::closing::close_on;
-use crate::delivery::{deliver_on, timeout_on};
+use crate::delivery::{deliver_on, deliver_unvoted_on, timeout_on};
 use crate::desk_error::DeskError;
 use crate::naming::DeskNaming;
-use crate::parts::{Closed, Left, Parts};
-use crate::reply::Reply;
+use crate::parts::{Closed, DeskStatus, Left, Parts};
+use crate::reply::{Receipt, Reply};
 use crate::session::Session;
 use crate::start_error::StartError;
 use crate::state::DeskState;
-use blocks::CommitteeView;
+use blocks::{CommitteeView, Id};
 use certificates::CheckedBlock;
+use replica_core::Act;
 use stable_log::Disk;
 use std::alloc::Global;
 use std::sync::ledger::Blank;
 use std::sync::{Mutex, Wait};
+use streams::MemorySink;
+use vote_log::{ExportError, LogError};
+
+/// How many frames one `export` copies under the lock at the most.
+pub const MOST_FRAMES_AT_ONCE: u32 = 64;
+
+// Delivers a block to a desk of which no more is known than what each desk keeps.
+fn deliver_to<N: DeskNaming, D: Disk>(
+    state: &mut DeskState<N, D>,
+    session: &mut Session<N>,
+    block: CheckedBlock,
+) -> Result<Reply, DeskError>
+    requires { block.committee ≡ N.committee }
+    ensures receipt { IfOk result (λ reply.
+        session.new.receipts.items ≡ with_receipt session.old.receipts.items reply.act) }
+    ensures share { IfOk result (λ reply.
+        session.new.share.amount ≡ session.old.share.amount + released_by reply.act) }
+    ensures answer { IfOk result (λ reply.
+        IsGoodAnswer N.committee N.replica block.entry.header reply.act) }
+    ensures committed { IfOk result (λ reply. IfSome reply.committed
+        (CommitsIn (genesis_of N.committee) block.entry.header)) }
+    ensures err { OnErr result ((session.new.receipts.items ≡ session.old.receipts.items)
+        × (session.new.share.amount ≡ session.old.share.amount)) }
+    ensures event { IfOk result (λ reply.
+        SomeDeskMoves (IsDeskOf D.Disk N.committee N.replica N.opening)
+        (Replies D.Disk N.committee N.replica block.entry reply)) }
+    ensures refused { IfErr result (λ e.
+        SomeDeskMoves (IsDeskOf D.Disk N.committee N.replica N.opening)
+        (Refuses D.Disk block.entry.header e)) }
+{
+    // For the proof: what each desk keeps, before and after.
+    let _core = state.core();
+    let answer = deliver_on(state, session, block);
+    let _core = state.core();
+    answer
+}
+
+// Delivers a block unvoted to a desk of which no more is known than what each desk keeps.
+fn deliver_unvoted_to<N: DeskNaming, D: Disk>(
+    state: &mut DeskState<N, D>,
+    session: &mut Session<N>,
+    block: CheckedBlock,
+) -> Result<Reply, DeskError>
+    requires { block.committee ≡ N.committee }
+    ensures unvoted { IfOk result (λ reply. act_of reply.act ≢ Act.Vote) }
+    ensures reply { IfOk result (IsGoodReply N.committee N.replica block.entry.header) }
+    ensures session { (session.new.receipts.items ≡ session.old.receipts.items)
+        × (session.new.share.amount ≡ session.old.share.amount) }
+    ensures event { IfOk result (λ reply.
+        SomeDeskMoves (IsDeskOf D.Disk N.committee N.replica N.opening)
+        (RepliesUnvoted D.Disk N.committee N.replica block.entry reply)) }
+    ensures refused { IfErr result (λ e.
+        SomeDeskMoves (IsDeskOf D.Disk N.committee N.replica N.opening)
+        (RefusesUnvoted D.Disk block.entry.header e)) }
+{
+    // For the proof: what each desk keeps, before and after.
+    let _core = state.core();
+    let answer = deliver_unvoted_on(state, session, block);
+    let _core = state.core();
+    answer
+}
+
+// Finds the vote in a view at a desk of which no more is known than what each desk keeps.
+fn vote_in_from<N: DeskNaming, D: Disk>(
+    state: &mut DeskState<N, D>,
+    view: u64,
+) -> Result<Option<Receipt>, LogError>
+    ensures ok { IfOk result (λ found. SomeDesk (IsDeskOf D.Disk N.committee N.replica N.opening)
+        (λ d. IsVoteFound D.bytes N.replica d.log view found)) }
+    ensures refused { IfErr result (λ e.
+        SomeDeskMoves (IsDeskOf D.Disk N.committee N.replica N.opening)
+        (RefusesVoteIn D.Disk view e)) }
+{
+    // For the proof: what each desk keeps, before and after.
+    let _core = state.core();
+    let found = state.vote_in(view);
+    let _core = state.core();
+    found
+}
+
+// Copies a part of the log of a desk of which no more is known than what each desk keeps.
+fn export_from<N: DeskNaming, D: Disk>(
+    state: &mut DeskState<N, D>,
+    first: u32,
+    most: u32,
+    copy: &mut MemorySink,
+) -> Result<u32, ExportError>
+    ensures ok { IfOk result (λ frames. SomeDesk (IsDeskOf D.Disk N.committee N.replica N.opening)
+        (λ d. IsOut D.bytes d.log first most (Some copy.old.bytes) (Some copy.new.bytes) frames)) }
+    ensures refused { IfErr result (λ e.
+        SomeDeskMoves (IsDeskOf D.Disk N.committee N.replica N.opening)
+        (RefusesExport D.Disk first most e)) }
+    ensures unwritten { IfErr result (λ e. e ≢ ExportError.Device → e ≢ ExportError.Sink →
+        copy.new ≡ copy.old) }
+{
+    // For the proof: what each desk keeps, before and after.
+    let _core = state.core();
+    let frames = state.export(first, most, copy);
+    let _core = state.core();
+    frames
+}
 
 /// A replica's desk, for many sessions in many threads. Each call holds the lock for as long as it works, so calls come
 /// one after the other, in any order. Certificates are checked before: see `certificates::check_block`.
@@ -95,9 +200,43 @@ impl<N: DeskNaming, D: Disk> Desk<N, D> {
             (CommitsIn (genesis_of N.committee) block.entry.header)) }
         ensures err { OnErr result ((session.new.receipts.items ≡ session.old.receipts.items)
             × (session.new.share.amount ≡ session.old.share.amount)) }
+
+        // Some desk of this name moved by this one event, or refused so.
+        ensures event { IfOk result (λ reply.
+            SomeDeskMoves (IsDeskOf D.Disk N.committee N.replica N.opening)
+            (Replies D.Disk N.committee N.replica block.entry reply)) }
+        ensures refused { IfErr result (λ e.
+            SomeDeskMoves (IsDeskOf D.Disk N.committee N.replica N.opening)
+            (Refuses D.Disk block.entry.header e)) }
     {
         let mut state = self.state.lock(rt);
-        deliver_on(&mut *state, session, block)
+        deliver_to(&mut *state, session, block)
+    }
+
+    /// Takes the lock, which may wait, gives up on all views up to the block's, and delivers the block, under one holding
+    /// of the lock, as `deliver_unvoted_on` does: it is raised or held, and never voted for, and the session stays as it
+    /// was. The block must have been checked with the committee that the desk was opened with.
+    pub fn deliver_unvoted<R: Wait>(
+        &self,
+        rt: &R,
+        session: &mut Session<N>,
+        block: CheckedBlock,
+    ) -> Result<Reply, DeskError>
+        requires { block.committee ≡ N.committee }
+
+        ensures unvoted { IfOk result (λ reply. act_of reply.act ≢ Act.Vote) }
+        ensures reply { IfOk result (IsGoodReply N.committee N.replica block.entry.header) }
+        ensures session { (session.new.receipts.items ≡ session.old.receipts.items)
+            × (session.new.share.amount ≡ session.old.share.amount) }
+        ensures event { IfOk result (λ reply.
+            SomeDeskMoves (IsDeskOf D.Disk N.committee N.replica N.opening)
+            (RepliesUnvoted D.Disk N.committee N.replica block.entry reply)) }
+        ensures refused { IfErr result (λ e.
+            SomeDeskMoves (IsDeskOf D.Disk N.committee N.replica N.opening)
+            (RefusesUnvoted D.Disk block.entry.header e)) }
+    {
+        let mut state = self.state.lock(rt);
+        deliver_unvoted_to(&mut *state, session, block)
     }
 
     /// Takes the lock, which may wait, and gives up on all views up to this one, as `timeout_on` does. Refused only by
@@ -112,12 +251,83 @@ impl<N: DeskNaming, D: Disk> Desk<N, D> {
     /// Takes the lock, which may wait, and says what is left of the indices and of the log's room: plan a new committee
     /// before either ends, since the replica then votes no more.
     pub fn left<R: Wait>(&self, rt: &R) -> Left
-        ensures kept { IsLeftAtDesk D.bytes D.images N.committee N.replica N.opening result }
+        ensures kept { SomeDesk (IsDeskOf D.Disk N.committee N.replica N.opening)
+            (λ d. result ≡ left_of d) }
         ensures indices { result.indices ≤ limit_of MOST_KEYS }
         ensures entries { result.entries ≤ MOST_ENTRIES }
     {
         let state = self.state.lock(rt);
+        let state = &*state;
+        // For the proof: what each desk keeps.
+        let _core = state.core();
         state.left()
+    }
+
+    /// Takes the lock, which may wait, and says what the desk is at.
+    pub fn status<R: Wait>(&self, rt: &R) -> DeskStatus
+        ensures { SomeDesk (IsDeskOf D.Disk N.committee N.replica N.opening)
+            (λ d. result ≡ status_of d) }
+    {
+        let state = self.state.lock(rt);
+        let state = &*state;
+        // For the proof: what each desk keeps.
+        let _core = state.core();
+        state.status()
+    }
+
+    /// Takes the lock, which may wait, and says whether the desk holds the header of this id: then a block on it can be
+    /// delivered.
+    pub fn holds<R: Wait>(&self, rt: &R, id: &Id) -> bool
+        ensures { SomeDesk (IsDeskOf D.Disk N.committee N.replica N.opening)
+            (λ d. IsTrue result ↔ HoldsId d id.now) }
+    {
+        let state = self.state.lock(rt);
+        let state = &*state;
+        // For the proof: what each desk keeps.
+        let _core = state.core();
+        state.holds(id)
+    }
+
+    /// Takes the lock, which may wait, and reads the log's vote in a view from its disk, with the number of its entry, if
+    /// there is one: also one from before the desk was opened. No refusal stops the desk. In this order: `Stopped`, where
+    /// the log is stopped, and where there is a vote `Memory`, `Device`, and `BadEntry` with its number, where the disk
+    /// gives other bytes than were written.
+    pub fn vote_in<R: Wait>(&self, rt: &R, view: u64) -> Result<Option<Receipt>, LogError>
+        ensures ok { IfOk result (λ found.
+            SomeDesk (IsDeskOf D.Disk N.committee N.replica N.opening)
+            (λ d. IsVoteFound D.bytes N.replica d.log view found)) }
+        ensures refused { IfErr result (λ e.
+            SomeDeskMoves (IsDeskOf D.Disk N.committee N.replica N.opening)
+            (RefusesVoteIn D.Disk view e)) }
+    {
+        let mut state = self.state.lock(rt);
+        vote_in_from(&mut *state, view)
+    }
+
+    /// Takes the lock, which may wait, and copies the stream of the log's entries from `first` on, counted from 0, at most
+    /// `most` and at most 64 of them, behind what the copy holds, as `VoteLog::export` writes it: the export of a list
+    /// that the desk had at one moment. Answers how many frames it has. Send the copy after the call, when the lock is free.
+    /// No refusal stops the desk. In this order: `Memory`, `Stopped`, where the log is stopped, `Device`, and `Sink`, where
+    /// memory for the copy was refused; the first two copy nothing, and after the others the copy is to be dropped.
+    pub fn export<R: Wait>(
+        &self,
+        rt: &R,
+        first: u32,
+        most: u32,
+        copy: &mut MemorySink,
+    ) -> Result<u32, ExportError>
+        ensures ok { IfOk result (λ frames.
+            SomeDesk (IsDeskOf D.Disk N.committee N.replica N.opening)
+            (λ d. IsOut D.bytes d.log first (min most MOST_FRAMES_AT_ONCE)
+            (Some copy.old.bytes) (Some copy.new.bytes) frames)) }
+        ensures refused { IfErr result (λ e.
+            SomeDeskMoves (IsDeskOf D.Disk N.committee N.replica N.opening)
+            (RefusesExport D.Disk first (min most MOST_FRAMES_AT_ONCE) e)) }
+        ensures unwritten { IfErr result (λ e. e ≢ ExportError.Device → e ≢ ExportError.Sink →
+            copy.new ≡ copy.old) }
+    {
+        let mut state = self.state.lock(rt);
+        export_from(&mut *state, first, most.min(MOST_FRAMES_AT_ONCE), copy)
     }
 
     /// Ends the desk, as `close_on` does. Hand in all sessions that `start` gave. A stopped desk can be closed. A refusal

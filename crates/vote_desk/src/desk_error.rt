@@ -16,7 +16,7 @@ pub enum DeskError {
     Memory,
     /// 2: the core refuses the block. It is not for want of memory: that is `Memory`.
     Core(CoreRefusal),
-    /// 3: all 1,024 indices of the key are given or skipped.
+    /// 3: all 1,024 indices of each key are given or skipped.
     KeySpent,
     /// 4: there are 4,096 entries in the log.
     LogFull,

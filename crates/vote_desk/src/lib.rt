@@ -18,13 +18,14 @@ mod signing;
 mod start_error;
 mod state;
 mod storing;
+mod votes;
 
 pub use closing::close_on;
-pub use delivery::{deliver_on, timeout_on};
-pub use desk::Desk;
+pub use delivery::{deliver_on, deliver_unvoted_on, timeout_on};
+pub use desk::{Desk, MOST_FRAMES_AT_ONCE};
 pub use desk_error::DeskError;
 pub use naming::DeskNaming;
-pub use parts::{Closed, Left, Parts};
+pub use parts::{Closed, DeskStatus, Left, Parts};
 pub use reply::{Answer, Receipt, Reply};
 pub use session::Session;
 pub use signing::indices_are_leaves;

@@ -155,8 +155,9 @@ impl<N: DeskNaming, D: Disk> DeskState<N, D> {
         ensures stay { IfOk result (λ r.
             IsStay D.bytes D.images (genesis_of N.committee) N.opening r.0) }
 
-        ensures sessions { IfOk result (λ r. vec_len r.1 ≡ sessions) }
-        ensures none_released { IfOk result (λ r. All (λ s. s.receipts.items ≡ []) r.1.items) }
+        // So many sessions, to which nothing was released.
+        ensures sessions { IfOk result (λ r. (vec_len r.1 ≡ sessions)
+            × All (λ s. s.receipts.items ≡ []) r.1.items) }
         ensures first_refusal { IfErr result (λ e.
             IsStartRefusal committee.now replica parts.trees.items parts.log parts.index e.0) }
         ensures err { IfErr result (λ e. e.1 ≡ parts) }

@@ -3,7 +3,7 @@
 use crate::reply::Receipt;
 use key_index_store::IndexStore;
 use lms_tree::SigningTree;
-use replica_core::Core;
+use replica_core::{Core, Lock};
 use stable_log::Disk;
 use vote_log::VoteLog;
 
@@ -25,6 +25,25 @@ pub struct Left {
     pub indices: u32,
     /// How many entries the log has room for, of 4,096.
     pub entries: usize,
+}
+
+/// What a desk tells of itself.
+#[derive(Clone, Copy, Debug, PartialEq, Eq)]
+pub struct DeskStatus {
+    /// The greatest view of a vote, or of a timeout since the desk was opened.
+    pub vote_view: u64,
+    /// The view of the last vote, which a restart goes back to.
+    pub stored_vote_view: u64,
+    /// The locked block.
+    pub lock: Lock,
+    /// How many headers are held, genesis among them, of 65,536.
+    pub headers: usize,
+    /// How many entries the log has, of 4,096.
+    pub entries: usize,
+    /// What is left of the indices and of the log's room.
+    pub left: Left,
+    /// Whether a disk failed in an earlier call: close the desk, and recover log and index store.
+    pub stopped: bool,
 }
 
 /// What a closed desk leaves.

@@ -21,8 +21,8 @@ fn is_vote_in(entry: &Stored, receipt: &Receipt) -> bool
     receipt.vote.id == entry.block.id()
 }
 
-// Whether the entry of the receipt's number is such a vote, and stands behind the opening list.
-fn is_receipt(opened: usize, steps: &[Stored], receipt: &Receipt) -> bool
+/// Whether the entry of the receipt's number is such a vote, and stands behind the first so many entries.
+pub(crate) fn is_receipt(opened: usize, steps: &[Stored], receipt: &Receipt) -> bool
     ensures { IsTrue result ↔ IsReceiptOf opened steps.now receipt.now }
 {
     let number = receipt.number as usize;

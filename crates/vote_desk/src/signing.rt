@@ -1,12 +1,12 @@
 //! Drawing an index, and signing under it.
 
-ghost use Rattle.std.specs.Prelude.{◌≡◌, ◌≢◌, ◌+◌, ◌<◌, ◌≤◌, length, true, false, IfOk, IfErr, IsErrOf, OnOk};
+ghost use Rattle.std.specs.Prelude.{◌≡◌, ◌≢◌, ◌+◌, ◌<◌, ◌≤◌, length, true, false, IfOk, IfErr, IfSome, IsErrOf, OnOk};
 ghost use Rattle.streams.specs.Counting.{HasFailed};
 ghost use Rattle.wire.specs.declared.limits.TheConstants.{MOST_KEYS};
 ghost use Rattle.key_index_store.specs.Indices.{key_of, limit_of};
 ghost use Rattle.key_index_store.specs.declared.store.TheConstants.{INDICES};
 ghost use Rattle.lms_tree.specs.declared.TheConstants.{LEAVES};
-ghost use Rattle.vote_desk.specs.Deliveries.{IsSignedWith, signed_in, vote_under};
+ghost use Rattle.vote_desk.specs.Deliveries.{BoundsIndices, IsSignedWith, signed_in, vote_under};
 ghost use Rattle.vote_desk.specs.DeskRefusals.{IsStorageRefusal};
 ghost use Rattle.vote_desk.specs.Desks.{index_of, seed_of};
 
@@ -72,6 +72,8 @@ pub(crate) fn draw<D: Disk>(
     ensures verifies { IfOk result (λ v. IsSignedWith (seed_of trees.now v.key) chain.now v) }
     ensures key { IfOk result (λ v. v.key < length trees.now) }
     ensures drawn { OnOk result (indices.new.mark ≡ indices.old.mark + 1) }
+    ensures not_again { IfSome (D.bytes indices.old.disk) (λ _.
+        BoundsIndices D.Disk indices.old indices.new) }
     ensures keys { indices.new.keys ≡ indices.old.keys }
     ensures running { OnOk result (indices.new.stopped ≡ false) }
     ensures first_refusal { IfErr result IsStorageRefusal }

@@ -10,7 +10,8 @@ pub enum StartError {
     Memory = 1,
     /// The committee has no such replica.
     UnknownReplica = 2,
-    /// The key is not the replica's in the committee.
+    /// The trees are not those of the replica's keys in the committee, in their order, or the index store is of another
+    /// number of keys.
     WrongKey = 3,
     /// The log's genesis is not the committee's.
     WrongChain = 4,

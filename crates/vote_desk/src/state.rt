@@ -14,19 +14,24 @@ ghost use Rattle.log_format.specs.EntryText.{IsEntry};
 ghost use Rattle.vote_log.specs.Logs.{AreListed, IsLogBeforeOrAfter, LeavesEntries, StandsForEntries};
 ghost use Rattle.wire.specs.declared.limits.TheConstants.{MOST_ENTRIES, MOST_KEYS};
 ghost use Rattle.key_index_store.specs.Indices.{limit_of};
-ghost use Rattle.vote_desk.specs.Deliveries.{DrawsAtMostOne, FailsLog, FailsNone, FailsOne, IsKept, IsLeftBy, IsLeftWith, IsLegalPlan, IsStored, entry_of, signed_in, vote_under};
+ghost use Rattle.vote_desk.specs.Deliveries.{BoundsIndices, DrawsAtMostOne, FailsLog, FailsNone, FailsOne, IsKept, IsLeftBy, IsLeftWith, IsLegalPlan, IsStored, entry_of, signed_in, vote_under};
 ghost use Rattle.vote_desk.specs.DeskRefusals.{HasRoom, HasRoomTo, IsPlanRefusal, IsRunning, IsStopped, IsStorageRefusal};
-ghost use Rattle.vote_desk.specs.Desks.{AreKeysOf, KeepsDesk, desk_of, index_of, left_of};
+ghost use Rattle.vote_desk.specs.Desks.{AreKeysOf, HoldsId, KeepsDesk, desk_of, index_of, left_of, status_of};
+ghost use Rattle.vote_desk.specs.Exports.{IsOnlyRead, IsOut};
+ghost use Rattle.vote_desk.specs.Votes.{IsVoteFound, IsVoteInRefusal};
+ghost use Rattle.vote_log.specs.LogExport.{Blames, IsExportRefusal, export_of};
+ghost use Rattle.streams.specs.Streams.{WrotePart};
 ghost use Rattle.vote_desk.specs.Stays.{IsImageAfter, IsStay, stay_in};
 
 use crate::desk_error::DeskError;
 use crate::naming::DeskNaming;
-use crate::parts::{Left, Parts};
+use crate::parts::{DeskStatus, Left, Parts};
 use crate::planned_block::PlannedBlock;
 use crate::reply::Receipt;
 use crate::session::Session;
 use crate::signing::draw;
 use crate::storing::{check_room, store};
+use crate::votes::vote_in;
 use blocks::{CommitteeView, Id};
 use certificates::CheckedBlock;
 use key_index_store::IndexStore;
@@ -35,7 +40,8 @@ use replica_core::{Act, Core, CoreRefusal, Plan};
 use stable_log::Disk;
 use std::marker::Model;
 use std::sync::ledger::Book;
-use vote_log::{MOST_ENTRIES, VoteLog};
+use streams::Sink;
+use vote_log::{ExportError, LogError, MOST_ENTRIES, VoteLog};
 
 /// What stands under a desk's lock: the core of a replica, its keys, their indices, its log, and the book of the votes
 /// that were released. Vote, raised lock and timeout are each one call on it: `deliver_on` and `timeout_on`.
@@ -58,14 +64,16 @@ pub struct DeskState<N: DeskNaming, D: Disk> {
 }
 
 impl<N: DeskNaming, D: Disk> Model for DeskState<N, D> {
-    ghost use Rattle.vote_desk.specs.Desks.{DeskView, KeepsState, desk_of};
+    ghost use Rattle.vote_desk.specs.Desks.{DeskView, KeepsDesk, KeepsState, desk_of};
 
     ghost Value = { DeskView D };
 
     ghost view = { λ s. desk_of s.core s.trees.items s.indices s.log s.book.total };
 
-    ghost invariant = { λ s. KeepsState D.bytes D.images N.committee N.replica N.opening
-        (desk_of s.core s.trees.items s.indices s.log s.book.total) s.replica s.chain s.opened };
+    ghost invariant = { λ s. KeepsState
+        (KeepsDesk D.bytes D.images N.committee N.replica N.opening) N.committee N.replica N.opening
+        (desk_of s.core s.trees.items s.indices s.log s.book.total)
+        (record { replica = s.replica; chain = s.chain; opened = s.opened }) };
 }
 
 impl<N: DeskNaming, D: Disk> DeskState<N, D> {
@@ -134,6 +142,71 @@ impl<N: DeskNaming, D: Disk> DeskState<N, D> {
         }
     }
 
+    /// What the desk tells of itself.
+    pub fn status(&self) -> DeskStatus
+        ensures { result ≡ status_of self.now }
+    {
+        DeskStatus {
+            vote_view: self.core.vote_view(),
+            stored_vote_view: self.core.stored_vote_view(),
+            lock: self.core.lock(),
+            headers: self.core.header_count(),
+            entries: self.log.count(),
+            left: self.left(),
+            stopped: self.stopped(),
+        }
+    }
+
+    /// Whether a header of this id is held.
+    pub fn holds(&self, id: &Id) -> bool
+        ensures { IsTrue result ↔ HoldsId self.now id.now }
+    {
+        self.core.holds(id)
+    }
+
+    /// The log's vote in a view, and the number of its entry, if there is one: read from the log's disk, whenever it was
+    /// stored. The desk stays as it is, and no refusal stops it. In this order: `Stopped`, where the log is stopped, and
+    /// where there is a vote `Memory`, `Device`, and `BadEntry` with its number, where the disk gives other bytes than
+    /// were written.
+    pub fn vote_in(&mut self, view: u64) -> Result<Option<Receipt>, LogError>
+        ensures ok { IfOk result (IsVoteFound D.bytes N.replica self.old.log view) }
+        ensures exact { OnOk result (self.old.log.stopped ≡ false) }
+        ensures same { IsOnlyRead D.Disk self.old self.new }
+        ensures first_refusal { IfErr result
+            (IsVoteInRefusal (D.bytes self.old.log.disk) self.old.log view) }
+        ensures no_failure { OnOk result (FailsNone D.failed self.old self.new) }
+        ensures cause { IsErrOf result LogError.Device → FailsLog D.failed self.old self.new }
+        ensures kept { IfErr result (λ e. e ≢ LogError.Device →
+            FailsNone D.failed self.old self.new) }
+    {
+        vote_in(&mut self.log, self.replica, view)
+    }
+
+    /// Writes the stream of the log's entries from `first` on, counted from 0, at most `most` of them, to the sink, as
+    /// `VoteLog::export` does, and answers how many frames it has. The desk stays as it is, and no refusal stops it. In
+    /// this order: `Memory`, `Stopped`, where the log is stopped, `Device`, `Sink`; the first two write nothing, and after
+    /// the others a first part of the stream was written.
+    pub fn export<W: Sink>(
+        &mut self,
+        first: u32,
+        most: u32,
+        sink: &mut W,
+    ) -> Result<u32, ExportError>
+        ensures ok { IfOk result
+            (IsOut D.bytes self.old.log first most (W.text sink.old) (W.text sink.new)) }
+        ensures same { IsOnlyRead D.Disk self.old self.new }
+        ensures first_refusal { IfErr result (IsExportRefusal self.old.log first most) }
+        ensures part { OnErr result (IfSome (D.bytes self.old.log.disk) (λ _.
+            WrotePart (W.text sink.old) (W.text sink.new)
+            (export_of self.old.log.entries first most))) }
+        ensures unwritten { IfErr result (λ e. e ≢ ExportError.Device → e ≢ ExportError.Sink →
+            sink.new ≡ sink.old) }
+        ensures cause { Blames (D.failed self.old.log.disk) (D.failed self.new.log.disk)
+            (W.failed sink.old) (W.failed sink.new) result }
+    {
+        self.log.export(first, most, sink)
+    }
+
     /// The replica's log.
     pub fn log(&self) -> &VoteLog<D>
         ensures value { result.now ≡ self.now.log }
@@ -149,6 +222,15 @@ impl<N: DeskNaming, D: Disk> DeskState<N, D> {
     {
         // For the proof: what the desk keeps is a stay of its replica's life.
         let _core = self.core();
+    }
+
+    // While nothing is called a crash leaves a boundary of the indices that is at least their mark. Nothing is computed.
+    pub(crate) fn indices_are_bounded(&self)
+        ensures { IfSome (D.bytes self.now.indices.disk) (λ _.
+            BoundsIndices D.Disk self.now.indices self.now.indices) }
+    {
+        // For the proof: whatever a crash leaves of the index store has such a boundary.
+        let _stopped = self.indices.stopped();
     }
 
     // Whether a disk failed in an earlier call.
@@ -255,6 +337,8 @@ impl<N: DeskNaming, D: Disk> DeskState<N, D> {
         ensures stored { IfOk result (λ r. IsStored D.bytes D.images self.old self.new
             planned.entry.plan (entry_of planned.entry (Some (signed_in r.vote)))) }
         ensures drawn { OnOk result (self.new.indices.mark ≡ self.old.indices.mark + 1) }
+        ensures not_again { IfSome (D.bytes self.old.indices.disk) (λ _.
+            BoundsIndices D.Disk self.old.indices self.new.indices) }
         ensures keys { self.new.indices.keys ≡ self.old.indices.keys }
         ensures undisturbed { IfErr result (λ e. e ≢ DeskError.Device
             → self.new.indices.stopped ≡ false) }
@@ -282,6 +366,8 @@ impl<N: DeskNaming, D: Disk> DeskState<N, D> {
             (Some (signed_in (vote_under (chain_id_of N.committee) N.replica self.old.seeds
             self.old.indices.mark planned.entry.plan.block)))))) }
     {
+        // For the proof: as long as no index is drawn none can come twice.
+        self.indices_are_bounded();
         let number = self.log.count() as u32;
         session.reserve()?;
         let vote = draw(

@@ -11,9 +11,9 @@ ghost use Rattle.stable_log.specs.Crash.{LeavesOnly};
 ghost use Rattle.streams.specs.Counting.{HasFailed};
 ghost use Rattle.wire.specs.declared.limits.TheConstants.{MOST_ENTRIES};
 ghost use Rattle.log_format.specs.EntryText.{IsEntry, own_of, stored_in};
-ghost use Rattle.vote_log.specs.Logs.{IsLogBeforeOrAfter, LeavesEntries};
+ghost use Rattle.vote_log.specs.Logs.{AddsEntry, IsLogBeforeOrAfter, LeavesEntries};
 ghost use Rattle.vote_desk.specs.DeskRefusals.{HasRoomTo, IsRoomRefusal, IsStorageRefusal};
-ghost use Rattle.vote_desk.specs.Deliveries.{AddsEntry, entry_of};
+ghost use Rattle.vote_desk.specs.Deliveries.{entry_of};
 
 use crate::desk_error::DeskError;
 use crate::planned_block::PlannedBlock;

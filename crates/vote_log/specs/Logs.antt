@@ -1,6 +1,6 @@
 -- Logs: lists of entries that are legal one after the other, and the bytes that stand for them, as
 -- docs/FORMATS.md, "Journal file" and "Log entry", lay them out.
-use Rattle.std.specs.Prelude.{◌≡◌, ◌<◌, ◌⊎◌, ◌++◌, ℕ, List, [], ◌∷◌, Bool, false, Option, Some, length, map, slice_get, take}
+use Rattle.std.specs.Prelude.{◌≡◌, ◌<◌, ◌⊎◌, ◌↔◌, ◌++◌, ℕ, List, [], ◌∷◌, Bool, false, Option, Some, IfSome, IsSome, length, map, slice_get, take}
 use Rattle.std.specs.List.{All}
 use Rattle.blocks.specs.Headers.{Header, IsGenesis}
 use Rattle.blocks.specs.Replica.{Stored}
@@ -49,6 +49,16 @@ LeavesEntries images entries = LeavesList images (texts_of entries)
 -- an image of the list from before an append, or of that list with the new entry
 abbrev pub IsLogBeforeOrAfter : List Entry → Entry → List ℕ → Type 0
 IsLogBeforeOrAfter entries entry image = StandsForEntries image entries ⊎ StandsForEntries image (entries ++ entry ∷ [])
+
+-- the log's list is the old one and this entry
+pub record AddsEntry {D : Type 0} (bytes : D → Option (List ℕ)) (old new : LogState D) (e : Entry) : Type 0 where
+  pub steps : new.steps ≡ old.steps ++ stored_in e ∷ []
+  pub entries : IfSome (bytes old.disk) (λ _. new.entries ≡ old.entries ++ e ∷ [])
+
+-- the log has the same genesis, and its disk tells its bytes if it did
+pub record IsLikeLog {D : Type 0} (bytes : D → Option (List ℕ)) (old new : LogState D) : Type 0 where
+  pub genesis : new.genesis ≡ old.genesis
+  pub tells : IsSome (bytes new.disk) ↔ IsSome (bytes old.disk)
 
 -- payload k is the text of this entry
 pub record IsEntryAt (payloads : List (List ℕ)) (k : ℕ) (e : Entry) : Type 0 where

@@ -13,7 +13,7 @@ ghost use Rattle.streams.specs.Streams.{Wrote, WrotePart};
 ghost use Rattle.log_format.specs.EntryText.{Entry as EntryValue, IsEntry, stored_in};
 ghost use Rattle.vote_log.specs.LogExport.{Blames, IsExportRefusal, export_of, frame_count};
 ghost use Rattle.vote_log.specs.LogRefusals.{IsLogAppendRefusal, IsLogCreateRefusal, IsLogEntryRefusal, IsLogRecoverRefusal, LogMayAppend, LogMayRead};
-ghost use Rattle.vote_log.specs.Logs.{AreListed, IsLogBeforeOrAfter, IsLog, LeavesEntries, StandsForEntries, steps_of};
+ghost use Rattle.vote_log.specs.Logs.{AddsEntry, AreListed, IsLikeLog, IsLogBeforeOrAfter, IsLog, LeavesEntries, StandsForEntries, steps_of};
 
 use crate::export::{LONGEST_FRAME, buffer_of, send_export};
 use crate::reading::{read_entry, read_steps};
@@ -144,16 +144,13 @@ impl<D: Disk> VoteLog<D> {
     pub fn append(&mut self, entry: &Entry) -> Result<(), LogError>
         requires { IsLegal self.old.genesis (self.old.steps ++ stored_in entry.now ∷ []) }
 
-        ensures ok { OnOk result (self.new.steps ≡ self.old.steps ++ stored_in entry.now ∷ []) }
-        ensures listed { OnOk result (IfSome (D.bytes self.old.disk) (λ _.
-            self.new.entries ≡ self.old.entries ++ entry.now ∷ [])) }
-        ensures running { OnOk result (self.new.stopped ≡ false) }
-        ensures genesis { self.new.genesis ≡ self.old.genesis }
+        ensures ok { OnOk result (AddsEntry D.bytes self.old self.new entry.now) }
         ensures exact { OnOk result (LogMayAppend self.old) }
+        ensures running { OnOk result (self.new.stopped ≡ false) }
         ensures durable { OnOk result (IfSome (D.bytes self.old.disk) (λ _.
             LeavesEntries (D.images self.new.disk) (self.old.entries ++ entry.now ∷ []))) }
         ensures no_failure { OnOk result (D.failed self.new.disk ≡ D.failed self.old.disk) }
-        ensures tells { IsSome (D.bytes self.new.disk) ↔ IsSome (D.bytes self.old.disk) }
+        ensures like { IsLikeLog D.bytes self.old self.new }
 
         // A crash at any moment of the call leaves the list from before it, with the entry or without.
         ensures any_moment { self.old.stopped ≡ false → IfSome (D.bytes self.old.disk) (λ _.

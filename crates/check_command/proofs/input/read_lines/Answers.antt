@@ -1,9 +1,10 @@
-use Rattle.std.proofs.Common.{◌≡◌, ◌∙◌, ◌<◌, ◌≤◌, ℕ, List, ap, arith, inl, inr, length}
+use Rattle.std.proofs.Common.{◌≡◌, ◌∙◌, ◌<◌, ◌≤◌, ℕ, List, Option, IfSome, ap, arith, inl, inr, length, refl}
 use Rattle.std.specs.Prelude.{min, take}
 use Rattle.std.proofs.Math.Nat.{min-eq_left}
 use Rattle.std.proofs.lemmas.Bool.{cases_lt}
 use Rattle.std.proofs.lemmas.List.{length-take, take_all}
 use Rattle.std.proofs.lemmas.Option.{IfSome_then}
+use Rattle.check_command.proofs.Spelling.{too_much}
 use Rattle.check_command.proofs.input.read_lines.Goals as goal
 
 -- a text that ends before the limit of a reading is all that there was
@@ -23,4 +24,10 @@ pub returns-in-Ok-clause-whole : goal.returns-in-Ok-clause-whole
 returns-in-Ok-clause-whole g c =
     let below = c.if-len-le-MOST_OF_STDIN.true in
     let long = c.len.ensures in
-    IfSome_then _ c.in-Ok.ensures (λ all is. whole 65537 all c.in-Ok.text.items is (omega (arith, below, long)))
+    IfSome_then _ c.in-Ok.ensures.first (λ all is. whole 65537 all c.in-Ok.text.items is (omega (arith, below, long)))
+
+pub returns-in-Ok-2-clause-refused : goal.returns-in-Ok-2-clause-refused
+returns-in-Ok-2-clause-refused g c =
+    let more = c.if-len-le-MOST_OF_STDIN.false in
+    let long = c.len.ensures in
+    inr (refl, too_much _ c.in-Ok.text.items 65537 c.in-Ok.ensures.first (omega (arith, more, long)))

@@ -11,5 +11,5 @@ is_ancestor-requires-clause-first c =
 
 pub returns-else-not-is_ancestor-clause-ancestors : goal.returns-else-not-is_ancestor-clause-ancestors
 returns-else-not-is_ancestor-clause-ancestors c =
-    first_above c.args.chains.now c.args.blocks.now c.loop-count.count c.index-blocks-count.result c.args.b.now c.requires.known c.requires.chain (omega (arith, c.loop-count-test.true)) c.loop-count.invariant
+    first_above c.args.chains.now c.args.blocks.now c.loop-count.count c.index-blocks-count.result c.args.b.now c.requires.chain (omega (arith, c.loop-count-test.true)) c.loop-count.invariant
     c.index-blocks-count.is (c.is_ancestor.ensures.0 c.if-not-is_ancestor.false)

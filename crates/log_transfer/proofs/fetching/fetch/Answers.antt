@@ -13,7 +13,7 @@ returns-in-End-clause-ok g c =
     let then = c.next_frame.new.connector in
     let q = c.loop-payload.place in
     let r = c.next_frame.new.place in
-    let end = subst (λ (s : Step). IsStep (gives now) (gives then) (left now) (left then) q r c.next_frame.new.out.items s) c.in-End.is c.in_ok-next_frame.ensures.ok in
+    let end = subst (λ (s : Step). IsStep g.C.Connector (record { connector = now; place = q }) (record { connector = then; place = r }) c.next_frame.new.out.items s) c.in-End.is c.in_ok-next_frame.ensures.ok in
     fetched_end (gives c.args.connector.now) (gives now) (gives then) (left c.args.connector.now) (left now) (left then) (first_place c.args.tries) q r c.loop-payload.frames.items c.in-End.status refl c.loop-payload.invariant.leads end.3.1 end.0 end.1
 
 pub returns-in-End-clause-cause : goal.returns-in-End-clause-cause
@@ -22,6 +22,6 @@ returns-in-End-clause-cause g c =
     let left = g.C.Connector.left in
     let now = c.loop-payload.connector in
     let then = c.next_frame.new.connector in
-    let end = subst (λ (s : Step). IsStep (gives now) (gives then) (left now) (left then) c.loop-payload.place c.next_frame.new.place c.next_frame.new.out.items s) c.in-End.is c.in_ok-next_frame.ensures.ok in
+    let end = subst (λ (s : Step). IsStep g.C.Connector (record { connector = now; place = c.loop-payload.place }) (record { connector = then; place = c.next_frame.new.place }) c.next_frame.new.out.items s) c.in-End.is c.in_ok-next_frame.ensures.ok in
     let caused = c.next_frame.ensures.cause (g.C.Connector.failed c.args.connector.now) c.loop-payload.invariant.cause in
     end_caused (g.C.Connector.failed c.args.connector.now) (g.C.Connector.failed then) c.next_frame.new.place c.in-End.status caused end.0 end.1

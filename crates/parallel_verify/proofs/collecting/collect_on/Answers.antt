@@ -6,7 +6,7 @@ use Rattle.evidence.specs.Evidence.{Evidence}
 use Rattle.evidence.specs.Gathering.{Gathered}
 use Rattle.evidence.specs.declared.source.SourceReport.{SourceReport}
 use Rattle.evidence.proofs.Gatherings.{evidence_from, handed_on, union_has_genesis}
-use Rattle.parallel_verify.specs.Collections.{IsRefusalOfSources, IsStatusCaused, MayGive}
+use Rattle.parallel_verify.specs.Collections.{IsRefusalOfSources, MayFail, MayGive}
 use Rattle.parallel_verify.specs.Parts.{HasReport}
 use Rattle.parallel_verify.proofs.Joinings.{logs_of, refusal_of_sources, results, told_all}
 use Rattle.parallel_verify.proofs.collecting.collect_on.Goals as goal
@@ -70,6 +70,6 @@ returns-clause-cause g c =
     let parts = c.in_ok-parts.parts.items in
     let reports = c.in_ok-listing.reports.items in
     let sources = ap (λ (e : Evidence). e.sources) c.in_ok-of.ensures in
-    subst (λ (rs : List SourceReport). AllZip (IsStatusCaused g.C.Connector.failed) c.args.sources.items rs) (sym sources)
-    (told_all (IsStatusCaused g.C.Connector.failed) c.args.sources.items parts reports c.in_ok-parts.ensures.len (λ i s d l. (c.in_ok-parts.ensures.each i s d l).cause)
+    subst (λ (rs : List SourceReport). AllZip (MayFail g.C.Connector.reaches g.C.Connector.failed) c.args.sources.items rs) (sym sources)
+    (told_all (MayFail g.C.Connector.reaches g.C.Connector.failed) c.args.sources.items parts reports c.in_ok-parts.ensures.len (λ i s d l. (c.in_ok-parts.ensures.each i s d l).cause)
     (subst (λ ps. AllZip HasReport ps reports) c.deref.ensures.value c.in_ok-listing.ensures.reports))

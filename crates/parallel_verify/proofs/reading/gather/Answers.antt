@@ -13,7 +13,7 @@ pub returns-in_err-gathered : goal.returns-in_err-gathered
 returns-in_err-gathered g c =
     let s = c.args.source in
     let made = c.new-pull.ensures in
-    gathered_none g.C.Connector.gives g.C.Connector.failed s.connector s.tries s.replica c.args.committee.now c.from_residual.result
+    gathered_none g.C.Connector.gives g.C.Connector.reaches g.C.Connector.failed s.connector s.tries s.replica c.args.committee.now c.from_residual.result
     (subst (λ x. (l : ReceivedLog) × IsLogFrom (g.C.Connector.gives x) (first_place s.tries) s.replica l) made.connector
     (subst (λ (p : Place). (l : ReceivedLog) × IsLogFrom (g.C.Connector.gives c.new-pull.result.connector) p s.replica l) made.place
     (some_log_of (g.C.Connector.gives c.new-pull.result.connector) (g.C.Connector.left c.new-pull.result.connector) c.new-pull.result.place s.replica (ap (λ (p : Place). p.is_open) made.place) c.failures.ensures.some c.failures.ensures.next))) c.from_residual.ensures.1
@@ -37,7 +37,7 @@ returns-in_err-report g c =
     let e = c.in_err-report.field-0.0 in
     let P : Place → Type 0 = λ p. (l : ReceivedLog) × IsLogFrom (g.C.Connector.gives s.connector) p s.replica l × IsGatheringRefusal a (LogHasHeader l) e in
     let w = subst P made.place (subst (λ x. (l : ReceivedLog) × IsLogFrom (g.C.Connector.gives x) c.new-pull.result.place s.replica l × IsGatheringRefusal a (LogHasHeader l) e) made.connector c.in_err-report.ensures.err) in
-    gathered_fault g.C.Connector.gives g.C.Connector.failed s.connector s.tries s.replica c.args.committee.now a c.in_ok-gathered.ensures.committee c.in_ok-gathered.ensures.headers c.from_residual-in_err-report.result e w.0 c.from_residual-in_err-report.ensures.1 w.1 w.2
+    gathered_fault g.C.Connector.gives g.C.Connector.reaches g.C.Connector.failed s.connector s.tries s.replica c.args.committee.now a c.in_ok-gathered.ensures.committee c.in_ok-gathered.ensures.headers c.from_residual-in_err-report.result e w.0 c.from_residual-in_err-report.ensures.1 w.1 w.2
 
 pub returns : goal.returns
 returns g c =
@@ -49,5 +49,6 @@ returns g c =
     let after = c.gather_frames.new.pull.connector in
     let P : Place → Type 0 = λ p. (l : ReceivedLog) × IsLogFrom (g.C.Connector.gives s.connector) p s.replica l × Grows a b (LogHasHeader l) (LogNamesVote l) × IsReportOf l report in
     let w = subst P made.place (subst (λ x. (l : ReceivedLog) × IsLogFrom (g.C.Connector.gives x) c.new-pull.result.place s.replica l × Grows a b (LogHasHeader l) (LogNamesVote l) × IsReportOf l report) made.connector c.in_ok-report.ensures.ok) in
+    let reached = subst (λ x. g.C.Connector.reaches x after) made.connector c.in_ok-report.ensures.state in
     let cause = subst (λ x. HasCause (g.C.Connector.failed x) (g.C.Connector.failed after) report.status) made.connector c.in_ok-report.ensures.cause in
-    gathered_all g.C.Connector.gives g.C.Connector.failed s.connector s.tries s.replica c.args.committee.now a c.in_ok-gathered.ensures.committee c.in_ok-gathered.ensures.headers b _ w.0 after c.in_ok-gathered.ensures.votes w.1 w.2 w.3 c.in_ok-headers.ensures.headers c.in_ok-headers.ensures.votes cause
+    gathered_all g.C.Connector.gives g.C.Connector.reaches g.C.Connector.failed s.connector s.tries s.replica c.args.committee.now a c.in_ok-gathered.ensures.committee c.in_ok-gathered.ensures.headers b _ w.0 after c.in_ok-gathered.ensures.votes w.1 w.2 w.3 c.in_ok-headers.ensures.headers c.in_ok-headers.ensures.votes reached cause

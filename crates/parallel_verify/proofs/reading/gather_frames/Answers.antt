@@ -22,6 +22,7 @@ loop-pull-init g c =
       held = c.requires.first;
       few = omega arith;
       so_far = gathering_start (g.C.Connector.gives pull.connector) (g.C.Connector.left pull.connector) pull.place c.args.gathered.now c.args.replica;
+      reached = g.met.C.Connector.stays pull.connector;
       caused = first_caused (g.C.Connector.failed pull.connector) pull.place tries;
     }
 
@@ -34,7 +35,7 @@ returns-in_err-add_frame-in-Ok-Frame-clause-err g c =
     let then = c.next.new.self in
     let out = c.next.new.out.items in
     let P : EvidenceRefusal → Type 0 = λ e. (l : ReceivedLog) × IsLogFrom (gives start.connector) start.place c.args.replica l × IsGatheringRefusal c.args.gathered.now (LogHasHeader l) e in
-    let step = subst (λ (s : Step). IsStep (gives pull.connector) (gives then.connector) (left pull.connector) (left then.connector) pull.place then.place out s) c.in-Ok-Frame.field-0-is c.in-Ok-Frame.ensures.ok in
+    let step = subst (λ (s : Step). IsStep g.C.Connector pull then out s) c.in-Ok-Frame.field-0-is c.in-Ok-Frame.ensures.ok in
     let e = c.in_err-add_frame-in-Ok-Frame.field-0.0 in
     let fault = subst (λ (t : List ℕ). IsGatheringRefusal c.loop-pull.gathered (FrameHasHeader t) e) c.deref.ensures.value c.in_err-add_frame-in-Ok-Frame.ensures.err in
     handed_on c.from_residual.result P e c.from_residual.ensures.1
@@ -59,7 +60,7 @@ loop-pull-preserved g c =
     let few = inv.few in
     let held = inv.held in
     let place = c.next.ensures.place.few in
-    let step = subst (λ (s : Step). IsStep (gives pull.connector) (gives then.connector) (left pull.connector) (left then.connector) pull.place then.place out s) c.in-Ok-Frame.field-0-is c.in-Ok-Frame.ensures.ok in
+    let step = subst (λ (s : Step). IsStep g.C.Connector pull then out s) c.in-Ok-Frame.field-0-is c.in-Ok-Frame.ensures.ok in
     let one = step.1 in
     let deref = c.deref.ensures.value in
     let grown = subst (λ (t : List ℕ). Grows b d (FrameHasHeader t) (FrameNamesVote replica t)) deref c.in_ok-add_frame-in-Ok-Frame.ensures.ok in
@@ -73,6 +74,7 @@ loop-pull-preserved g c =
         | then-branch w ↦ λ fs have. subst (HaveEntries (fs ++ out ∷ [])) (sym w.entries-is) (have_one_more fs out entries have (subst SpellsEntry deref (entry.0 w.if-branch.true)))
         | else-branch w ↦ λ fs have. subst (HaveEntries (fs ++ out ∷ [])) (sym w.entries-is) (have_no_more fs out entries have (λ is. false≢true (sym w.if-branch.false ∙ entry.1 (subst SpellsEntry (sym deref) is))))
       ]);
+      reached = c.next.ensures.state start.connector inv.reached;
       caused = c.next.ensures.cause (g.C.Connector.failed start.connector) inv.caused;
     }
 
@@ -83,7 +85,7 @@ returns-in-Ok-End-clause-ok g c =
     let start = c.args.pull.now in
     let pull = c.loop-pull.pull in
     let then = c.next.new.self in
-    let step = subst (λ (s : Step). IsStep (gives pull.connector) (gives then.connector) (left pull.connector) (left then.connector) pull.place then.place c.next.new.out.items s) c.in-Ok-End.field-0-is c.in-Ok-End.ensures.ok in
+    let step = subst (λ (s : Step). IsStep g.C.Connector pull then c.next.new.out.items s) c.in-Ok-End.field-0-is c.in-Ok-End.ensures.ok in
     gathering_end (gives start.connector) (gives pull.connector) (gives then.connector) (left start.connector) (left pull.connector) (left then.connector) start.place pull.place then.place c.args.gathered.now c.loop-pull.gathered c.args.replica c.loop-pull.frames c.loop-pull.entries
     c.loop-pull.invariant.so_far c.in-Ok-End.status _ c.requires.closed step.3.1 step.0 step.1 refl
 
@@ -95,5 +97,5 @@ returns-in-Ok-End-clause-cause g c =
     let start = c.args.pull.now in
     let pull = c.loop-pull.pull in
     let then = c.next.new.self in
-    let step = subst (λ (s : Step). IsStep (gives pull.connector) (gives then.connector) (left pull.connector) (left then.connector) pull.place then.place c.next.new.out.items s) c.in-Ok-End.field-0-is c.in-Ok-End.ensures.ok in
+    let step = subst (λ (s : Step). IsStep g.C.Connector pull then c.next.new.out.items s) c.in-Ok-End.field-0-is c.in-Ok-End.ensures.ok in
     end_caused (failed start.connector) (failed then.connector) then.place c.in-Ok-End.status (c.next.ensures.cause (failed start.connector) c.loop-pull.invariant.caused) step.0 step.1

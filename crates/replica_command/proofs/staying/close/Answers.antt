@@ -1,6 +1,8 @@
-use Rattle.std.proofs.Common.{◌≡◌, [], List, append_assoc, arith, ap, subst, ◌∙◌, refl, rules}
+use Rattle.std.proofs.Common.{◌≡◌, [], List, append_assoc, arith, ap, length, subst, sym, take, ◌∙◌, refl, rules}
 use Rattle.std.specs.Prelude.{map}
 use Rattle.std.specs.List.Sorted.{IsPermutation}
+use Rattle.std.proofs.Math.Seq.{take-append_seam}
+use Rattle.blocks.specs.Replica.{Stored}
 use Rattle.vote_desk.specs.Receipts.{receipts_of}
 use Rattle.vote_desk.specs.declared.reply.Receipt.{Receipt}
 use Rattle.vote_desk.specs.declared.session.Session.{Session}
@@ -26,3 +28,9 @@ returns-in-Ok-clause-receipts g c =
     subst (λ (rs : List (List Receipt)). IsPermutation (receipts_of rs) c.in-Ok.closed.receipts.items)
     (c.loop-one.invariant.1 ∙ ap (λ (ds : List (Done g.row.N.Denot g.N.DeskNaming)). map (λ (d : Done g.row.N.Denot g.N.DeskNaming). d.session.receipts.items) ds) whole)
     c.in-Ok.ensures.receipts
+
+pub returns-in-Ok-clause-begins : goal.returns-in-Ok-clause-begins
+returns-in-Ok-clause-begins g c =
+    let opening = g.N.DeskNaming.opening in
+    let fits = c.in-Ok.ensures.keeps.list.fits in
+    sym (ap (λ (list : List Stored). take (length opening) list) fits.begins ∙ take-append_seam opening fits.more)

@@ -1,4 +1,4 @@
-use Rattle.std.proofs.Common.{◌≡◌, ℕ, List, length, rules, subst}
+use Rattle.std.proofs.Common.{◌≡◌, ℕ, List, length, rules, subst, take}
 use Rattle.std.specs.Prelude.{map}
 use Rattle.streams.specs.Streams.{Wrote}
 use Rattle.replica_command.specs.StayText.{IsPrinted, closed_line}
@@ -20,7 +20,11 @@ returns-clause-printed g c =
     let closed = c.in_ok-closed.closed in
     let ending = c.in_ok-ending.ending in
     let many : count ≡ length c.args.requests.items = search rules in
-    stay_printed g.N.DeskNaming.committee g.N.DeskNaming.replica c.args.requests.items closed.receipts.items asked_of answered_of receipts_in before mid after c.in_ok-work.work.items
-    done count (length closed.parts.log.steps) ending many c.in_ok-work.ensures c.in_ok-done.ensures
+    let opened = c.count-opened.result in
+    let steps = closed.parts.log.steps in
+    let counted : length g.N.DeskNaming.opening ≡ opened = search rules in
+    let begins = subst (λ (n : ℕ). g.N.DeskNaming.opening ≡ take n steps) counted c.in_ok-closed.ensures.begins in
+    stay_printed g.D.Disk g.N.DeskNaming.committee g.N.DeskNaming.replica g.N.DeskNaming.opening c.args.requests.items closed.receipts.items asked_of answered_of receipts_in before mid after c.in_ok-work.work.items
+    done count opened steps ending many begins c.in_ok-work.ensures c.in_ok-done.ensures
     (subst (λ (ds : List (Done g.row.N.Denot g.N.DeskNaming)). IsPrinted before mid (map answered_of ds) count ending) c.deref.ensures.value c.in_ok-ending.ensures.printed)
     c.in_ok-closed.ensures.receipts (subst (λ (n : ℕ). Wrote mid after (closed_line n)) c.count.ensures.value c.in_ok-print_count.ensures.printed)

@@ -21,7 +21,7 @@ loop-one-preserved g c =
 pub returns : goal.returns
 returns g c =
     let Gives = λ (w : Work g.row.N.Denot g.N.DeskNaming) (d : Done g.row.N.Denot g.N.DeskNaming).
-    AreWorked g.N.DeskNaming.committee g.N.DeskNaming.replica w.requests.items d.session.receipts.items d.outcomes.items in
+    AreWorked g.D.Disk g.N.DeskNaming.committee g.N.DeskNaming.replica g.N.DeskNaming.opening w.requests.items d.session.receipts.items d.outcomes.items in
     let s = c.in-None.ensures.steps in
     let calls = c.in_ok-done.ensures in
     let results = c.in_ok-done.done.items in

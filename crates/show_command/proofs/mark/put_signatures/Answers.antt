@@ -9,4 +9,4 @@ returns c =
     on_ok c.append-3.result _ _ c.append-3.ensures.ok (λ last.
     five_pieces c.args.text.now.items (codes "signatures ") (decimal c.args.count) (codes " good ") (decimal c.args.good) (codes "\n") c.append.new.text.items c.put_number.new.text.items
     c.append-2.new.text.items c.put_number-2.new.text.items c.append-3.new.text.items
-    c.in_ok-append.ensures.ok c.in_ok-put_number.ensures c.in_ok-append-2.ensures.ok c.in_ok-put_number-2.ensures last)
+    c.in_ok-append.ensures.ok c.in_ok-put_number.ensures.ok c.in_ok-append-2.ensures.ok c.in_ok-put_number-2.ensures.ok last)

@@ -48,23 +48,23 @@ loop-k-preserved g c =
       unwritten = search rules;
       no_failure = read.no_failure ∙ inv.no_failure;
       log_running = added.running;
-      genesis = added.genesis ∙ inv.genesis;
-      counted = ap length added.ok ∙ length-push log.steps x ∙ omega (arith, inv.counted);
-      legal = subst (λ (h : Header). IsLegal h next.steps) (sym added.genesis) (subst (IsLegal log.genesis) (sym added.ok) (legal_more log.genesis c.loop-k.durable log.steps x inv.replayed inv.legal read.legal.0));
-      replayed = read.legal.1 ∙ replay_more log.genesis c.loop-k.durable log.steps x inv.replayed ∙ ap (replay log.genesis) (sym added.ok) ∙ ap (λ (h : Header). replay h next.steps) (sym added.genesis);
+      genesis = added.like.genesis ∙ inv.genesis;
+      counted = ap length added.ok.steps ∙ length-push log.steps x ∙ omega (arith, inv.counted);
+      legal = subst (λ (h : Header). IsLegal h next.steps) (sym added.like.genesis) (subst (IsLegal log.genesis) (sym added.ok.steps) (legal_more log.genesis c.loop-k.durable log.steps x inv.replayed inv.legal read.legal.0));
+      replayed = read.legal.1 ∙ replay_more log.genesis c.loop-k.durable log.steps x inv.replayed ∙ ap (replay log.genesis) (sym added.ok.steps) ∙ ap (λ (h : Header). replay h next.steps) (sym added.like.genesis);
       log_failure = added.no_failure ∙ inv.log_failure;
-      tells = (λ s. inv.tells.0 (c.append.ensures.tells.0 s), λ s. c.append.ensures.tells.1 (inv.tells.1 s));
+      tells = (λ s. inv.tells.0 (c.append.ensures.like.tells.0 s), λ s. c.append.ensures.like.tells.1 (inv.tells.1 s));
       durable = some_if first _ (λ cs at.
           let now = told_before first (g.D.Disk.bytes log.disk) cs (inv.tells.1, inv.tells.0) at in
-          subst (LeavesEntries (g.D.Disk.images next.disk)) (sym (if_some (g.D.Disk.bytes log.disk) _ now.0 added.listed now.1)) (if_some (g.D.Disk.bytes log.disk) _ now.0 added.durable now.1));
+          subst (LeavesEntries (g.D.Disk.images next.disk)) (sym (if_some (g.D.Disk.bytes log.disk) _ now.0 added.ok.entries now.1)) (if_some (g.D.Disk.bytes log.disk) _ now.0 added.durable now.1));
       copied = λ bs is.
           let so_far = inv.copied bs is in (
             so_far.0 ++ e ∷ [],
             old_texts_more list c.loop-k.k so_far.0 e so_far.1 (here bs is),
-            added.ok ∙ ap (λ (l : List Stored). l ++ x ∷ []) so_far.2 ∙ sym (steps_push so_far.0 e),
+            added.ok.steps ∙ ap (λ (l : List Stored). l ++ x ∷ []) so_far.2 ∙ sym (steps_push so_far.0 e),
           );
       listed = λ bs is. some_if first _ (λ cs at.
           let now = told_before first (g.D.Disk.bytes log.disk) cs (inv.tells.1, inv.tells.0) at in
-          subst (AreOldTexts (take (c.loop-k.k + 1) list)) (sym (if_some (g.D.Disk.bytes log.disk) _ now.0 added.listed now.1))
+          subst (AreOldTexts (take (c.loop-k.k + 1) list)) (sym (if_some (g.D.Disk.bytes log.disk) _ now.0 added.ok.entries now.1))
           (old_texts_more list c.loop-k.k log.entries e (if_some first _ cs (inv.listed bs is) at) (here bs is)));
     }

@@ -59,11 +59,14 @@ invariant_of-self-2 g c =
     (kept_appended (g.D.Disk.bytes j.disk) (g.D.Disk.bytes n.disk) (g.D.Disk.images j.disk) (g.D.Disk.images n.disk) j.payloads n.payloads j.stopped n.stopped c.self.inside.genesis steps c.deref.result.now c.args.entry.now
     c.self.invariant legal is added.ok added.grows.counted added.tells added.durable)
 
-pub returns-clause-listed : goal.returns-clause-listed
-returns-clause-listed g c =
+pub returns-clause-ok : goal.returns-clause-ok
+returns-clause-ok g c =
     let j = c.self.inside.journal in
     let is : IsEntryOf c.deref.result.now c.args.entry.now = subst (λ (t : List ℕ). IsEntryOf t c.args.entry.now) (sym c.deref.ensures.value) c.in_ok-text.ensures.spells in
-    rw (← c.self.view_is) (appended_entries (g.D.Disk.bytes j.disk) j.payloads c.append.new.self.payloads c.deref.result.now c.args.entry.now is c.in_ok-append.ensures.ok)
+    rw (← c.self.view_is) (record {
+      steps = c.push_reserved.ensures.items ∙ ap (λ (l : List Stored). l ++ c.stored.result ∷ []) c.reserve.ensures.items ∙ ap (λ (s : Stored). c.self.inside.steps.items ++ s ∷ []) c.stored.ensures;
+      entries = appended_entries (g.D.Disk.bytes j.disk) j.payloads c.append.new.self.payloads c.deref.result.now c.args.entry.now is c.in_ok-append.ensures.ok;
+    })
 
 pub returns-clause-durable : goal.returns-clause-durable
 returns-clause-durable g c =

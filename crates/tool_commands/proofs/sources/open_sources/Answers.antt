@@ -1,0 +1,8 @@
+use Rattle.std.proofs.Common.{◌≡◌, ◌++◌, ◌∷◌, [], rules}
+use Rattle.tool_commands.proofs.Replicas.{opened_more}
+use Rattle.tool_commands.proofs.sources.open_sources.Goals as goal
+
+pub loop-i-preserved : goal.loop-i-preserved
+loop-i-preserved g c =
+    let pushed : c.push.new.self.items ≡ c.loop-i.sources.items ++ c.source_of.result ∷ [] = search rules in
+    (search rules, opened_more (λ s. s.connector.connector) (λ s. s.replica) c.args.words.now c.loop-i.sources.items _ c.loop-i.i _ c.source_of.result c.loop-i-test.true pushed c.loop-i.invariant.1 c.source_of.ensures.opened)

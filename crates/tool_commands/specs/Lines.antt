@@ -1,0 +1,66 @@
+-- The lines that commands print.
+use Rattle.std.specs.Prelude.{◌≡◌, ◌⊎◌, ℕ, List, ◌++◌, Option, Ok, codes, decimal, length}
+use Rattle.std.specs.List.{AllZip}
+use Rattle.hex.specs.Hex.{decode_of, encode_lower}
+use Rattle.streams.specs.Streams.{Wrote}
+use Rattle.blocks.specs.Committees.{IsCommittee, Member, committee_text, multikey_text, weighted_text}
+use Rattle.blocks.specs.Genesis.{chain_id_of, genesis_of}
+use Rattle.key_files.specs.KeyFiles.{key_line}
+use Rattle.vote_log.specs.Logs.{LogState}
+use Rattle.vote_log.specs.Migrations.{IsRunningLog}
+use Rattle.stable_log.specs.declared.file_disk.FileDisk.{FileDisk}
+use Rattle.tool_words.specs.declared.command.WeightedReplica.{WeightedReplica}
+
+-- ---- keys
+
+-- the key line of the key id and the seed that these digits spell
+pub record IsKeyPrinted (digits : List ℕ) (before after : Option (List ℕ)) : Type 0 where
+  pub key_id : List ℕ
+  pub seed : List ℕ
+  pub id_size : length key_id ≡ 16
+  pub spelled : decode_of digits ≡ Ok (key_id ++ seed)
+  pub wrote : Wrote before after (key_line key_id seed)
+
+-- ---- committees
+
+-- "chain ID"
+abbrev pub chain_line : List ℕ → List ℕ
+chain_line id = codes "chain " ++ (encode_lower id ++ codes "\n")
+
+-- of a committee whose file is of this kind
+pub record IsChainPrinted (IsText : List ℕ → Type 0) (before after : Option (List ℕ)) : Type 0 where
+  pub bytes : List ℕ
+  pub text : IsText bytes
+  pub is_committee : IsCommittee bytes
+  pub wrote : Wrote before after (chain_line (chain_id_of bytes))
+
+-- of f faulty replicas and so many keys
+abbrev pub IsTextOfKeys : ℕ → ℕ → List ℕ → Type 0
+IsTextOfKeys f count bytes = (keys : List (List ℕ)) × (length keys ≡ count) × (bytes ≡ committee_text f keys)
+
+-- a member of the weight of a replica, with as many keys
+pub record IsMemberOf (r : WeightedReplica) (m : Member) : Type 0 where
+  pub weight : m.weight ≡ r.weight
+  pub many : length m.keys ≡ length r.paths.items
+
+-- of these replicas, in their order
+abbrev pub IsTextOfReplicas : List WeightedReplica → List ℕ → Type 0
+IsTextOfReplicas replicas bytes =
+    (members : List Member) × AllZip IsMemberOf replicas members × ((bytes ≡ weighted_text members) ⊎ (bytes ≡ multikey_text members))
+
+-- ---- logs
+
+-- a log of this committee's chain runs, with so many entries
+abbrev pub IsCarriedLog : List ℕ → ℕ → Type 0
+IsCarriedLog committee count = (log : LogState FileDisk) × IsRunningLog (genesis_of committee) count log
+
+-- "migrated COUNT"
+abbrev pub migrated_line : ℕ → List ℕ
+migrated_line count = codes "migrated " ++ (decimal count ++ codes "\n")
+
+pub record IsMigrationPrinted (before after : Option (List ℕ)) : Type 0 where
+  pub committee : List ℕ
+  pub count : ℕ
+  pub is_committee : IsCommittee committee
+  pub log : IsCarriedLog committee count
+  pub wrote : Wrote before after (migrated_line count)

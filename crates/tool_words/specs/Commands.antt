@@ -1,0 +1,18 @@
+-- The numbers and counts of what words ask for.
+use Rattle.std.specs.Prelude.{◌≡◌, ◌≤◌, ◌+◌, ◌*◌, length, ⊤}
+use Rattle.std.specs.List.{All}
+use Rattle.tool_words.specs.declared.command.WeightedReplica.{WeightedReplica}
+use Rattle.tool_words.specs.declared.command.Command.{Command}
+use Rattle.tool_words.specs.declared.command.Command.TheVariants.{Usage, Keygen, Committee, Weighted, Replica, Audit, Migrate}
+
+-- a weight, and one to four keys
+pub record IsWeighted (r : WeightedReplica) : Type 0 where
+  pub weight : 1 ≤ r.weight
+  pub some : 1 ≤ length r.paths.items
+  pub few : length r.paths.items ≤ 4
+
+-- F of 1 to 10 has 3F + 1 keys, and 4 to 31 replicas have weights. Other numbers keep their bounds by their types
+abbrev pub HasItsCounts : Command → Type 0
+HasItsCounts (Committee f out keys) = (1 ≤ f) × (f ≤ 10) × (length keys.items ≡ 3 * f + 1)
+HasItsCounts (Weighted out replicas) = (4 ≤ length replicas.items) × (length replicas.items ≤ 31) × All IsWeighted replicas.items
+HasItsCounts command = ⊤
