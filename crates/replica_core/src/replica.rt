@@ -287,7 +287,7 @@ impl Core {
     /// Refused in this order: UnknownParent, ParentView, TreeFull, SameId, Memory.
     pub fn admit(&mut self, block: &CheckedBlock) -> Result<Plan, CoreRefusal>
         // Vote exactly where the replica may vote, else Raise exactly where it may raise its lock, else
-        // Nothing; and what the block commits.
+        // Pass; and what the block commits.
         ensures plan { IfOk result (IsPlan self.new) }
         ensures block { IfOk result (λ plan. plan.block ≡ block.now.header) }
 

@@ -5,3 +5,4 @@ pub mod OneBlock
 pub mod BlockLemmas
 pub mod ValueLemmas
 pub mod ChainLemmas
+pub mod Rotations

@@ -70,18 +70,19 @@ pub(crate) fn maj(x: u32x8, y: u32x8, z: u32x8) -> u32x8
     y ^ ((x ^ y) & (y ^ z))
 }
 
+// Rotations one inside the other, here and below: each overwrites what it rotates, which spares a processor without AVX copies.
 #[inline(always)]
 pub(crate) fn big_sigma0(x: u32x8) -> u32x8
     ensures { (l : ℕ) → l < 8 → slice_index result l ≡ big_sigma0 (slice_index x l) }
 {
-    xor(xor(rotate(x, 2), rotate(x, 13)), rotate(x, 22))
+    xor(rotate(xor(x, rotate(x, 11)), 2), rotate(x, 22))
 }
 
 #[inline(always)]
 pub(crate) fn big_sigma1(x: u32x8) -> u32x8
     ensures { (l : ℕ) → l < 8 → slice_index result l ≡ big_sigma1 (slice_index x l) }
 {
-    xor(xor(rotate(x, 6), rotate(x, 11)), rotate(x, 25))
+    rotate(xor(x, rotate(xor(x, rotate(x, 14)), 5)), 6)
 }
 
 #[inline(always)]
