@@ -25,7 +25,7 @@ use Rattle.vote_desk.specs.declared.reply.Reply.{Reply}
 use Rattle.vote_desk.specs.Deliveries.{BoundsIndices, IsDelivered, IsLeftAfter, IsLeftBy, IsTold, RunsOn, SurvivesCrash, act_of, released_by, with_receipt}
 use Rattle.vote_desk.specs.DeskRefusals.{IsDeskRefusal, IsRunning, IsStopped}
 use Rattle.vote_desk.specs.Desks.{DeskView, timed_out_at}
-use Rattle.vote_desk.specs.SomeDesk.{Refuses, RefusesUnvoted, Replies, SomeDesk, SomeDeskMoves}
+use Rattle.vote_desk.specs.SomeDesk.{Refuses, RefusesUnvoted, Replies, SomeDesk, SomeDeskMoves, TimesOut}
 use Rattle.vote_desk.specs.Stays.{IsImageAfter, stay_in}
 
 -- ---- some desk
@@ -42,6 +42,17 @@ module _ {D T E : Type 0} (IsDesk : DeskView D → Type 0) (old new : DeskView D
   pub some_err : IsDesk old → IsDesk new → (Moves : E → DeskView D → DeskView D → Type 0) (r : Result T E) → IfErr r (λ e. Moves e old new) → IfErr r (λ e. SomeDeskMoves IsDesk (Moves e))
   some_err before later Moves (Ok x) moves = tt
   some_err before later Moves (Err e) moves = record { old = old; new = new; before = before; later = later; moves = moves }
+
+module _ {D T : Type 0} (IsDesk : DeskView D → Type 0) (old new : DeskView D) where
+  pub times_out : IsDesk old → IsDesk new → (view : ℕ) (r : Result T DeskError) → OnOk r (IsRunning old) → OnOk r (new ≡ timed_out_at old view)
+      → OnOk r (SomeDeskMoves IsDesk (TimesOut view))
+  times_out before later view (Ok x) running moved = record { old = old; new = new; before = before; later = later; moves = record { running = running; moved = moved } }
+  times_out before later view (Err e) running moved = tt
+
+  pub stops : IsDesk old → (r : Result T DeskError) → IfErr r (λ e. (e ≡ error.Stopped) × IsStopped old × (new ≡ old))
+      → IfErr r (λ e. (e ≡ error.Stopped) × SomeDesk IsDesk (λ d. IsStopped d))
+  stops before (Ok x) stopped = tt
+  stops before (Err e) stopped = (stopped.0, record { desk = old; is_desk = before; is = stopped.1 })
 
 -- what is refused, with the answer itself
 pub refused_so : {T E : Type 0} (P Q : E → Type 0) (r : Result T E) → IfErr r P → ((e : E) → r ≡ Err e → P e → Q e) → IfErr r Q

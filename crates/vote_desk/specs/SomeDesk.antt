@@ -10,7 +10,7 @@ use Rattle.vote_desk.specs.declared.desk_error.DeskError.{DeskError}
 use Rattle.vote_desk.specs.declared.desk_error.DeskError.TheVariants.{Stopped}
 use Rattle.vote_desk.specs.declared.reply.Reply.{Reply}
 use Rattle.vote_desk.specs.Deliveries.{BoundsIndices, IsDelivered, IsLeftAfter, RunsOn}
-use Rattle.vote_desk.specs.DeskRefusals.{IsDeskRefusal, IsStopped}
+use Rattle.vote_desk.specs.DeskRefusals.{IsDeskRefusal, IsRunning, IsStopped}
 use Rattle.vote_desk.specs.Desks.{DeskView, KeepsDesk, timed_out_at}
 use Rattle.vote_desk.specs.Stays.{IsStay}
 
@@ -57,3 +57,10 @@ pub record Refuses {D : Type 0} (disk : Ghosts D) (b : Header) (e : DeskError) (
 abbrev pub RefusesUnvoted : {D : Type 0} → Ghosts D → Header → DeskError → (old new : DeskView D) → Type 0
 RefusesUnvoted disk b Stopped old new = IsStopped old × (new ≡ old)
 RefusesUnvoted disk b e old new = Refuses disk b e (timed_out_at old b.view) new
+
+-- ---- timeouts
+
+-- a desk that runs gives up on all views up to this one, and nothing else of it changes
+pub record TimesOut {D : Type 0} (view : ℕ) (old new : DeskView D) : Type 0 where
+  pub running : IsRunning old
+  pub moved : new ≡ timed_out_at old view

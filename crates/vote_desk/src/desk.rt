@@ -8,11 +8,11 @@ ghost use Rattle.blocks.specs.Replay.{ballots_in};
 ghost use Rattle.wire.specs.declared.limits.TheConstants.{MOST_ENTRIES, MOST_KEYS};
 ghost use Rattle.key_index_store.specs.Indices.{limit_of};
 ghost use Rattle.vote_desk.specs.Deliveries.{CommitsIn, IsGoodAnswer, IsGoodReply, act_of, released_by, with_receipt};
-ghost use Rattle.vote_desk.specs.DeskRefusals.{IsStartRefusal, IsStartable};
+ghost use Rattle.vote_desk.specs.DeskRefusals.{IsStartRefusal, IsStartable, IsStopped};
 ghost use Rattle.vote_desk.specs.Desks.{HoldsId, KeepsDesk, desk_of, left_of, status_of, vote_count};
 ghost use Rattle.vote_desk.specs.Exports.{IsOut, RefusesExport};
 ghost use Rattle.vote_desk.specs.Receipts.{AreRisingByNumber, AreReceipts, KeepsReceipts, receipt_ballot, receipts_of};
-ghost use Rattle.vote_desk.specs.SomeDesk.{IsDeskOf, Refuses, RefusesUnvoted, Replies, RepliesUnvoted, SomeDesk, SomeDeskMoves};
+ghost use Rattle.vote_desk.specs.SomeDesk.{IsDeskOf, Refuses, RefusesUnvoted, Replies, RepliesUnvoted, SomeDesk, SomeDeskMoves, TimesOut};
 ghost use Rattle.vote_desk.specs.Stays.{AreLeftByStay, IsStay};
 ghost use Rattle.vote_desk.specs.Votes.{IsVoteFound, RefusesVoteIn};
 
@@ -90,6 +90,23 @@ fn deliver_unvoted_to<N: DeskNaming, D: Disk>(
     // For the proof: what each desk keeps, before and after.
     let _core = state.core();
     let answer = deliver_unvoted_on(state, session, block);
+    let _core = state.core();
+    answer
+}
+
+// Gives up on views at a desk of which no more is known than what each desk keeps.
+fn timeout_to<N: DeskNaming, D: Disk>(
+    state: &mut DeskState<N, D>,
+    view: u64,
+) -> Result<(), DeskError>
+    ensures event { OnOk result (SomeDeskMoves
+        (IsDeskOf D.Disk N.committee N.replica N.opening) (TimesOut view)) }
+    ensures refused { IfErr result (λ e. (e ≡ DeskError.Stopped)
+        × SomeDesk (IsDeskOf D.Disk N.committee N.replica N.opening) (λ d. IsStopped d)) }
+{
+    // For the proof: what each desk keeps, before and after.
+    let _core = state.core();
+    let answer = timeout_on(state, view);
     let _core = state.core();
     answer
 }
@@ -242,10 +259,13 @@ impl<N: DeskNaming, D: Disk> Desk<N, D> {
     /// Takes the lock, which may wait, and gives up on all views up to this one, as `timeout_on` does. Refused only by
     /// `Stopped`.
     pub fn timeout<R: Wait>(&self, rt: &R, view: u64) -> Result<(), DeskError>
-        ensures { IfErr result (λ e. e ≡ DeskError.Stopped) }
+        ensures event { OnOk result (SomeDeskMoves
+            (IsDeskOf D.Disk N.committee N.replica N.opening) (TimesOut view)) }
+        ensures refused { IfErr result (λ e. (e ≡ DeskError.Stopped)
+            × SomeDesk (IsDeskOf D.Disk N.committee N.replica N.opening) (λ d. IsStopped d)) }
     {
         let mut state = self.state.lock(rt);
-        timeout_on(&mut *state, view)
+        timeout_to(&mut *state, view)
     }
 
     /// Takes the lock, which may wait, and says what is left of the indices and of the log's room: plan a new committee

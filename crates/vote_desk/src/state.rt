@@ -130,7 +130,6 @@ impl<N: DeskNaming, D: Disk> DeskState<N, D> {
     /// What is left of the indices and of the log's room.
     pub fn left(&self) -> Left
         ensures value { result ≡ left_of self.now }
-        ensures keeps { KeepsDesk D.bytes D.images N.committee N.replica N.opening self.now }
         ensures few { result.indices ≤ limit_of MOST_KEYS }
         ensures room { result.entries ≤ MOST_ENTRIES }
     {
