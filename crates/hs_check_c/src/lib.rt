@@ -1,7 +1,7 @@
-//! The checker for programs in other languages: `hs_check` as include/hs_check.h declares it. It takes no memory, keeps
-//! nothing between calls, and reads nothing but what it is handed.
+//! The checker for programs in other languages: the calls that include/hs_check.h declares. They take no memory, keep nothing
+//! between calls, and read nothing but what they are handed.
 #![tactic(auto)]
 
 mod exported;
 
-pub use exported::{HsFinding, hs_check};
+pub use exported::{hs_check, hs_committee};

@@ -33,8 +33,15 @@ fn is_good<V: Verifier>(verifier: &V, committee: &CommitteeView, vote: &SignedVo
 pub struct Board<'a, N: BoardNaming> {
     alloc: Global,
     committee: CommitteeView<'a>,
-    // grows only
-    memo: Mutex<Memo<N>>,
+    // Each grows only. A vote stands in the one of its replica, so that threads seldom wait for one another.
+    memo_0: Mutex<Memo<N>>,
+    memo_1: Mutex<Memo<N>>,
+    memo_2: Mutex<Memo<N>>,
+    memo_3: Mutex<Memo<N>>,
+    memo_4: Mutex<Memo<N>>,
+    memo_5: Mutex<Memo<N>>,
+    memo_6: Mutex<Memo<N>>,
+    memo_7: Mutex<Memo<N>>,
     ghost named: { committee ≡ N.committee },
 }
 
@@ -46,7 +53,28 @@ impl<'a, N: BoardNaming> Board<'a, N> {
         Board {
             alloc,
             committee,
-            memo: Mutex::new(Memo::new(alloc)),
+            memo_0: Mutex::new(Memo::new(alloc)),
+            memo_1: Mutex::new(Memo::new(alloc)),
+            memo_2: Mutex::new(Memo::new(alloc)),
+            memo_3: Mutex::new(Memo::new(alloc)),
+            memo_4: Mutex::new(Memo::new(alloc)),
+            memo_5: Mutex::new(Memo::new(alloc)),
+            memo_6: Mutex::new(Memo::new(alloc)),
+            memo_7: Mutex::new(Memo::new(alloc)),
+        }
+    }
+
+    // Where the votes of this replica stand.
+    fn memo_of(&self, replica: u16) -> &Mutex<Memo<N>> {
+        match replica % 8 {
+            0 => &self.memo_0,
+            1 => &self.memo_1,
+            2 => &self.memo_2,
+            3 => &self.memo_3,
+            4 => &self.memo_4,
+            5 => &self.memo_5,
+            6 => &self.memo_6,
+            _ => &self.memo_7,
         }
     }
 
@@ -54,7 +82,7 @@ impl<'a, N: BoardNaming> Board<'a, N> {
     fn recall<R: Wait>(&self, rt: &R, vote: &Shared<SignedVote>) -> Option<bool>
         ensures { IfSome result (IsAnswerOn N.committee vote.now) }
     {
-        self.memo.lock(rt).recall(vote)
+        self.memo_of(vote.get().replica).lock(rt).recall(vote)
     }
 
     // Remembers the answer to a vote.
@@ -66,7 +94,9 @@ impl<'a, N: BoardNaming> Board<'a, N> {
     ) -> Result<(), AllocError>
         requires { IsAnswerOn N.committee vote is_good }
     {
-        self.memo.lock(rt).remember(vote, is_good)
+        self.memo_of(vote.get().replica)
+            .lock(rt)
+            .remember(vote, is_good)
     }
 
     /// The vote, which stands in memory once however often it is posted. It is not checked. Where memory is refused no
@@ -75,7 +105,7 @@ impl<'a, N: BoardNaming> Board<'a, N> {
         ensures { IfOk result (λ v. v ≡ vote.now) }
     {
         let vote = Shared::new(self.alloc, *vote)?;
-        self.memo.lock(rt).post(vote)
+        self.memo_of(vote.get().replica).lock(rt).post(vote)
     }
 
     /// Whether the vote is good: its replica is one of the committee, and signed the vote's view and id in the

@@ -1,7 +1,7 @@
 use Rattle.std.proofs.Common.{ℕ, List, pos, ap, subst, ◌∙◌, to_z-of_z}
 use mir.Syntax.{w32}
 use Rattle.verdict_checker.specs.Checks.{IsRefused}
-use Rattle.hs_check_c.proofs.exported.hs_check.Goals as goal
+use Rattle.check_answers.proofs.judging.answer_of.Goals as goal
 
 pub returns-in-Err-check-clause-first_refusal : goal.returns-in-Err-check-clause-first_refusal
 returns-in-Err-check-clause-first_refusal c readable not = record {

@@ -1,0 +1,13 @@
+//! What the checker answers a caller in another language, and what a page shows of a committee and of a verdict beside it: plain
+//! numbers and bytes, for the exports of `hs_check_c` and `hs_check_web`. It takes no memory, keeps nothing between calls, and
+//! reads nothing but what it is handed.
+#![tactic(auto)]
+
+mod judging;
+mod showing;
+
+pub use judging::{HsFinding, judge};
+pub use showing::{
+    HsCommittee, HsHeader, HsHeaders, HsKey, HsVerdict, HsVote, show_committee, show_headers,
+    show_key, show_verdict,
+};

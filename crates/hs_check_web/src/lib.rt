@@ -1,0 +1,7 @@
+//! The checker for a web page: what the library's `hs_check` answers, and what the page shows of both texts beside it. It takes no
+//! memory, keeps nothing between calls, reads nothing but what it is handed, and asks its host for nothing.
+#![tactic(auto)]
+
+mod exported;
+
+pub use exported::{hs_check, hs_committee, hs_headers, hs_key, hs_verdict};
