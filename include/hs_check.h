@@ -70,6 +70,15 @@ struct hs_finding {
     uint32_t rule;    /* the rule that it broke: HS_DOUBLE_VOTE or HS_LOCK_VIOLATION */
 };
 
+/* What a committee's file says. */
+struct hs_shown_committee {
+    uint64_t total;    /* how much all replicas count together */
+    uint64_t quorum;   /* how much a quorum counts */
+    uint32_t n;        /* how many replicas there are */
+    uint32_t weighted; /* 1 where the format has weights (HSC2, HSC3), else 0 */
+    uint8_t chain[32]; /* the id of its chain, to compare with the one that you were told */
+};
+
 /*
  * Judges a verdict under a committee, both as the bytes of their files. Answers HS_ACCEPTED, and then *finding says
  * what the verdict proves; else the number of a refusal, and then *finding is left as it was.
@@ -90,6 +99,16 @@ __attribute__((nonnull(5)))
 #endif
 int hs_check(const uint8_t *committee, size_t committee_len, const uint8_t *verdict, size_t verdict_len,
              struct hs_finding *finding);
+
+/*
+ * Says what stands in a committee's file, as its bytes. Answers HS_ACCEPTED, and then *shown says it; else one of the
+ * numbers of a refused committee, and then *shown is left as it was. Of the text, the memory, threads and the stack
+ * holds what is said of hs_check.
+ */
+#ifdef __GNUC__
+__attribute__((nonnull(3)))
+#endif
+int hs_committee(const uint8_t *committee, size_t committee_len, struct hs_shown_committee *shown);
 
 #ifdef __cplusplus
 }

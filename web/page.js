@@ -136,7 +136,8 @@ function sheetOf(verdict) {
   return [made("p", {}, NEXT), made("p", {}, NOT_SAID),
     made("div", { class: "paper-only" }, made("p", {}, "Chain id, compared with the one that was told:"), chainOf(committee.shown.chain),
       made("p", {}, "SHA-256 of the committee\u2019s file: ", idOf(committee.digest))),
-    made("p", { class: "soft" }, "SHA-256 of this verdict\u2019s file: ", idOf(verdict.digest))];
+    made("p", { class: "soft" }, "SHA-256 of this verdict\u2019s file: ", idOf(verdict.digest)),
+    made("div", { class: "paper-only soft" }, made("p", {}, by("meaning").textContent), made("p", {}, by("version").textContent))];
 }
 
 function answerOf(verdict, isCompared) {

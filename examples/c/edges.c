@@ -122,6 +122,23 @@ static bool runs_in_threads(void)
     return kept;
 }
 
+/* Of a committee it is said what its format lays out, of a text that is cut nothing. */
+static bool shows_the_committee(void)
+{
+    struct hs_shown_committee shown, blank;
+    memset(&blank, 0xa5, sizeof blank);
+    for (size_t len = 0; len < committee.len; len++) {
+        shown = blank;
+        if (hs_committee(committee.bytes + committee.len - len, len, &shown) >= 0 || memcmp(&shown, &blank, sizeof shown) != 0)
+            return false;
+    }
+    /* A committee that counts each replica once: four bytes, f, n. The verdict has its chain's id behind four bytes. */
+    unsigned f = 256u * committee.bytes[4] + committee.bytes[5];
+    return hs_committee(committee.bytes, committee.len, &shown) == HS_ACCEPTED && shown.n == 3 * f + 1
+        && shown.total == shown.n && shown.quorum == 2 * f + 1 && shown.weighted == 0
+        && memcmp(shown.chain, verdict.bytes + 4, 32) == 0;
+}
+
 int main(int argc, char **argv)
 {
     static const struct {
@@ -133,6 +150,7 @@ int main(int argc, char **argv)
         {"no byte behind a text is read", reads_only_what_it_is_given},
         {"both texts may be one", takes_one_text_twice},
         {"threads may share the texts, on stacks of 96 KB", runs_in_threads},
+        {"a committee is said as it stands", shows_the_committee},
     };
     bool all = true;
 
