@@ -85,8 +85,9 @@ function showComparison() {
   }[is];
 }
 
-/** What two votes and the headers behind them say, side by side. Where that is proved the rows that break the rule are marked. */
-function votesOf(said, isGood) {
+/** What two votes and the headers behind them say, side by side. Where that is proved, under a committee that was compared, the
+ * rows that break the rule are marked. */
+function votesOf(said, isGood, isCompared) {
   const { first, second, headers, rule } = said;
   const rows = [
     ["View", `${first.view}`, `${second.view}`, rule === 1 && first.view === second.view],
@@ -104,7 +105,7 @@ function votesOf(said, isGood) {
     made("caption", {}, isGood ? `Two votes of replica ${said.replica}` : `What the file says of replica ${said.replica}, which is not proved`),
     made("thead", {}, made("tr", {}, made("th", { scope: "col" }, ""), made("th", { scope: "col" }, "First vote"), made("th", { scope: "col" }, "Second vote"))),
     made("tbody", {}, ...rows.map(([name, one, other, tells]) => {
-      const how = { class: `${one.length === 64 ? "id" : ""}${tells && isGood ? " tells" : ""}`.trim() };
+      const how = { class: `${one.length === 64 ? "id" : ""}${tells && isGood && isCompared ? " tells" : ""}`.trim() };
       return made("tr", {}, made("th", { scope: "row" }, name), made("td", how, one), made("td", how, other));
     }))));
 }
@@ -148,7 +149,7 @@ function answerOf(verdict, isCompared) {
   const card = made("article", { class: `card verdict ${colour}`.trim() }, made("h3", {}, verdict.name));
   card.dataset.line = lineOf(found);
   card.append(...(isGood ? acceptedOf(found, said, isCompared) : refusedOf(found, verdict, isCompared)));
-  if (said !== null) card.append(votesOf(said, isGood));
+  if (said !== null) card.append(votesOf(said, isGood, isCompared));
   if (isGood && isCompared) card.append(...sheetOf(verdict));
   return [card, isGood];
 }
