@@ -16,13 +16,14 @@ use Rattle.vote_desk.specs.Receipts.{receipts_of}
 use Rattle.vote_desk.specs.declared.reply.Receipt.{Receipt}
 use Rattle.replica_lines.specs.declared.outcome.Outcome.{Outcome}
 use Rattle.replica_lines.specs.declared.request.Request.{Request}
+use Rattle.replica_answers.specs.SessionReceipts.{HasReceipt}
+use Rattle.replica_answers.proofs.Receipts.{has_receipt_among_more}
 use Rattle.replica_command.specs.Dealing.{AreWorked, IsAnswered, IsRequestIn}
-use Rattle.replica_command.specs.StayAnswers.{HasReceipt, IsAnswerTo}
+use Rattle.replica_command.specs.StayAnswers.{IsStayAnswer}
 use Rattle.replica_command.specs.StayText.{IsPrinted, IsStayPrinted, answers, closed_line}
 use Rattle.replica_command.specs.declared.staying.Ending.{Ending}
 use Rattle.replica_command.specs.declared.worker.Answered.{Answered}
 use Rattle.replica_command.specs.declared.worker.Asked.{Asked}
-use Rattle.replica_command.proofs.Answering.{has_receipt_among_more}
 
 -- ---- lists
 
@@ -83,7 +84,7 @@ zip_from_get R (x ∷ xs) (y ∷ ys) same each =
 module _ {D : Type 0} (disk : Ghosts D) (committee : List ℕ) (replica : ℕ) (opening : List Stored) (requests : List Request) (receipts : List Receipt) where
   -- what was asked under its number may have come so, and the receipt of a vote is among the receipts
   IsGood : Answered → Type 0
-  IsGood a = ((r : Request) × (slice_get requests a.number ≡ Some r) × IsAnswerTo disk committee replica opening r a.outcome) × HasReceipt receipts a.outcome
+  IsGood a = ((r : Request) × (slice_get requests a.number ≡ Some r) × IsStayAnswer disk committee replica opening r a.outcome) × HasReceipt receipts a.outcome
 
   -- of one worker
   good_of_one : (asked : List Asked) (answered : List Answered) (own : List Receipt) → ((r : Receipt) → Contains own r → Contains receipts r)
@@ -141,8 +142,8 @@ module _ {D : Type 0} (disk : Ghosts D) (committee : List ℕ) (replica : ℕ) (
         All-contains IsGood at.0 (record { number = k; outcome = o }) (All-contains (λ (answered : List Answered). All IsGood answered) (map answered_of done) at.0 all at.1) at.2 in
         record {
           outcomes = p.outcomes;
-          each = subst (λ (list : List Stored). AllZip (IsAnswerTo disk committee replica list) requests p.outcomes) begins
-              (zip_from_get (IsAnswerTo disk committee replica opening) requests p.outcomes (p.many ∙ count_is) (λ k o e. (found k o e).0));
+          each = subst (λ (list : List Stored). AllZip (IsStayAnswer disk committee replica list) requests p.outcomes) begins
+              (zip_from_get (IsStayAnswer disk committee replica opening) requests p.outcomes (p.many ∙ count_is) (λ k o e. (found k o e).0));
           backed = λ k d lt. (found k (get_or p.outcomes k d) (slice_get-get_or p.outcomes k d lt)).1;
           ends = p.ends;
           wrote = wrote_both before mid after (answers p.outcomes) (closed_line (length steps)) p.wrote wrote;

@@ -6,7 +6,8 @@ use Rattle.stable_log.specs.declared.disk.Disk.{Ghosts}
 use Rattle.vote_desk.specs.declared.reply.Receipt.{Receipt}
 use Rattle.replica_lines.specs.declared.outcome.Outcome.{Outcome}
 use Rattle.replica_lines.specs.declared.request.Request.{Request}
-use Rattle.replica_command.specs.StayAnswers.{HasReceipt, IsAnswerTo}
+use Rattle.replica_answers.specs.SessionReceipts.{HasReceipt}
+use Rattle.replica_command.specs.StayAnswers.{IsStayAnswer}
 use Rattle.replica_command.specs.declared.worker.Answered.{Answered}
 use Rattle.replica_command.specs.declared.worker.Asked.{Asked}
 
@@ -17,7 +18,7 @@ IsRequestIn requests asked = slice_get requests asked.number ≡ Some asked.requ
 -- it has the number of the request, and may come of it
 abbrev pub IsAnswered : {D : Type 0} → Ghosts D → List ℕ → ℕ → List Stored → Asked → Answered → Type 0
 IsAnswered disk committee replica opening asked answered =
-    (answered.number ≡ asked.number) × IsAnswerTo disk committee replica opening asked.request answered.outcome
+    (answered.number ≡ asked.number) × IsStayAnswer disk committee replica opening asked.request answered.outcome
 
 -- a worker's outcomes: one of each of its requests, in order, and each vote's receipt is its session's
 pub record AreWorked {D : Type 0} (disk : Ghosts D) (committee : List ℕ) (replica : ℕ) (opening : List Stored) (asked : List Asked) (receipts : List Receipt) (answered : List Answered) : Type 0 where

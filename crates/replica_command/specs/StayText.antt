@@ -9,8 +9,9 @@ use Rattle.replica_lines.specs.LineReading.{IsWhatWasRead}
 use Rattle.replica_lines.specs.OutcomeLines.{outcome_line}
 use Rattle.replica_lines.specs.declared.outcome.Outcome.{Outcome}
 use Rattle.replica_lines.specs.declared.request.Request.{Request}
+use Rattle.replica_answers.specs.SessionReceipts.{HasReceipt}
 use Rattle.replica_command.specs.Dealing.{IsOutcomeAt}
-use Rattle.replica_command.specs.StayAnswers.{HasReceipt, IsAnswerTo, ending_of_all}
+use Rattle.replica_command.specs.StayAnswers.{IsStayAnswer, ending_of_all}
 use Rattle.replica_command.specs.declared.staying.Ending.{Ending}
 use Rattle.replica_command.specs.declared.worker.Answered.{Answered}
 
@@ -35,7 +36,7 @@ pub record IsPrinted (before after : Option (List ℕ)) (all : List (List Answer
 -- where one of the outcomes says so
 pub record IsStayPrinted {D : Type 0} (disk : Ghosts D) (before after : Option (List ℕ)) (committee : List ℕ) (replica opened : ℕ) (steps : List Stored) (requests : List Request) (receipts : List Receipt) (ending : Ending) : Type 0 where
   pub outcomes : List Outcome
-  pub each : AllZip (IsAnswerTo disk committee replica (take opened steps)) requests outcomes
+  pub each : AllZip (IsStayAnswer disk committee replica (take opened steps)) requests outcomes
   pub backed : All (HasReceipt receipts) outcomes
   pub ends : ending ≡ ending_of_all outcomes
   pub wrote : Wrote before after (answers outcomes ++ closed_line (length steps))

@@ -1,11 +1,13 @@
 //! What one worker does.
 
-ghost use Rattle.std.specs.Prelude.{◌≡◌, [], IfOk, OnErr};
-ghost use Rattle.replica_command.specs.StayAnswers.{IsAnswerTo, IsAnswerToBlock, receipts_after};
+ghost use Rattle.std.specs.Prelude.{◌≡◌, [], IfOk};
+ghost use Rattle.replica_answers.specs.SessionReceipts.{receipts_after};
+ghost use Rattle.replica_command.specs.StayAnswers.{IsStayAnswer};
 ghost use Rattle.replica_command.specs.Dealing.{AreWorked};
 
-use blocks::{CommitteeView, Header};
-use certificates::{Certificate, LmsVerifier, check_block};
+use blocks::CommitteeView;
+use certificates::LmsVerifier;
+use replica_answers::answer;
 use replica_lines::{Outcome, Request};
 use stable_log::Disk;
 use std::alloc::{AllocError, Global};
@@ -71,15 +73,15 @@ impl<N: DeskNaming> Work<N> {
         } = self;
         let mut outcomes = Vec::with_capacity(alloc, requests.len())?;
         for Asked { number, request } in requests {
-            let outcome = answer(rt, desk, committee, &mut session, request)?;
+            let outcome = answer_unless_starved(rt, desk, committee, &mut session, request)?;
             outcomes.push(Answered { number, outcome })?;
         }
         Ok(Done { session, outcomes })
     }
 }
 
-// What comes of a request.
-fn answer<N: DeskNaming, T: Wait, D: Disk>(
+// What comes of a request, or that memory was refused.
+fn answer_unless_starved<N: DeskNaming, T: Wait, D: Disk>(
     rt: &T,
     desk: &Desk<N, D>,
     committee: &CommitteeView,
@@ -87,46 +89,12 @@ fn answer<N: DeskNaming, T: Wait, D: Disk>(
     request: Request,
 ) -> Result<Outcome, AllocError>
     requires { committee.now ≡ N.committee }
-    ensures answer { IfOk result (IsAnswerTo D.Disk N.committee N.replica N.opening request) }
+    ensures answer { IfOk result (IsStayAnswer D.Disk N.committee N.replica N.opening request) }
     ensures receipts { IfOk result (λ outcome.
         session.new.receipts.items ≡ receipts_after session.old.receipts.items outcome) }
 {
-    match request {
-        Request::Block(header, certificate) => {
-            deliver(rt, desk, committee, session, header, certificate)
-        }
-        Request::Timeout(view) => match desk.timeout(rt, view) {
-            Ok(()) => Ok(Outcome::TimedOut(view)),
-            Err(refusal) => Ok(Outcome::RefusedByDesk(refusal)),
-        },
-        Request::RefusedHeader(refusal) => Ok(Outcome::RefusedHeader(refusal)),
-        Request::RefusedCertificate(refusal) => Ok(Outcome::RefusedCertificate(refusal)),
-        Request::BadLine => Ok(Outcome::BadLine),
-    }
-}
-
-// Checks a block, before the desk's lock is taken, and delivers it.
-fn deliver<N: DeskNaming, T: Wait, D: Disk>(
-    rt: &T,
-    desk: &Desk<N, D>,
-    committee: &CommitteeView,
-    session: &mut Session<N>,
-    header: Header,
-    certificate: Certificate,
-) -> Result<Outcome, AllocError>
-    requires { committee.now ≡ N.committee }
-    ensures answer { IfOk result
-        (IsAnswerToBlock D.Disk N.committee N.replica N.opening header certificate) }
-    ensures receipts { IfOk result (λ outcome.
-        session.new.receipts.items ≡ receipts_after session.old.receipts.items outcome) }
-{
-    let block = match check_block(committee, &LmsVerifier, header, certificate) {
-        Ok(block) => block,
-        Err(refusal) => return Ok(Outcome::RefusedBlock(refusal)),
-    };
-    match desk.deliver(rt, session, block) {
-        Ok(reply) => Ok(Outcome::Replied(reply)),
-        Err(DeskError::Memory) => Err(AllocError),
-        Err(refusal) => Ok(Outcome::RefusedByDesk(refusal)),
+    match answer(rt, desk, committee, &LmsVerifier, session, request) {
+        Outcome::RefusedByDesk(DeskError::Memory) => Err(AllocError),
+        outcome => Ok(outcome),
     }
 }

@@ -9,4 +9,4 @@ mod request;
 pub use laws::a_text_has_one_reading;
 pub use outcome::{Outcome, write_outcome};
 pub use reading::{LONGEST_LINE, MOST_LINES, read_requests};
-pub use request::Request;
+pub use request::{Request, block_in};

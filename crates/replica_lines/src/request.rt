@@ -58,8 +58,8 @@ fn block_request(alloc: Global, digits: &[u8]) -> Result<Request, AllocError>
     }
 }
 
-// The header and the certificate that the bytes spell, one behind the other.
-fn block_in(alloc: Global, bytes: &[u8]) -> Result<Request, AllocError>
+/// To deliver the block whose header and certificate the bytes spell, one behind the other, or what is refused of them.
+pub fn block_in(alloc: Global, bytes: &[u8]) -> Result<Request, AllocError>
     ensures { IfOk result (λ request. IsOfBlock bytes.now request) }
 {
     let (head, rest) = bytes.split_at(HEADER_LEN.min(bytes.len()));

@@ -13,7 +13,7 @@ loop-number-preserved g c =
     let s = c.in-Some.ensures.steps in (
       search (rules, append_assoc),
       rw c.in_ok-push.ensures.items
-          (worked_one_more g.D.Disk committee replica g.N.DeskNaming.opening c.loop-number.yielded c.loop-number.session.receipts.items c.answer.new.session.receipts.items c.loop-number.outcomes.items asked answered
+          (worked_one_more g.D.Disk committee replica g.N.DeskNaming.opening c.loop-number.yielded c.loop-number.session.receipts.items c.answer_unless_starved.new.session.receipts.items c.loop-number.outcomes.items asked answered
           c.loop-number.invariant.1
           (refl, c.in_ok-outcome.ensures.answer)
           c.in_ok-outcome.ensures.receipts),
