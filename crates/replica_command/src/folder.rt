@@ -10,19 +10,21 @@ use key_files::KeyFile;
 use key_index_store::{IndexError, IndexStore};
 use lmots::{PRIVATE_SEED_LEN, PrivateSeed};
 use lms_tree::SigningTree;
+use parallel_keys::generate_parallel;
 use program_parts::{InputFault, read_at_most};
 use stable_log::FileDisk;
 use std::alloc::Global;
 use std::fs::{File, Files, OpenOptions};
 use std::io;
 use std::io::ErrorKind;
+use std::thread::Threads;
 use vote_desk::Parts;
 use vote_log::{LogError, VoteLog};
 use wire::KeyNumber;
 
-/// A replica's folder.
+/// A replica's folder: the files of its keys, its index store, its log, and a file that who runs it holds a lock on.
 #[derive(Drop)]
-pub(crate) struct ReplicaFolder<'a, F: Files<File = File>> {
+pub struct ReplicaFolder<'a, F: Files<File = File>> {
     pub files: &'a F,
     pub alloc: Global,
     pub path: &'a str,
@@ -44,10 +46,12 @@ impl<F: Files<File = File>> ReplicaFolder<'_, F> {
     }
 
     /// Opens what replica `replica` of the committee is run on: the seeds of its keys first, in the order of their numbers,
-    /// then the index store and the log, each recovered as soon as it is opened. The keys are computed last, which takes a
-    /// few seconds each. Where the committee has no such replica it is one key, and the desk refuses.
-    pub fn open_parts(
+    /// then the index store and the log, each recovered as soon as it is opened. The keys are computed last, in as many
+    /// threads as there are processors, which takes some seconds of theirs each. Where the committee has no such replica it is
+    /// one key, and the desk refuses.
+    pub fn open_parts<T: Threads + Sync>(
         &self,
+        rt: &T,
         committee: &CommitteeView,
         replica: u16,
     ) -> Result<Parts<FileDisk>, ReplicaFault>
@@ -62,7 +66,7 @@ impl<F: Files<File = File>> ReplicaFolder<'_, F> {
         let index = self.recover_indices(keys)?;
         let log = self.recover_log(committee.genesis())?;
         Ok(Parts {
-            trees: self.grow(&seeds)?,
+            trees: self.grow(rt, &seeds)?,
             index,
             log,
         })
@@ -80,12 +84,16 @@ impl<F: Files<File = File>> ReplicaFolder<'_, F> {
     }
 
     // The keys of these seeds.
-    fn grow(&self, seeds: &[PrivateSeed]) -> Result<Vec<SigningTree>, ReplicaFault>
+    fn grow<T: Threads + Sync>(
+        &self,
+        rt: &T,
+        seeds: &[PrivateSeed],
+    ) -> Result<Vec<SigningTree>, ReplicaFault>
         ensures { IfErr result (λ fault. fault ≢ ReplicaFault.Output) }
     {
         let mut trees = Vec::new(self.alloc);
         for seed in seeds {
-            trees.push(SigningTree::generate(self.alloc, *seed)?)?;
+            trees.push(generate_parallel(rt, self.alloc, *seed)?)?;
         }
         Ok(trees)
     }

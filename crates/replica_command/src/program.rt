@@ -59,7 +59,7 @@ pub fn run_replica<F: Files<File = File>, T: Threads + Wait + Sync, R: Feed, W: 
 {
     let folder = ReplicaFolder { files, alloc, path };
     let lock = folder.lock()?;
-    let parts = folder.open_parts(committee, replica)?;
+    let parts = folder.open_parts(rt, committee, replica)?;
     let requests = read_requests(alloc, lines)?;
     let end = stay_once(rt, alloc, committee, replica, parts, workers, requests, out)?;
     Ok(ReplicaEnd { end, lock })
