@@ -1,5 +1,10 @@
 //! Where everything stands: a column for each view, a row for each branch.
 
+ghost use Rattle.std.specs.Prelude.{◌≡◌, IfOk, length};
+ghost use Rattle.std.specs.List.{AllZip};
+ghost use Rattle.draw_command.specs.Findings.{findings_in, findings_of};
+ghost use Rattle.draw_command.specs.Lanes.{IsCulpritOf, IsMarkOf};
+
 use crate::choosing::choose;
 use crate::rows::Rows;
 use crate::scene::{Block, Column, Culprit, Link, Mark, Place, Scene, Standing};
@@ -20,29 +25,40 @@ struct Placed {
     place: Place,
 }
 
-// The culprit of a verdict. Its columns are set once there are any.
-fn culprit_of(verdict: &Verdict) -> Culprit {
+fn mark_of(columns: &[Column], vote: &BoundVote) -> Mark
+    ensures { IsMarkOf vote.now result }
+{
+    Mark {
+        view: vote.view,
+        id: vote.id,
+        column: column_of(columns, vote.view),
+    }
+}
+
+// The culprit of a verdict.
+fn culprit_of(columns: &[Column], verdict: &Verdict) -> Culprit
+    ensures { IsCulpritOf verdict.now result }
+{
     let parts = verdict.parts();
     Culprit {
         replica: parts.replica,
         rule: parts.shown.rule(),
-        earlier: mark_of(&parts.earlier),
-        later: mark_of(&parts.later),
+        earlier: mark_of(columns, &parts.earlier),
+        later: mark_of(columns, &parts.later),
     }
 }
 
-fn mark_of(vote: &BoundVote) -> Mark {
-    Mark {
-        view: vote.view,
-        id: vote.id,
-        column: 0,
-    }
-}
-
-fn culprits_of(alloc: Global, verdicts: &[Verdict]) -> Result<Vec<Culprit>, AllocError> {
+fn culprits_of(
+    alloc: Global,
+    columns: &[Column],
+    verdicts: &[Verdict],
+) -> Result<Vec<Culprit>, AllocError>
+    ensures each { IfOk result (λ culprits. AllZip IsCulpritOf verdicts.now culprits.items) }
+    ensures count { IfOk result (λ culprits. length culprits.items ≡ length verdicts.now) }
+{
     let mut culprits = Vec::new(alloc);
     for verdict in verdicts {
-        culprits.push(culprit_of(verdict))?;
+        culprits.push(culprit_of(columns, verdict))?;
     }
     Ok(culprits)
 }
@@ -87,13 +103,6 @@ fn columns_of(alloc: Global, views: &[u64]) -> Result<Vec<Column>, AllocError> {
 
 fn column_of(columns: &[Column], view: u64) -> usize {
     columns.partition_point(|column| column.view < view)
-}
-
-fn set_columns(columns: &[Column], culprits: &mut [Culprit]) {
-    for culprit in culprits {
-        culprit.earlier.column = column_of(columns, culprit.earlier.view);
-        culprit.later.column = column_of(columns, culprit.later.view);
-    }
 }
 
 // The place of a block's parent, if that is drawn, in the view that the block says.
@@ -189,16 +198,22 @@ pub(crate) fn scene_of(
     alloc: Global,
     evidence: &Evidence,
     report: &Report,
-) -> Result<Scene, AllocError> {
+) -> Result<Scene, AllocError>
+    ensures findings { IfOk result (λ scene.
+        findings_in scene ≡ findings_of evidence.now.committee report.now) }
+    ensures culprits { IfOk result (λ scene.
+        AllZip IsCulpritOf report.now.verdicts scene.culprits.items) }
+    ensures sources { IfOk result (λ scene. scene.sources.items ≡ evidence.now.sources) }
+{
     let certified = certified_chains(alloc, evidence)?;
-    let mut culprits = culprits_of(alloc, report.verdicts())?;
-    let chosen = choose(alloc, evidence, report.conflict(), &culprits)?;
-    let columns = columns_of(alloc, &views_of(alloc, &chosen, &culprits)?)?;
-    set_columns(&columns, &mut culprits);
+    let unplaced = culprits_of(alloc, &[], report.verdicts())?;
+    let chosen = choose(alloc, evidence, report.conflict(), &unplaced)?;
+    let columns = columns_of(alloc, &views_of(alloc, &chosen, &unplaced)?)?;
     let order = in_order(alloc, &certified, report, &chosen)?;
     let mut rows = Rows::new(alloc);
     let blocks = blocks_of(alloc, evidence, &columns, &order, &mut rows)?;
     let committee = evidence.committee();
+    let culprits = culprits_of(alloc, &columns, report.verdicts())?;
     Ok(Scene {
         chain: committee.chain(),
         replicas: committee.n(),

@@ -1,0 +1,5 @@
+pub mod Zips
+pub mod SourceWords
+pub mod Sources
+pub mod Series
+pub mod Causes
