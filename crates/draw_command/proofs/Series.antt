@@ -37,7 +37,15 @@ three_pieces old a b c t1 t2 t3 one two three =
     let whole : t3 ≡ ((old ++ a) ++ b) ++ c = cc in
     whole ∙ joined
 
--- four more
+-- three more
+pub six_pieces : (old a b c d e f t1 t2 t3 t4 t5 t6 : List ℕ) → t1 ≡ old ++ a → t2 ≡ t1 ++ b → t3 ≡ t2 ++ c → t4 ≡ t3 ++ d → t5 ≡ t4 ++ e
+    → t6 ≡ t5 ++ f → t6 ≡ old ++ (a ++ b ++ c ++ d ++ e ++ f)
+six_pieces old a b c d e f t1 t2 t3 t4 t5 t6 one two three four five six =
+    let joined : (((((old ++ a) ++ b) ++ c) ++ d) ++ e) ++ f ≡ old ++ (a ++ b ++ c ++ d ++ e ++ f) = simp append_assoc in
+    let whole : t6 ≡ (((((old ++ a) ++ b) ++ c) ++ d) ++ e) ++ f = cc in
+    whole ∙ joined
+
+-- one more
 pub seven_pieces : (old a b c d e f g t1 t2 t3 t4 t5 t6 t7 : List ℕ) → t1 ≡ old ++ a → t2 ≡ t1 ++ b → t3 ≡ t2 ++ c → t4 ≡ t3 ++ d → t5 ≡ t4 ++ e
     → t6 ≡ t5 ++ f → t7 ≡ t6 ++ g → t7 ≡ old ++ (a ++ b ++ c ++ d ++ e ++ f ++ g)
 seven_pieces old a b c d e f g t1 t2 t3 t4 t5 t6 t7 one two three four five six seven =

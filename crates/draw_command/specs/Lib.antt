@@ -4,8 +4,10 @@ pub mod Words
 pub mod Digits
 pub mod Series
 pub mod Findings
+pub mod DrawnBlocks
 pub mod Lanes
 pub mod Sources
 pub mod Pictures
+pub mod Standings
 pub mod Outputs
 pub mod Faults

@@ -1,6 +1,5 @@
 -- What the program prints.
 use Rattle.std.specs.Prelude.{◌≡◌, ◌≢◌, ℕ, List, [], ◌∷◌, String, codes}
-use Rattle.std.specs.List.{AllZip}
 use Rattle.std.specs.declared.alloc.Global.{Global}
 use Rattle.blocks.specs.Committees.{IsCommittee}
 use Rattle.log_format.specs.declared.status.Status.TheVariants.{Failed}
@@ -9,10 +8,9 @@ use Rattle.evidence.specs.Logs.{ReceivedLog}
 use Rattle.parallel_verify.specs.Collections.{IsEvidenceOfSources}
 use Rattle.culprit_search.specs.Reports.{IsAudit, Report}
 use Rattle.draw_command.specs.Findings.{findings_of}
-use Rattle.draw_command.specs.Lanes.{IsCulpritOf}
-use Rattle.draw_command.specs.Pictures.{IsPicture}
+use Rattle.draw_command.specs.Pictures.{Drawn, IsPicture}
+use Rattle.draw_command.specs.Standings.{IsDrawn}
 use Rattle.draw_command.specs.Words.{AskForPicture}
-use Rattle.draw_command.specs.declared.scene.Culprit.{Culprit}
 use Rattle.draw_command.specs.declared.words.SourceFile.{SourceFile}
 
 abbrev pub usage_line : List ℕ
@@ -38,17 +36,16 @@ pub record IsShown (committee : List ℕ) (sources : List SourceFile) (e : Evide
 
 -- ---- what is printed
 
--- the picture of the audit of what these files show under some committee: what it finds, each culprit with the votes that its
--- verdict names, and what came of each file
+-- the picture of the audit of what these files show under some committee
 pub record IsPictureOf (sources : List SourceFile) (text : List ℕ) : Type 0 where
   pub committee : List ℕ
   pub evidence : Evidence
   pub shown : IsShown committee sources evidence
   pub report : Report
   pub audit : IsAudit evidence report
-  pub culprits : List Culprit
-  pub accused : AllZip IsCulpritOf report.verdicts culprits
-  pub picture : IsPicture (findings_of committee report) culprits evidence.sources text
+  pub drawn : Drawn
+  pub is_drawn : IsDrawn evidence report drawn
+  pub picture : IsPicture (findings_of committee report) drawn text
 
 -- with no words how the program is called, else the picture that they ask for
 abbrev pub IsOutput : List (String Global) → List ℕ → Type 0

@@ -2,9 +2,12 @@
 use Rattle.std.specs.Prelude.{◌≡◌, ◌++◌, ℕ, List, codes}
 use Rattle.evidence.specs.declared.source.SourceReport.{SourceReport}
 use Rattle.draw_command.specs.Findings.{Findings, findings_text}
+use Rattle.draw_command.specs.DrawnBlocks.{AreBlocks}
 use Rattle.draw_command.specs.Lanes.{IsCulpritsText}
 use Rattle.draw_command.specs.Sources.{AreSourceLines}
+use Rattle.draw_command.specs.declared.scene.Block.{Block}
 use Rattle.draw_command.specs.declared.scene.Culprit.{Culprit}
+use Rattle.draw_command.specs.declared.scene.Scene.{Scene}
 
 abbrev pub front : List ℕ
 front = codes "<svg xmlns=\"http://www.w3.org/2000/svg\" "
@@ -12,13 +15,24 @@ front = codes "<svg xmlns=\"http://www.w3.org/2000/svg\" "
 abbrev pub end : List ℕ
 end = codes "</svg>\n"
 
--- an SVG document that has these findings, these culprits and the reports of these sources; what else it draws no clause says
-pub record IsPicture (findings : Findings) (culprits : List Culprit) (reports : List SourceReport) (text : List ℕ) : Type 0 where
+-- what a picture draws beside its findings
+pub record Drawn : Type 0 where
+  pub blocks : List Block
+  pub culprits : List Culprit
+  pub reports : List SourceReport
+
+abbrev pub drawn_in : Scene → Drawn
+drawn_in scene = record { blocks = scene.blocks.items; culprits = scene.culprits.items; reports = scene.sources.items }
+
+-- an SVG document that says these findings and draws this; no clause says where
+pub record IsPicture (findings : Findings) (drawn : Drawn) (text : List ℕ) : Type 0 where
   pub above : List ℕ
+  pub lines : List ℕ
   pub blocks : List ℕ
+  pub are_blocks : AreBlocks findings.replicas findings.total drawn.blocks blocks
   pub lanes : List ℕ
-  pub are_lanes : IsCulpritsText culprits lanes
+  pub are_lanes : IsCulpritsText drawn.culprits lanes
   pub legend : List ℕ
   pub sources : List ℕ
-  pub are_sources : AreSourceLines reports sources
-  pub text_is : text ≡ front ++ above ++ findings_text findings ++ blocks ++ lanes ++ legend ++ sources ++ end
+  pub are_sources : AreSourceLines drawn.reports sources
+  pub text_is : text ≡ front ++ above ++ findings_text findings ++ lines ++ blocks ++ lanes ++ legend ++ sources ++ end

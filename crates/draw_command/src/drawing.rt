@@ -3,7 +3,7 @@
 
 ghost use Rattle.std.specs.Prelude.{IfOk, string_bytes};
 ghost use Rattle.draw_command.specs.Findings.{findings_in};
-ghost use Rattle.draw_command.specs.Pictures.{IsPicture};
+ghost use Rattle.draw_command.specs.Pictures.{IsPicture, drawn_in};
 
 use crate::blocks_drawn::{put_blocks, put_columns, put_links};
 use crate::lanes::put_lanes;
@@ -62,13 +62,12 @@ fn frame(alloc: Global, layout: &Layout) -> Result<String, AllocError> {
     Ok(text)
 }
 
-// The blocks, in their columns and with their links.
-fn drawn(alloc: Global, layout: &Layout, scene: &Scene) -> Result<String, AllocError> {
+// The columns, and the links of the blocks.
+fn lines(alloc: Global, layout: &Layout, scene: &Scene) -> Result<String, AllocError> {
     let mut text = String::new(alloc);
     put_left_out(&mut text, scene)?;
     put_columns(&mut text, layout, scene)?;
     put_links(&mut text, layout, scene)?;
-    put_blocks(&mut text, alloc, layout, scene)?;
     Ok(text)
 }
 
@@ -81,17 +80,17 @@ fn legend(alloc: Global, layout: &Layout) -> Result<String, AllocError> {
 /// The text of the picture. AllocError comes where memory is refused.
 pub fn draw(alloc: Global, scene: &Scene) -> Result<String, AllocError>
     ensures { IfOk result (λ text.
-        IsPicture (findings_in scene.now) scene.now.culprits.items scene.now.sources.items
-        (string_bytes text)) }
+        IsPicture (findings_in scene.now) (drawn_in scene.now) (string_bytes text)) }
 {
     let layout = Layout::of(scene);
     let above = frame(alloc, &layout)?;
-    let blocks = drawn(alloc, &layout, scene)?;
+    let lines = lines(alloc, &layout, scene)?;
     let legend = legend(alloc, &layout)?;
     let mut text = String::from_str(alloc, FRONT)?;
     text.push_str(&above)?;
     put_findings(&mut text, alloc, scene)?;
-    text.push_str(&blocks)?;
+    text.push_str(&lines)?;
+    put_blocks(&mut text, alloc, &layout, scene)?;
     put_lanes(&mut text, alloc, &layout, scene)?;
     text.push_str(&legend)?;
     put_sources(&mut text, &layout, scene)?;

@@ -236,7 +236,8 @@ fn put_lane(
     put_end(text)
 }
 
-fn put_end(text: &mut String) -> Result<(), AllocError>
+/// The end of a group.
+pub(crate) fn put_end(text: &mut String) -> Result<(), AllocError>
     ensures { OnOk result (string_bytes text.new ≡ string_bytes text.old ++ codes "</g>\n") }
 {
     text.push_str("</g>\n")

@@ -1,9 +1,13 @@
 //! Where everything stands: a column for each view, a row for each branch.
 
 ghost use Rattle.std.specs.Prelude.{◌≡◌, IfOk, length};
-ghost use Rattle.std.specs.List.{AllZip};
+ghost use Rattle.std.specs.List.{All, AllZip};
+ghost use Rattle.ancestry.specs.Known.{Known as KnownValue};
+ghost use Rattle.culprit_search.specs.Reports.{Report as ReportValue};
 ghost use Rattle.draw_command.specs.Findings.{findings_in, findings_of};
 ghost use Rattle.draw_command.specs.Lanes.{IsCulpritOf, IsMarkOf};
+ghost use Rattle.draw_command.specs.Pictures.{drawn_in};
+ghost use Rattle.draw_command.specs.Standings.{IsDrawn, IsJudged, IsJudgedBy};
 
 use crate::choosing::choose;
 use crate::rows::Rows;
@@ -158,7 +162,10 @@ fn in_order(
     certified: &Ancestry,
     report: &Report,
     headers: &[NamedHeader],
-) -> Result<Vec<Judged>, AllocError> {
+) -> Result<Vec<Judged>, AllocError>
+    ensures { IfOk result (λ order.
+        All (λ j. IsJudgedBy certified.now report.now j.header j.standing) order.items) }
+{
     let mut order = Vec::new(alloc);
     for header in headers {
         order.push(Judged {
@@ -176,7 +183,11 @@ fn blocks_of(
     columns: &[Column],
     order: &[Judged],
     rows: &mut Rows,
-) -> Result<Vec<Block>, AllocError> {
+) -> Result<Vec<Block>, AllocError>
+    ensures { IfOk result (λ blocks. (known : KnownValue) → (r : ReportValue)
+        → All (λ j. IsJudgedBy known r j.header j.standing) order.now
+        → All (λ b. IsJudgedBy known r b.header b.standing) blocks.items) }
+{
     let mut placed = BTreeMap::new(alloc);
     let mut blocks = Vec::new(alloc);
     for Judged { header, standing } in order {
@@ -193,6 +204,22 @@ fn blocks_of(
     Ok(blocks)
 }
 
+// The blocks of these headers of the evidence, each with what is proved of it.
+fn judged_blocks(
+    alloc: Global,
+    evidence: &Evidence,
+    report: &Report,
+    columns: &[Column],
+    chosen: &[NamedHeader],
+    rows: &mut Rows,
+) -> Result<Vec<Block>, AllocError>
+    ensures { IfOk result (λ blocks. All (IsJudged evidence.now report.now) blocks.items) }
+{
+    let certified = certified_chains(alloc, evidence)?;
+    let order = in_order(alloc, &certified, report, chosen)?;
+    blocks_of(alloc, evidence, columns, &order, rows)
+}
+
 /// The picture of evidence, of which this is the report. AllocError comes where memory is refused.
 pub(crate) fn scene_of(
     alloc: Global,
@@ -201,17 +228,13 @@ pub(crate) fn scene_of(
 ) -> Result<Scene, AllocError>
     ensures findings { IfOk result (λ scene.
         findings_in scene ≡ findings_of evidence.now.committee report.now) }
-    ensures culprits { IfOk result (λ scene.
-        AllZip IsCulpritOf report.now.verdicts scene.culprits.items) }
-    ensures sources { IfOk result (λ scene. scene.sources.items ≡ evidence.now.sources) }
+    ensures drawn { IfOk result (λ scene. IsDrawn evidence.now report.now (drawn_in scene)) }
 {
-    let certified = certified_chains(alloc, evidence)?;
     let unplaced = culprits_of(alloc, &[], report.verdicts())?;
     let chosen = choose(alloc, evidence, report.conflict(), &unplaced)?;
     let columns = columns_of(alloc, &views_of(alloc, &chosen, &unplaced)?)?;
-    let order = in_order(alloc, &certified, report, &chosen)?;
     let mut rows = Rows::new(alloc);
-    let blocks = blocks_of(alloc, evidence, &columns, &order, &mut rows)?;
+    let blocks = judged_blocks(alloc, evidence, report, &columns, &chosen, &mut rows)?;
     let committee = evidence.committee();
     let culprits = culprits_of(alloc, &columns, report.verdicts())?;
     Ok(Scene {
