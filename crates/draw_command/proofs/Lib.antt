@@ -1,4 +1,5 @@
 pub mod Zips
+pub mod Copies
 pub mod SourceWords
 pub mod Sources
 pub mod Series

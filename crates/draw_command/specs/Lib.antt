@@ -8,6 +8,7 @@ pub mod DrawnBlocks
 pub mod Lanes
 pub mod Sources
 pub mod Pictures
+pub mod Choices
 pub mod Standings
 pub mod Outputs
 pub mod Faults

@@ -1,5 +1,5 @@
 -- What an audit proves of the blocks that are drawn.
-use Rattle.std.specs.Prelude.{◌≡◌, ◌≢◌, ◌⊎◌, ℕ, List, Option, None, Some, Any}
+use Rattle.std.specs.Prelude.{◌≡◌, ◌≢◌, ◌⊎◌, ℕ, List, Option, None, Some, Any, IsPermutation, map}
 use Rattle.std.specs.List.{All, AllZip, Contains}
 use Rattle.blocks.specs.Headers.{Header, header_id}
 use Rattle.ancestry.specs.Known.{Known}
@@ -8,6 +8,7 @@ use Rattle.commit_search.specs.Chosen.{AreCertifiedHeaders}
 use Rattle.culprit_search.specs.Reports.{Report}
 use Rattle.culprit_search.specs.declared.report.Commit.{Commit}
 use Rattle.culprit_search.specs.declared.report.Conflict.{Conflict}
+use Rattle.draw_command.specs.Choices.{AreChosen}
 use Rattle.draw_command.specs.Lanes.{IsCulpritOf}
 use Rattle.draw_command.specs.Pictures.{Drawn}
 use Rattle.draw_command.specs.declared.scene.Block.{Block}
@@ -50,8 +51,11 @@ pub record IsJudged (e : Evidence) (r : Report) (b : Block) : Type 0 where
   pub certified : AreCertifiedHeaders e known
   pub standing : IsJudgedBy known r b.header b.standing
 
--- of evidence and its audit: blocks, each with what is proved of it; the culprit of each verdict; and the report of each source
+-- of evidence and its audit: the blocks that are chosen, each once and with what is proved of it; the culprit of each verdict; and the report of each source
 pub record IsDrawn (e : Evidence) (r : Report) (drawn : Drawn) : Type 0 where
-  pub blocks : All (IsJudged e r) drawn.blocks
+  pub chosen : List Header
+  pub are_chosen : AreChosen e.headers chosen
+  pub each : IsPermutation chosen (map (λ b. b.header) drawn.blocks)
+  pub judged : All (IsJudged e r) drawn.blocks
   pub culprits : AllZip IsCulpritOf r.verdicts drawn.culprits
   pub reports : drawn.reports ≡ e.sources

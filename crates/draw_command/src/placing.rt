@@ -1,6 +1,6 @@
 //! Where everything stands: a column for each view, a row for each branch.
 
-ghost use Rattle.std.specs.Prelude.{◌≡◌, IfOk, length};
+ghost use Rattle.std.specs.Prelude.{◌≡◌, IfOk, IsPermutation, length, map};
 ghost use Rattle.std.specs.List.{All, AllZip};
 ghost use Rattle.ancestry.specs.Known.{Known as KnownValue};
 ghost use Rattle.culprit_search.specs.Reports.{Report as ReportValue};
@@ -163,8 +163,10 @@ fn in_order(
     report: &Report,
     headers: &[NamedHeader],
 ) -> Result<Vec<Judged>, AllocError>
-    ensures { IfOk result (λ order.
+    ensures judged { IfOk result (λ order.
         All (λ j. IsJudgedBy certified.now report.now j.header j.standing) order.items) }
+    ensures same { IfOk result (λ order.
+        IsPermutation headers.now (map (λ j. j.header) order.items)) }
 {
     let mut order = Vec::new(alloc);
     for header in headers {
@@ -184,9 +186,11 @@ fn blocks_of(
     order: &[Judged],
     rows: &mut Rows,
 ) -> Result<Vec<Block>, AllocError>
-    ensures { IfOk result (λ blocks. (known : KnownValue) → (r : ReportValue)
+    ensures judged { IfOk result (λ blocks. (known : KnownValue) → (r : ReportValue)
         → All (λ j. IsJudgedBy known r j.header j.standing) order.now
         → All (λ b. IsJudgedBy known r b.header b.standing) blocks.items) }
+    ensures same { IfOk result (λ blocks.
+        map (λ b. b.header) blocks.items ≡ map (λ j. j.header) order.now) }
 {
     let mut placed = BTreeMap::new(alloc);
     let mut blocks = Vec::new(alloc);
@@ -213,7 +217,9 @@ fn judged_blocks(
     chosen: &[NamedHeader],
     rows: &mut Rows,
 ) -> Result<Vec<Block>, AllocError>
-    ensures { IfOk result (λ blocks. All (IsJudged evidence.now report.now) blocks.items) }
+    ensures judged { IfOk result (λ blocks. All (IsJudged evidence.now report.now) blocks.items) }
+    ensures same { IfOk result (λ blocks.
+        IsPermutation chosen.now (map (λ b. b.header) blocks.items)) }
 {
     let certified = certified_chains(alloc, evidence)?;
     let order = in_order(alloc, &certified, report, chosen)?;
