@@ -1,5 +1,8 @@
 //! Which blocks of the evidence are drawn.
 
+ghost use Rattle.std.specs.Prelude.{◌<◌, IfOk, length};
+ghost use Rattle.draw_command.specs.Choices.{AreChosen};
+
 use crate::scene::Culprit;
 use blocks::{Id, NamedHeader};
 use culprit_search::Conflict;
@@ -56,6 +59,17 @@ fn rank(named: &Named, lowest: u64, header: &NamedHeader) -> Rank {
     }
 }
 
+// The first of these blocks, in this order.
+fn first_of(named: &Named, mut headers: Vec<NamedHeader>) -> Vec<NamedHeader>
+    requires { MOST_BLOCKS < length headers.items }
+    ensures { AreChosen headers.items result.items }
+{
+    let lowest = named.lowest_view(&headers);
+    headers.sort_unstable_by_key(|header| rank(named, lowest, header));
+    headers.truncate(MOST_BLOCKS);
+    headers
+}
+
 /// The blocks that are drawn: all of the evidence, or so many of them as may be. Genesis, the conflict and the blocks
 /// for which culprits voted go first, then the views from the lowest of these on, then the views below it, the
 /// nearest first. With no conflict and no culprit the latest views are drawn. In no order that means something.
@@ -64,18 +78,17 @@ pub(crate) fn choose(
     evidence: &Evidence,
     conflict: Option<Conflict>,
     culprits: &[Culprit],
-) -> Result<Vec<NamedHeader>, AllocError> {
-    let mut chosen = evidence.headers().to_vec(alloc)?;
-    if chosen.len() <= MOST_BLOCKS {
-        return Ok(chosen);
+) -> Result<Vec<NamedHeader>, AllocError>
+    ensures { IfOk result (λ chosen. AreChosen evidence.now.headers chosen.items) }
+{
+    let all = evidence.headers().to_vec(alloc)?;
+    if all.len() <= MOST_BLOCKS {
+        return Ok(all);
     }
     let named = Named {
         genesis: evidence.committee().chain(),
         conflict,
         culprits,
     };
-    let lowest = named.lowest_view(evidence.headers());
-    chosen.sort_unstable_by_key(|header| rank(&named, lowest, header));
-    chosen.truncate(MOST_BLOCKS);
-    Ok(chosen)
+    Ok(first_of(&named, all))
 }

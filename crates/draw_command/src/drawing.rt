@@ -1,10 +1,14 @@
 //! A picture as SVG. The text has digits, hex digits and the words of this program alone, so nothing in it has to be
 //! escaped.
 
+ghost use Rattle.std.specs.Prelude.{IfOk, string_bytes};
+ghost use Rattle.draw_command.specs.Findings.{findings_in};
+ghost use Rattle.draw_command.specs.Pictures.{IsPicture, drawn_in};
+
 use crate::blocks_drawn::{put_blocks, put_columns, put_links};
 use crate::lanes::put_lanes;
 use crate::layout::Layout;
-use crate::notes::{put_head, put_legend, put_sources};
+use crate::notes::{put_findings, put_left_out, put_legend, put_sources};
 use crate::scene::Scene;
 use std::alloc::{AllocError, Global};
 use std::fmt::Write;
@@ -34,13 +38,17 @@ rect.lane { fill: #f5f5f5; }
 </style>
 ";
 
-fn put_frame(text: &mut String, layout: &Layout) -> Result<(), AllocError> {
+/// With what a picture begins.
+const FRONT: &str = "<svg xmlns=\"http://www.w3.org/2000/svg\" ";
+
+// What stands above the findings.
+fn frame(alloc: Global, layout: &Layout) -> Result<String, AllocError> {
     let width = layout.width();
     let height = layout.height();
+    let mut text = String::new(alloc);
     writeln!(
         text,
-        "<svg xmlns=\"http://www.w3.org/2000/svg\" width=\"{width}\" height=\"{height}\" \
-        viewBox=\"0 0 {width} {height}\" role=\"img\">"
+        "width=\"{width}\" height=\"{height}\" viewBox=\"0 0 {width} {height}\" role=\"img\">"
     )?;
     writeln!(
         text,
@@ -50,20 +58,41 @@ fn put_frame(text: &mut String, layout: &Layout) -> Result<(), AllocError> {
     writeln!(
         text,
         "<rect width=\"{width}\" height=\"{height}\" fill=\"#ffffff\"/>"
-    )
+    )?;
+    Ok(text)
+}
+
+// The columns, and the links of the blocks.
+fn lines(alloc: Global, layout: &Layout, scene: &Scene) -> Result<String, AllocError> {
+    let mut text = String::new(alloc);
+    put_left_out(&mut text, scene)?;
+    put_columns(&mut text, layout, scene)?;
+    put_links(&mut text, layout, scene)?;
+    Ok(text)
+}
+
+fn legend(alloc: Global, layout: &Layout) -> Result<String, AllocError> {
+    let mut text = String::new(alloc);
+    put_legend(&mut text, layout)?;
+    Ok(text)
 }
 
 /// The text of the picture. AllocError comes where memory is refused.
-pub fn draw(alloc: Global, scene: &Scene) -> Result<String, AllocError> {
+pub fn draw(alloc: Global, scene: &Scene) -> Result<String, AllocError>
+    ensures { IfOk result (λ text.
+        IsPicture (findings_in scene.now) (drawn_in scene.now) (string_bytes text)) }
+{
     let layout = Layout::of(scene);
-    let mut text = String::new(alloc);
-    put_frame(&mut text, &layout)?;
-    put_head(&mut text, alloc, scene)?;
-    put_columns(&mut text, &layout, scene)?;
-    put_links(&mut text, &layout, scene)?;
+    let above = frame(alloc, &layout)?;
+    let lines = lines(alloc, &layout, scene)?;
+    let legend = legend(alloc, &layout)?;
+    let mut text = String::from_str(alloc, FRONT)?;
+    text.push_str(&above)?;
+    put_findings(&mut text, alloc, scene)?;
+    text.push_str(&lines)?;
     put_blocks(&mut text, alloc, &layout, scene)?;
     put_lanes(&mut text, alloc, &layout, scene)?;
-    put_legend(&mut text, &layout)?;
+    text.push_str(&legend)?;
     put_sources(&mut text, &layout, scene)?;
     text.push_str("</svg>\n")?;
     Ok(text)

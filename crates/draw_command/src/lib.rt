@@ -6,7 +6,6 @@ mod blocks_drawn;
 mod choosing;
 mod digits;
 mod drawing;
-mod fault;
 mod lanes;
 mod layout;
 mod notes;
@@ -20,7 +19,5 @@ mod words;
 
 pub use choosing::MOST_BLOCKS;
 pub use drawing::draw;
-pub use fault::Fault;
 pub use program::{DRAWN, run_draw};
-pub use program_parts::FAULT;
 pub use scene::{Block, Column, Culprit, Link, Mark, Place, Scene, Standing, Support};

@@ -1,22 +1,34 @@
 //! What stands above and below the blocks: what was found, the legend, and the sources.
 
+ghost use Rattle.std.specs.Prelude.{◌≡◌, ◌++◌, OnOk, string_bytes};
+ghost use Rattle.log_format.specs.Readings.{status_name};
+ghost use Rattle.draw_command.specs.Findings.{conflict_line, counts_line, counts_text, finding_line, findings_in, findings_text, no_conflict_line, weight_text};
+ghost use Rattle.draw_command.specs.Series.{Adds};
+ghost use Rattle.draw_command.specs.Sources.{AreSourceLines, source_line};
+
 use crate::digits::short;
 use crate::layout::{Layout, MARGIN, SMALL_LINE};
 use crate::scene::Scene;
+use culprit_search::Conflict;
 use evidence::SourceReport;
 use std::alloc::{AllocError, Global};
 use std::fmt::Write;
 
-// The first line: whether there is a conflict.
-fn put_finding(text: &mut String, alloc: Global, scene: &Scene) -> Result<(), AllocError> {
-    let Some(conflict) = scene.conflict else {
-        return writeln!(
-            text,
-            "<text class=\"finding\" x=\"{MARGIN}\" y=\"26\">No conflict</text>"
-        );
-    };
-    let first = short(alloc, &conflict.first)?;
-    let second = short(alloc, &conflict.second)?;
+#[tactic(auto, unfolding(crate::specs::Findings::no_conflict_line))]
+fn put_no_conflict(text: &mut String) -> Result<(), AllocError>
+    ensures { OnOk result (string_bytes text.new ≡ string_bytes text.old ++ no_conflict_line) }
+{
+    writeln!(
+        text,
+        "<text class=\"finding\" x=\"{MARGIN}\" y=\"26\">No conflict</text>"
+    )
+}
+
+#[tactic(auto, unfolding(crate::specs::Findings::conflict_line))]
+fn put_conflict(text: &mut String, first: &str, second: &str) -> Result<(), AllocError>
+    ensures { OnOk result (string_bytes text.new
+        ≡ string_bytes text.old ++ conflict_line first.now second.now) }
+{
     writeln!(
         text,
         "<text class=\"finding alarm\" x=\"{MARGIN}\" y=\"26\">\
@@ -24,28 +36,78 @@ fn put_finding(text: &mut String, alloc: Global, scene: &Scene) -> Result<(), Al
     )
 }
 
-// The second line: the committee and the counts.
-fn put_counts(text: &mut String, alloc: Global, scene: &Scene) -> Result<(), AllocError> {
-    let replicas = scene.replicas;
-    let chain = short(alloc, &scene.chain)?;
-    let commits = scene.commits.len();
-    let culprits = scene.culprits.len();
+// The first line: whether there is a conflict.
+fn put_finding(
+    text: &mut String,
+    alloc: Global,
+    conflict: Option<Conflict>,
+) -> Result<(), AllocError>
+    ensures { OnOk result (string_bytes text.new ≡ string_bytes text.old ++ finding_line conflict) }
+{
+    let Some(conflict) = conflict else {
+        return put_no_conflict(text);
+    };
+    let first = short(alloc, &conflict.first)?;
+    let second = short(alloc, &conflict.second)?;
+    put_conflict(text, first.as_str(), second.as_str())
+}
+
+#[tactic(auto, unfolding(crate::specs::Findings::counts_text))]
+fn put_numbers(
+    text: &mut String,
+    replicas: u16,
+    chain: &str,
+    commits: usize,
+    culprits: usize,
+) -> Result<(), AllocError>
+    ensures { OnOk result (string_bytes text.new
+        ≡ string_bytes text.old ++ counts_text replicas chain.now commits culprits) }
+{
     write!(
         text,
         "<text class=\"small\" x=\"{MARGIN}\" y=\"46\">\
         replicas {replicas}, chain {chain}, commits {commits}, culprits {culprits}"
-    )?;
-    if let Some(total) = scene.total {
-        let weight = scene.weight;
-        write!(text, " of weight {weight} of {total}")?;
-    }
-    writeln!(text, "</text>")
+    )
 }
 
-/// The lines above the columns.
-pub(crate) fn put_head(text: &mut String, alloc: Global, scene: &Scene) -> Result<(), AllocError> {
-    put_finding(text, alloc, scene)?;
-    put_counts(text, alloc, scene)?;
+// The second line: the committee and the counts.
+fn put_counts(text: &mut String, alloc: Global, scene: &Scene) -> Result<(), AllocError>
+    ensures { OnOk result (string_bytes text.new
+        ≡ string_bytes text.old ++ counts_line (findings_in scene.now)) }
+{
+    let chain = short(alloc, &scene.chain)?;
+    let commits = scene.commits.len();
+    let culprits = scene.culprits.len();
+    put_numbers(text, scene.replicas, chain.as_str(), commits, culprits)?;
+    put_weight(text, scene.weight, scene.total)?;
+    text.push_str("</text>\n")
+}
+
+fn put_weight(text: &mut String, weight: u64, total: Option<u64>) -> Result<(), AllocError>
+    ensures { OnOk result (string_bytes text.new
+        ≡ string_bytes text.old ++ weight_text weight total) }
+{
+    let Some(total) = total else {
+        return Ok(());
+    };
+    write!(text, " of weight {weight} of {total}")
+}
+
+/// What was found, in two lines.
+pub(crate) fn put_findings(
+    text: &mut String,
+    alloc: Global,
+    scene: &Scene,
+) -> Result<(), AllocError>
+    ensures { OnOk result (string_bytes text.new
+        ≡ string_bytes text.old ++ findings_text (findings_in scene.now)) }
+{
+    put_finding(text, alloc, scene.conflict)?;
+    put_counts(text, alloc, scene)
+}
+
+/// The line that says how many blocks are not drawn, if any.
+pub(crate) fn put_left_out(text: &mut String, scene: &Scene) -> Result<(), AllocError> {
     if 0 < scene.left_out {
         let drawn = scene.blocks.len();
         let left_out = scene.left_out;
@@ -117,16 +179,46 @@ fn put_source(
     index: usize,
     source: &SourceReport,
     y: u64,
-) -> Result<(), AllocError> {
+) -> Result<(), AllocError>
+    ensures { OnOk result (string_bytes text.new
+        ≡ string_bytes text.old ++ source_line y index source.now) }
+{
+    let name = source.status.name();
+    put_source_line(text, y, index, name, source)
+}
+
+#[tactic(auto, unfolding(crate::specs::Sources::source_line))]
+fn put_source_line(
+    text: &mut String,
+    y: u64,
+    index: usize,
+    name: &str,
+    source: &SourceReport,
+) -> Result<(), AllocError>
+    requires { name.now ≡ status_name source.now.status }
+    ensures { OnOk result (string_bytes text.new
+        ≡ string_bytes text.old ++ source_line y index source.now) }
+{
     let replica = source.replica;
-    let status = source.status.name();
     let frames = source.frames;
     let entries = source.entries;
     writeln!(
         text,
         "<text class=\"small\" x=\"{MARGIN}\" y=\"{y}\">\
-        source {index} replica {replica} {status} frames {frames} entries {entries}</text>"
+        source {index} replica {replica} {name} frames {frames} entries {entries}</text>"
     )
+}
+
+fn put_reports(text: &mut String, top: u64, reports: &[SourceReport]) -> Result<(), AllocError>
+    ensures { OnOk result (Adds (string_bytes text.old) (string_bytes text.new)
+        (AreSourceLines reports.now)) }
+{
+    let mut y = top;
+    for (index, report) in reports.iter().enumerate() {
+        put_source(text, index, report, y)?;
+        y = y.saturating_add(SMALL_LINE);
+    }
+    Ok(())
 }
 
 /// The lines of the sources.
@@ -134,11 +226,9 @@ pub(crate) fn put_sources(
     text: &mut String,
     layout: &Layout,
     scene: &Scene,
-) -> Result<(), AllocError> {
-    let mut y = layout.sources_top();
-    for (index, source) in scene.sources.iter().enumerate() {
-        put_source(text, index, source, y)?;
-        y = y.saturating_add(SMALL_LINE);
-    }
-    Ok(())
+) -> Result<(), AllocError>
+    ensures { OnOk result (Adds (string_bytes text.old) (string_bytes text.new)
+        (AreSourceLines scene.now.sources.items)) }
+{
+    put_reports(text, layout.sources_top(), &scene.sources)
 }

@@ -1,5 +1,14 @@
 //! Where everything stands: a column for each view, a row for each branch.
 
+ghost use Rattle.std.specs.Prelude.{◌≡◌, IfOk, IsPermutation, length, map};
+ghost use Rattle.std.specs.List.{All, AllZip};
+ghost use Rattle.ancestry.specs.Known.{Known as KnownValue};
+ghost use Rattle.culprit_search.specs.Reports.{Report as ReportValue};
+ghost use Rattle.draw_command.specs.Findings.{findings_in, findings_of};
+ghost use Rattle.draw_command.specs.Lanes.{IsCulpritOf, IsMarkOf};
+ghost use Rattle.draw_command.specs.Pictures.{drawn_in};
+ghost use Rattle.draw_command.specs.Standings.{IsDrawn, IsJudged, IsJudgedBy};
+
 use crate::choosing::choose;
 use crate::rows::Rows;
 use crate::scene::{Block, Column, Culprit, Link, Mark, Place, Scene, Standing};
@@ -20,29 +29,40 @@ struct Placed {
     place: Place,
 }
 
-// The culprit of a verdict. Its columns are set once there are any.
-fn culprit_of(verdict: &Verdict) -> Culprit {
+fn mark_of(columns: &[Column], vote: &BoundVote) -> Mark
+    ensures { IsMarkOf vote.now result }
+{
+    Mark {
+        view: vote.view,
+        id: vote.id,
+        column: column_of(columns, vote.view),
+    }
+}
+
+// The culprit of a verdict.
+fn culprit_of(columns: &[Column], verdict: &Verdict) -> Culprit
+    ensures { IsCulpritOf verdict.now result }
+{
     let parts = verdict.parts();
     Culprit {
         replica: parts.replica,
         rule: parts.shown.rule(),
-        earlier: mark_of(&parts.earlier),
-        later: mark_of(&parts.later),
+        earlier: mark_of(columns, &parts.earlier),
+        later: mark_of(columns, &parts.later),
     }
 }
 
-fn mark_of(vote: &BoundVote) -> Mark {
-    Mark {
-        view: vote.view,
-        id: vote.id,
-        column: 0,
-    }
-}
-
-fn culprits_of(alloc: Global, verdicts: &[Verdict]) -> Result<Vec<Culprit>, AllocError> {
+fn culprits_of(
+    alloc: Global,
+    columns: &[Column],
+    verdicts: &[Verdict],
+) -> Result<Vec<Culprit>, AllocError>
+    ensures each { IfOk result (λ culprits. AllZip IsCulpritOf verdicts.now culprits.items) }
+    ensures count { IfOk result (λ culprits. length culprits.items ≡ length verdicts.now) }
+{
     let mut culprits = Vec::new(alloc);
     for verdict in verdicts {
-        culprits.push(culprit_of(verdict))?;
+        culprits.push(culprit_of(columns, verdict))?;
     }
     Ok(culprits)
 }
@@ -87,13 +107,6 @@ fn columns_of(alloc: Global, views: &[u64]) -> Result<Vec<Column>, AllocError> {
 
 fn column_of(columns: &[Column], view: u64) -> usize {
     columns.partition_point(|column| column.view < view)
-}
-
-fn set_columns(columns: &[Column], culprits: &mut [Culprit]) {
-    for culprit in culprits {
-        culprit.earlier.column = column_of(columns, culprit.earlier.view);
-        culprit.later.column = column_of(columns, culprit.later.view);
-    }
 }
 
 // The place of a block's parent, if that is drawn, in the view that the block says.
@@ -149,7 +162,12 @@ fn in_order(
     certified: &Ancestry,
     report: &Report,
     headers: &[NamedHeader],
-) -> Result<Vec<Judged>, AllocError> {
+) -> Result<Vec<Judged>, AllocError>
+    ensures judged { IfOk result (λ order.
+        All (λ j. IsJudgedBy certified.now report.now j.header j.standing) order.items) }
+    ensures same { IfOk result (λ order.
+        IsPermutation headers.now (map (λ j. j.header) order.items)) }
+{
     let mut order = Vec::new(alloc);
     for header in headers {
         order.push(Judged {
@@ -167,7 +185,13 @@ fn blocks_of(
     columns: &[Column],
     order: &[Judged],
     rows: &mut Rows,
-) -> Result<Vec<Block>, AllocError> {
+) -> Result<Vec<Block>, AllocError>
+    ensures judged { IfOk result (λ blocks. (known : KnownValue) → (r : ReportValue)
+        → All (λ j. IsJudgedBy known r j.header j.standing) order.now
+        → All (λ b. IsJudgedBy known r b.header b.standing) blocks.items) }
+    ensures same { IfOk result (λ blocks.
+        map (λ b. b.header) blocks.items ≡ map (λ j. j.header) order.now) }
+{
     let mut placed = BTreeMap::new(alloc);
     let mut blocks = Vec::new(alloc);
     for Judged { header, standing } in order {
@@ -184,21 +208,41 @@ fn blocks_of(
     Ok(blocks)
 }
 
+// The blocks of these headers of the evidence, each with what is proved of it.
+fn judged_blocks(
+    alloc: Global,
+    evidence: &Evidence,
+    report: &Report,
+    columns: &[Column],
+    chosen: &[NamedHeader],
+    rows: &mut Rows,
+) -> Result<Vec<Block>, AllocError>
+    ensures judged { IfOk result (λ blocks. All (IsJudged evidence.now report.now) blocks.items) }
+    ensures same { IfOk result (λ blocks.
+        IsPermutation chosen.now (map (λ b. b.header) blocks.items)) }
+{
+    let certified = certified_chains(alloc, evidence)?;
+    let order = in_order(alloc, &certified, report, chosen)?;
+    blocks_of(alloc, evidence, columns, &order, rows)
+}
+
 /// The picture of evidence, of which this is the report. AllocError comes where memory is refused.
 pub(crate) fn scene_of(
     alloc: Global,
     evidence: &Evidence,
     report: &Report,
-) -> Result<Scene, AllocError> {
-    let certified = certified_chains(alloc, evidence)?;
-    let mut culprits = culprits_of(alloc, report.verdicts())?;
-    let chosen = choose(alloc, evidence, report.conflict(), &culprits)?;
-    let columns = columns_of(alloc, &views_of(alloc, &chosen, &culprits)?)?;
-    set_columns(&columns, &mut culprits);
-    let order = in_order(alloc, &certified, report, &chosen)?;
+) -> Result<Scene, AllocError>
+    ensures findings { IfOk result (λ scene.
+        findings_in scene ≡ findings_of evidence.now.committee report.now) }
+    ensures drawn { IfOk result (λ scene. IsDrawn evidence.now report.now (drawn_in scene)) }
+{
+    let unplaced = culprits_of(alloc, &[], report.verdicts())?;
+    let chosen = choose(alloc, evidence, report.conflict(), &unplaced)?;
+    let columns = columns_of(alloc, &views_of(alloc, &chosen, &unplaced)?)?;
     let mut rows = Rows::new(alloc);
-    let blocks = blocks_of(alloc, evidence, &columns, &order, &mut rows)?;
+    let blocks = judged_blocks(alloc, evidence, report, &columns, &chosen, &mut rows)?;
     let committee = evidence.committee();
+    let culprits = culprits_of(alloc, &columns, report.verdicts())?;
     Ok(Scene {
         chain: committee.chain(),
         replicas: committee.n(),

@@ -1,24 +1,28 @@
 //! The program over handed-in words and streams, so that tests run it whole.
 
-ghost use Rattle.std.specs.Prelude.{◌≡◌, ◌≢◌};
+ghost use Rattle.std.specs.Prelude.{◌≡◌, ◌≢◌, ◌⊎◌, ℕ, List, IfErr, IfOk, codes, string_bytes};
+ghost use Rattle.streams.specs.Streams.{Wrote};
 ghost use Rattle.printed_lines.specs.Printed.{Told};
 ghost use Rattle.program_parts.specs.declared.program_fault.ProgramFault.{ProgramFault as FaultValue};
 ghost use Rattle.program_parts.specs.declared.source_fault.SourceFault.{SourceFault as OwnFaultValue};
 ghost use Rattle.draw_command.specs.FaultLines.{draw_fault_line};
+ghost use Rattle.draw_command.specs.Faults.{GivesUp, IsPictureFault};
+ghost use Rattle.draw_command.specs.Outputs.{IsOutput, IsPictureOf};
+ghost use Rattle.draw_command.specs.Words.{IsUsage};
 
 use crate::drawing::draw;
-use crate::fault::Fault;
 use crate::placing::scene_of;
 use crate::reading::read_evidence;
 use crate::words::{SourceFile, Words, read_words};
-use blocks::CommitteeView;
 use culprit_search::audit;
-use program_parts::{FAULT, parse_committee, read_committee};
+use program_parts::{
+    ProgramFault, SourceFault, exit_status, parse_committee, read_committee, write_out,
+};
 use std::alloc::Global;
 use std::fs::{File, Files};
 use std::sync::Wait;
 use std::thread::Threads;
-use streams::{Sink, write_all};
+use streams::Sink;
 
 /// The picture was written, or how the program is called.
 pub const DRAWN: u8 = 0;
@@ -26,8 +30,9 @@ pub const DRAWN: u8 = 0;
 /// How the program is called.
 const USAGE: &[u8] = b"hs_draw COMMITTEE R=file:PATH..\n";
 
-/// Draws what the sources show that the words name, and answers the exit status. The picture goes to `out`, and with
-/// status 2 a fault's line to `faults`, which is else left alone. The picture is made whole before the first write.
+/// Draws what the sources show that the words name, or with no words prints how the program is called, and answers the exit
+/// status: `DRAWN`, else 2. The picture goes to `out`, and with status 2 a fault's line to `faults`, which is else left alone.
+/// The picture is made whole before the first write.
 pub fn run_draw<F: Files<File = File> + Sync, T: Threads + Wait + Sync, W: Sink, E: Sink>(
     files: &F,
     rt: &T,
@@ -38,18 +43,20 @@ pub fn run_draw<F: Files<File = File> + Sync, T: Threads + Wait + Sync, W: Sink,
 ) -> u8
 where
     F::Dir: Send,
+    ensures status { (result ≡ 0) ⊎ (result ≡ 2) }
+    ensures drawn { result ≢ 2 → (text : List ℕ)
+        × IsOutput words.now text × Wrote (W.text out.old) (W.text out.new) text }
     ensures silent { result ≢ 2 → faults.new ≡ faults.old }
+    ensures no_failure { result ≢ 2 → W.failed out.new ≡ W.failed out.old }
+    ensures usage { IsUsage words.now → (result ≡ 2)
+        × Told (E.text faults.old) (E.text faults.new) (E.failed faults.old) (E.failed faults.new)
+        (codes "fault usage\n") }
     ensures told { result ≡ 2 → (fault : FaultValue OwnFaultValue)
+        × GivesUp words.now fault W.text W.failed out.old out.new
         × Told (E.text faults.old) (E.text faults.new) (E.failed faults.old) (E.failed faults.new)
         (draw_fault_line fault) }
 {
-    match run(files, rt, alloc, words, out) {
-        Ok(()) => DRAWN,
-        Err(fault) => {
-            fault.tell(faults);
-            FAULT
-        }
-    }
+    exit_status(run(files, rt, alloc, words, out), faults)
 }
 
 fn run<'a, F: Files<File = File> + Sync, T: Threads + Wait + Sync, W: Sink>(
@@ -58,41 +65,45 @@ fn run<'a, F: Files<File = File> + Sync, T: Threads + Wait + Sync, W: Sink>(
     alloc: Global,
     words: &'a [String],
     out: &mut W,
-) -> Result<(), Fault<'a>>
+) -> Result<u8, ProgramFault<'a, SourceFault>>
 where
     F::Dir: Send,
+    ensures drawn { IfOk result (λ status. (status ≡ 0) × ((text : List ℕ)
+        × IsOutput words.now text × Wrote (W.text out.old) (W.text out.new) text)) }
+    ensures no_failure { IfOk result (λ status. W.failed out.new ≡ W.failed out.old) }
+    ensures given_up { IfErr result (λ fault.
+        GivesUp words.now fault W.text W.failed out.old out.new) }
 {
     match read_words(alloc, words)? {
-        Words::Usage => write_out(out, USAGE),
+        Words::Usage => {
+            write_out(out, USAGE)?;
+            Ok(DRAWN)
+        }
         Words::Picture { committee, sources } => {
-            let bytes = read_committee(files, alloc, committee)?;
-            let committee = parse_committee(&bytes)?;
-            let picture = picture_of(files, rt, alloc, &committee, &sources)?;
-            write_out(out, picture.as_bytes())
+            let picture = picture_of(files, rt, alloc, committee, &sources)?;
+            write_out(out, picture.as_bytes())?;
+            Ok(DRAWN)
         }
     }
 }
 
-// The text of the picture.
+// The text of the picture of these sources under the committee of this file.
 fn picture_of<'a, F: Files<File = File> + Sync, T: Threads + Wait + Sync>(
     files: &'a F,
     rt: &T,
     alloc: Global,
-    committee: &CommitteeView,
+    committee: &'a str,
     sources: &[SourceFile<'a>],
-) -> Result<String, Fault<'a>>
+) -> Result<String, ProgramFault<'a, SourceFault>>
 where
     F::Dir: Send,
+    ensures drawn { IfOk result (λ text. IsPictureOf sources.now (string_bytes text)) }
+    ensures refused { IfErr result (IsPictureFault committee.entry.now sources.now) }
 {
-    let evidence = read_evidence(files, rt, alloc, committee, sources)?;
+    let bytes = read_committee(files, alloc, committee)?;
+    let committee = parse_committee(&bytes)?;
+    let evidence = read_evidence(files, rt, alloc, &committee, sources)?;
     let report = audit(alloc, &evidence)?;
     let scene = scene_of(alloc, &evidence, &report)?;
     Ok(draw(alloc, &scene)?)
-}
-
-fn write_out<'a, W: Sink>(out: &mut W, bytes: &[u8]) -> Result<(), Fault<'a>> {
-    match write_all(out, bytes) {
-        Ok(()) => Ok(()),
-        Err(_) => Err(Fault::Output),
-    }
 }

@@ -1,37 +1,37 @@
 //! What the files of a picture show.
 
-ghost use Rattle.std.specs.Prelude.{IfOk, OnOk};
-ghost use Rattle.std.specs.List.{All};
+ghost use Rattle.std.specs.Prelude.{◌≡◌, ◌≢◌, IfErr, IfOk, IfSome, IsNone, length};
+ghost use Rattle.std.specs.List.{All, AllZip};
+ghost use Rattle.blocks.specs.Committees.{IsCommittee};
 ghost use Rattle.parallel_verify.specs.Collections.{MayBeTried};
+ghost use Rattle.draw_command.specs.Faults.{IsFirstUnread, IsSourcesFault};
+ghost use Rattle.draw_command.specs.Outputs.{IsShown};
 
-use crate::fault::Fault;
 use crate::words::SourceFile;
 use blocks::CommitteeView;
 use evidence::{Evidence, EvidenceRefusal, SourceReport};
 use log_format::Status;
 use log_transfer::FileConnector;
 use parallel_verify::{Source, collect};
-use program_parts::SourceFault;
+use program_parts::{ProgramFault, SourceFault};
 use std::alloc::{AllocError, Global};
 use std::fs::{File, Files};
 use std::sync::Wait;
 use std::thread::Threads;
 
-// Adds a source, which has one try: a file can't go on in its middle.
-fn add_source<'a, F: Files<File = File>>(
+// The source of a file, which has one try: a file can't go on in its middle.
+fn source_of<'a, F: Files<File = File>>(
     files: &'a F,
-    sources: &mut Vec<Source<FileConnector<'a, F>>>,
     word: &SourceFile<'a>,
-) -> Result<(), AllocError>
-    requires { All (MayBeTried (λ c. 1)) sources.old.items }
-    ensures { OnOk result (All (MayBeTried (λ c. 1)) sources.new.items) }
+) -> Source<FileConnector<'a, F>>
+    ensures tried { MayBeTried (λ c. 1) result }
+    ensures replica { result.replica ≡ word.now.replica }
 {
-    sources.push(Source {
+    Source {
         replica: word.replica,
         connector: FileConnector::new(files, word.path),
         tries: 1,
-    })?;
-    Ok(())
+    }
 }
 
 // The sources, none of them opened yet.
@@ -40,20 +40,26 @@ fn sources_of<'a, F: Files<File = File>>(
     alloc: Global,
     words: &[SourceFile<'a>],
 ) -> Result<Vec<Source<FileConnector<'a, F>>>, AllocError>
-    ensures { IfOk result (λ sources. All (MayBeTried (λ c. 1)) sources.items) }
+    ensures tried { IfOk result (λ sources. All (MayBeTried (λ c. 1)) sources.items) }
+    ensures replicas { IfOk result (λ sources.
+        AllZip (λ w s. s.replica ≡ w.replica) words.now sources.items) }
 {
     let mut sources = Vec::new(alloc);
     for word in words {
-        add_source(files, &mut sources, word)?;
+        sources.push(source_of(files, word))?;
     }
     Ok(sources)
 }
 
-// The path of the first source that could not be read to its end.
-fn first_failed<'a>(words: &[SourceFile<'a>], reports: &[SourceReport]) -> Option<&'a str> {
-    for (word, report) in words.iter().zip(reports) {
+// The path of the first source that could not be read to its end. There is a report of each.
+fn first_failed<'a>(words: &[SourceFile<'a>], reports: &[SourceReport]) -> Option<&'a str>
+    requires { length reports.now ≡ length words.now }
+    ensures found { IfSome result (λ path. IsFirstUnread words.now reports.now path.now) }
+    ensures none { IsNone result → All (λ r. r.status ≢ Status.Failed) reports.now }
+{
+    for (i, report) in reports.iter().enumerate() {
         if report.status == Status::Failed {
-            return Some(word.path);
+            return Some(words[i].path);
         }
     }
     None
@@ -67,17 +73,20 @@ pub(crate) fn read_evidence<'a, 'c, F: Files<File = File> + Sync, T: Threads + W
     alloc: Global,
     committee: &CommitteeView<'c>,
     words: &[SourceFile<'a>],
-) -> Result<Evidence<'c>, Fault<'a>>
+) -> Result<Evidence<'c>, ProgramFault<'a, SourceFault>>
 where
     F::Dir: Send,
+    requires { IsCommittee committee.now }
+    ensures shown { IfOk result (IsShown committee.now words.now) }
+    ensures refused { IfErr result (IsSourcesFault committee.now words.now) }
 {
     let sources = sources_of(files, alloc, words)?;
     match collect(rt, alloc, committee, sources) {
         Ok(evidence) => match first_failed(words, evidence.sources()) {
-            Some(path) => Err(Fault::File(path)),
+            Some(path) => Err(ProgramFault::File(path)),
             None => Ok(evidence),
         },
-        Err(EvidenceRefusal::Memory) => Err(Fault::Memory),
-        Err(EvidenceRefusal::Collision(_, _)) => Err(Fault::Own(SourceFault::Collision)),
+        Err(EvidenceRefusal::Memory) => Err(ProgramFault::Memory),
+        Err(EvidenceRefusal::Collision(_, _)) => Err(ProgramFault::Own(SourceFault::Collision)),
     }
 }

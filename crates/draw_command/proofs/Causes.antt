@@ -1,0 +1,56 @@
+-- Why the program gives up.
+use Rattle.std.proofs.Common.{◌≡◌, ◌≢◌, ◌⊎◌, ◌<◌, ℕ, List, [], ◌∷◌, Option, Result, Ok, Err, IfErr, IfOk, Any, length, get_or, drop, String, string_bytes, inl, inr, refl, sym, ap, ◌∙◌, subst, arith}
+use Rattle.std.specs.Borrow.{Bor}
+use Rattle.std.specs.declared.alloc.Global.{Global}
+use Rattle.streams.specs.Counting.{one_more}
+use Rattle.streams.specs.Streams.{WrotePart}
+use Rattle.blocks.specs.CommitteeReading.{committee_in}
+use Rattle.blocks.specs.declared.committee.CommitteeRefusal.{CommitteeRefusal}
+use Rattle.program_parts.specs.declared.program_fault.ProgramFault.{ProgramFault}
+use Rattle.program_parts.specs.declared.program_fault.ProgramFault.TheVariants.{Usage, Memory, File, Committee, Output, Own}
+use Rattle.program_parts.specs.declared.source_fault.SourceFault.{SourceFault}
+use Rattle.program_parts.specs.declared.source_fault.SourceFault.TheVariants.{Word, Collision}
+use Rattle.draw_command.specs.Faults.{GivesUp, IsCause, IsFaultOfPicture, IsPictureFault, IsSourcesFault, IsWordsFault}
+use Rattle.draw_command.specs.Outputs.{IsOutput, IsPictureOf}
+use Rattle.draw_command.specs.Words.{AskFor, AskForPicture, AreSources, HaveBadSource, IsFirstBad, IsPath, IsUsage}
+use Rattle.draw_command.specs.declared.words.SourceFile.{SourceFile}
+
+no_usage : (words : List (String Global)) (committee : List ℕ) (sources : List SourceFile) → IsUsage words → AskForPicture words committee sources → ⊥
+no_usage [] committee sources usage ask = ask
+no_usage (word ∷ words) committee sources usage ask = usage.not_sources ask.0
+
+bad_is_no_usage : (words : List (String Global)) (i : ℕ) → IsUsage words → HaveBadSource words i → ⊥
+bad_is_no_usage [] i usage bad = bad
+bad_is_no_usage (word ∷ words) i usage bad = usage.not_sources bad.0
+
+usage_of_words : (words : List (String Global)) (fault : ProgramFault SourceFault) → IsUsage words → IsWordsFault words fault → fault ≡ Usage
+usage_of_words words Usage usage is = refl
+usage_of_words words Memory usage is = absurd (usage.not_sources is)
+usage_of_words words (File path) usage is = absurd is
+usage_of_words words (Committee r) usage is = absurd is
+usage_of_words words Output usage is = absurd is
+usage_of_words words (Own (Word i)) usage is = absurd (bad_is_no_usage words i usage is)
+usage_of_words words (Own Collision) usage is = absurd is
+
+pub output_is_no_usage : (words : List (String Global)) (text : List ℕ) → IsUsage words → IsOutput words text → ⊥
+output_is_no_usage [] text usage is = usage.some refl
+output_is_no_usage (word ∷ words) text usage (committee, sources, ask, is) = no_usage (word ∷ words) committee sources usage ask
+
+fault_cases : (fault : ProgramFault SourceFault) → (fault ≡ Output) ⊎ (fault ≢ Output)
+fault_cases Usage = inr (λ e. let no : ⊥ = cc in no)
+fault_cases Memory = inr (λ e. let no : ⊥ = cc in no)
+fault_cases (File path) = inr (λ e. let no : ⊥ = cc in no)
+fault_cases (Committee r) = inr (λ e. let no : ⊥ = cc in no)
+fault_cases Output = inl refl
+fault_cases (Own own) = inr (λ e. let no : ⊥ = cc in no)
+
+-- words that are no usage of the program give this fault
+pub is_usage : {W : Type 0} (words : List (String Global)) (fault : ProgramFault SourceFault) (text : W → Option (List ℕ)) (failed : W → ℕ) (out out' : W) → IsUsage words
+    → GivesUp words fault text failed out out' → fault ≡ Usage
+is_usage words fault text failed out out' usage gives = elim (fault_cases fault) [
+  | inl e ↦ let cut = gives.cut_short e in absurd (output_is_no_usage words cut.0 usage cut.1)
+  | inr other ↦ elim (gives.cause other).0 [
+    | inl is ↦ usage_of_words words fault usage is
+    | inr is ↦ absurd (no_usage words is.0 is.1 usage is.2)
+  ]
+]
