@@ -1,0 +1,5 @@
+pub mod Ids
+pub mod Parameters
+pub mod Desks
+pub mod Exports
+pub mod Backing

@@ -1,0 +1,250 @@
+//! One caller's side of a desk, as a service.
+
+ghost use Rattle.std.specs.Prelude.{◌≡◌, ◌<◌, ◌≤◌, ◌+◌, IsFalse, IsTrue, OnErr, OnOk, Option, codes};
+ghost use Rattle.http_server.specs.Response.{IsBlank};
+ghost use Rattle.replica_lines.specs.declared.outcome.Outcome.{Outcome as OutcomeValue};
+ghost use Rattle.signing_service.specs.CallAnswers.{IsCallTold, IsDeskHealthTold, IsFar, IsHeaderTold, IsNear, IsOutcomeOf, IsPartTold, IsServed, IsVoteTold, SomeOne, from_export, receipts_told};
+ghost use Rattle.signing_service.specs.Responses.{IsLine};
+
+use crate::asking::call_of;
+use crate::call::{Call, CallRefusal};
+use crate::health::tell_health;
+use crate::log_part::LogPart;
+use crate::refusing::{refuse, tell_refused};
+use crate::rules::Rules;
+use crate::telling::{tell_desk, tell_outcome, tell_receipt, tell_text};
+use crate::writing::{Kind, fill, make_ready};
+use blocks::{CommitteeView, Id};
+use bytes::Bytes;
+use certificates::Verifier;
+use http::Request;
+use http_server::{Response, Service};
+use replica_answers::answer;
+use replica_lines::{Outcome, Request as Asked};
+use stable_log::Disk;
+use std::alloc::{AllocError, Global};
+use std::sync::Wait;
+use streams::MemorySink;
+use vote_desk::{Desk, DeskError, DeskNaming, Session};
+use vote_log::ExportError;
+
+/// A replica's desk as one caller sees it: each call is answered at once, by what the desk answers.
+#[derive(Drop)]
+pub struct Signer<'a, N: DeskNaming, R: Wait, D: Disk, V: Verifier> {
+    rt: &'a R,
+    alloc: Global,
+    desk: &'a Desk<N, D>,
+    committee: &'a CommitteeView<'a>,
+    verifier: &'a V,
+    rules: &'a Rules,
+    session: Session<N>,
+    ghost committee_is: { committee.now ≡ N.committee },
+}
+
+impl<'a, N: DeskNaming, R: Wait, D: Disk, V: Verifier> Signer<'a, N, R, D, V> {
+    /// The side of the caller of this session.
+    pub fn new(
+        rt: &'a R,
+        alloc: Global,
+        desk: &'a Desk<N, D>,
+        committee: &'a CommitteeView<'a>,
+        verifier: &'a V,
+        rules: &'a Rules,
+        session: Session<N>,
+    ) -> Signer<'a, N, R, D, V>
+        requires { committee.now ≡ N.committee }
+        ensures session { result.session ≡ session }
+        ensures rules { result.rules.now ≡ rules.now }
+    {
+        Signer {
+            rt,
+            alloc,
+            desk,
+            committee,
+            verifier,
+            rules,
+            session,
+        }
+    }
+
+    /// The session, which the desk wants back when it is closed.
+    pub fn into_session(self) -> Session<N>
+        ensures { result ≡ self.entry.session }
+    {
+        let Signer { session, .. } = self;
+        session
+    }
+
+    // Whether a view lies too far above the desk's vote view.
+    fn is_far(&self, view: u64) -> bool
+        ensures far { IsTrue result → SomeOne D.Disk N.committee N.replica N.opening
+            (λ d. d.core.state.vote_view + self.now.rules.now.furthest < view) }
+        ensures near { IsFalse result → SomeOne D.Disk N.committee N.replica N.opening
+            (λ d. view ≤ d.core.state.vote_view + self.now.rules.now.furthest) }
+    {
+        let at = self.desk.status(self.rt).vote_view;
+        view.saturating_sub(at) > self.rules.furthest
+    }
+
+    fn lies_far(&self, asked: &Asked) -> bool
+        ensures far { IsTrue result → IsFar D.Disk N.committee N.replica N.opening
+            self.now.rules.now.furthest asked.now }
+        ensures near { IsFalse result → IsNear D.Disk N.committee N.replica N.opening
+            self.now.rules.now.furthest asked.now }
+    {
+        match asked {
+            Asked::Block(header, _) => self.is_far(header.view),
+            Asked::Timeout(view) => self.is_far(*view),
+            _ => false,
+        }
+    }
+
+    // What comes of a block or a timeout, unless its view lies too far ahead.
+    fn outcome_of(&mut self, asked: Asked) -> Option<Outcome>
+        ensures outcome { IsOutcomeOf D.Disk N.committee N.replica N.opening
+            self.old.rules.now.furthest asked result }
+        ensures receipts { self.new.session.receipts.items
+            ≡ receipts_told self.old.session.receipts.items result }
+        ensures rules { self.new.rules ≡ self.old.rules }
+    {
+        if self.lies_far(&asked) {
+            return None;
+        }
+        Some(answer(
+            self.rt,
+            self.desk,
+            self.committee,
+            self.verifier,
+            &mut self.session,
+            asked,
+        ))
+    }
+
+    // Does what is asked of the replica. Room for the answer is made first: behind that nothing fails.
+    fn ask(&mut self, asked: Asked, response: &mut Response) -> Result<(), AllocError>
+        requires { IsBlank response.old }
+        ensures ok { OnOk result ((told : Option OutcomeValue)
+            × IsCallTold D.Disk N.committee N.replica N.opening self.old.rules.now
+            (Call.Replica asked) told response.new
+            × (self.new.session.receipts.items ≡ receipts_told self.old.session.receipts.items told)) }
+        ensures rules { self.new.rules ≡ self.old.rules }
+        ensures err { OnErr result (self.new ≡ self.old) }
+    {
+        make_ready(response, Kind::Text)?;
+        match self.outcome_of(asked) {
+            Some(outcome) => tell_outcome(response, &outcome),
+            None => tell_refused(response, CallRefusal::Far),
+        }
+        Ok(())
+    }
+
+    // Tells the log's vote in a view.
+    fn tell_vote(&self, view: u64, response: &mut Response) -> Result<(), AllocError>
+        requires { IsBlank response.old }
+        ensures { OnOk result (IsVoteTold D.Disk N.committee N.replica N.opening view response.new) }
+    {
+        make_ready(response, Kind::Text)?;
+        match self.desk.vote_in(self.rt, view) {
+            Ok(Some(receipt)) => tell_receipt(response, &receipt),
+            Ok(None) => tell_refused(response, CallRefusal::NoVote),
+            Err(error) => tell_desk(response, DeskError::from(error)),
+        }
+        Ok(())
+    }
+
+    // Tells whether a header is held.
+    fn tell_header(&self, id: &Id, response: &mut Response) -> Result<(), AllocError>
+        requires { IsBlank response.old }
+        ensures { OnOk result (IsHeaderTold D.Disk N.committee N.replica N.opening id.now response.new) }
+    {
+        make_ready(response, Kind::Text)?;
+        if self.desk.holds(self.rt, id) {
+            tell_text(response, b"held\n");
+        } else {
+            tell_refused(response, CallRefusal::NotHeld);
+        }
+        Ok(())
+    }
+
+    // Hands out a part of the log, which is copied under the desk's lock and answered behind it.
+    fn hand_out(&self, part: LogPart, response: &mut Response) -> Result<(), AllocError>
+        requires { IsBlank response.old }
+        ensures { OnOk result (IsPartTold D.Disk N.committee N.replica N.opening part response.new) }
+    {
+        let mut copy = MemorySink::new(self.alloc);
+        match self.desk.export(self.rt, part.first, part.most, &mut copy) {
+            Ok(_) => fill(response, copy.bytes()),
+            Err(error) => {
+                make_ready(response, Kind::Text)?;
+                tell_desk(response, from_export(error));
+                Ok(())
+            }
+        }
+    }
+
+    // Tells whether a block could get a vote.
+    fn tell_desk_health(&self, response: &mut Response) -> Result<(), AllocError>
+        requires { IsBlank response.old }
+        ensures { OnOk result (IsDeskHealthTold D.Disk N.committee N.replica N.opening response.new) }
+    {
+        make_ready(response, Kind::Text)?;
+        tell_health(response, &self.desk.status(self.rt));
+        Ok(())
+    }
+
+    // Does what a call asks for, and tells what came of it.
+    fn do_call(&mut self, call: Call, response: &mut Response) -> Result<(), AllocError>
+        requires { IsBlank response.old }
+        ensures ok { OnOk result ((told : Option OutcomeValue)
+            × IsCallTold D.Disk N.committee N.replica N.opening self.old.rules.now call told response.new
+            × (self.new.session.receipts.items ≡ receipts_told self.old.session.receipts.items told)) }
+        ensures rules { self.new.rules ≡ self.old.rules }
+        ensures err { OnErr result (self.new ≡ self.old) }
+    {
+        match call {
+            Call::Replica(asked) => self.ask(asked, response),
+            Call::VoteIn(view) => self.tell_vote(view, response),
+            Call::Header(id) => self.tell_header(&id, response),
+            Call::Log(part) => self.hand_out(part, response),
+            Call::Live => tell_live(response),
+            Call::Health => self.tell_desk_health(response),
+            Call::Refused(refusal) => refuse(response, refusal),
+        }
+    }
+}
+
+impl<'a, N: DeskNaming, R: Wait, D: Disk, V: Verifier> Service for Signer<'a, N, R, D, V> {
+    ghost answers = { λ old request response new.
+        IsServed D.Disk N.committee N.replica N.opening old.rules.now
+        old.session.receipts.items request response new.session.receipts.items
+        × (new.rules ≡ old.rules) };
+
+    fn call(
+        &mut self,
+        request: &Request<Bytes>,
+        response: &mut Response,
+    ) -> Result<(), AllocError> {
+        let call = call_of(self.alloc, self.rules, request)?;
+        self.do_call(call, response)
+    }
+}
+
+// What a refused export means to a caller.
+fn from_export(error: ExportError) -> DeskError
+    ensures { result ≡ from_export error }
+{
+    match error {
+        ExportError::Stopped => DeskError::Stopped,
+        ExportError::Device => DeskError::Device,
+        ExportError::Memory | ExportError::Sink => DeskError::Memory,
+    }
+}
+
+fn tell_live(response: &mut Response) -> Result<(), AllocError>
+    requires { IsBlank response.old }
+    ensures { OnOk result (IsLine 200 (codes "ok\n") response.new) }
+{
+    make_ready(response, Kind::Text)?;
+    tell_text(response, b"ok\n");
+    Ok(())
+}
