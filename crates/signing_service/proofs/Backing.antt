@@ -39,7 +39,7 @@ module _ {D S B : Type 0} (disk : Ghosts D) (committee : List ℕ) (replica : �
   pub chain_grows : (calls : List Exchanged) (old new : S) → Chain Steps old calls new → ReceiptsGrow (receipts old) (receipts new)
   chain_grows [] old new h = subst (λ (s : S). ReceiptsGrow (receipts old) (receipts s)) (sym h) (grow_none (receipts old))
   chain_grows (c ∷ calls) old new h =
-      let served = h.1.0 in
+      let served = h.1.0.served in
       grow_then (receipts old) (receipts h.0) (receipts new)
       (subst (λ (rs : List Receipt). ReceiptsGrow (receipts old) rs) (sym served.receipts) (grow_told (receipts old) served.told))
       (chain_grows calls h.0 new h.2)
@@ -48,12 +48,12 @@ module _ {D S B : Type 0} (disk : Ghosts D) (committee : List ℕ) (replica : �
       → All (IsBacked disk committee replica opening (rules (lent old)) (receipts new)) calls
   chain_backs [] old new h = All-nil (IsBacked disk committee replica opening (rules (lent old)) (receipts new))
   chain_backs (c ∷ calls) old new h =
-      let served = h.1.0 in
+      let served = h.1.0.served in
       let has = subst (λ (rs : List Receipt). IfSome served.told (HasReceipt rs)) (sym served.receipts) (has_told (receipts old) served.told) in
       All-cons (IsBacked disk committee replica opening (rules (lent old)) (receipts new)) c calls
       (record {
-        asked = served.asked;
-        asks = served.asks;
+        asked = h.1.0.asked;
+        asks = h.1.0.asks;
         told = served.told;
         tells = served.tells;
         backed = told_among_more (receipts h.0) (receipts new) served.told (chain_grows calls h.0 new h.2) has;

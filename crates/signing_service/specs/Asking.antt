@@ -1,5 +1,7 @@
 -- What a request asks for: one call, or the first thing that is wrong with it.
-use Rattle.std.specs.Prelude.{◌≡◌, ◌≢◌, ◌⊎◌, ℕ, Bool, true, false, List, [], Option, Some, None, codes}
+use Rattle.std.specs.Prelude.{◌≡◌, ◌≢◌, ◌⊎◌, ℕ, Bool, true, false, List, [], Option, Some, None, codes, length}
+use Rattle.certificates.specs.Votes.{vote_text}
+use Rattle.certificates.specs.declared.vote.TheConstants.{VOTE_LEN}
 use Rattle.http.specs.declared.request.Request.{Request}
 use Rattle.http.specs.Request.{body_of, head_of}
 use Rattle.http_header.specs.HeaderMap.{ContainsKey}
@@ -95,13 +97,20 @@ abbrev pub LogAsked : Option (List ℕ) → Call → Type 0
 LogAsked query (call.Log part) = IsPart query part
 LogAsked query asked = (asked ≡ call.Refused refused.Number) × ((part : LogPart) → IsPart query part → ⊥)
 
+-- a vote of 1,495 bytes
+abbrev pub VoteAsked : List ℕ → Call → Type 0
+VoteAsked body (call.Judge vote) = vote_text vote ≡ body
+VoteAsked body asked = (asked ≡ call.Refused refused.Length) × (length body ≢ VOTE_LEN)
+
 -- what is asked of a place by a request that is admitted
 abbrev pub IsAskedAt : Request (List ℕ) → Place → Call → Type 0
 IsAskedAt r place.Block asked = (block : Asked) × (asked ≡ call.Replica block) × IsOfBlock (body_of r) block
 IsAskedAt r (place.Timeout (Some view)) asked = TimeoutAsked view (body_of r) asked
+IsAskedAt r place.Vote asked = VoteAsked (body_of r) asked
 IsAskedAt r (place.VoteIn (Some view)) asked = asked ≡ call.VoteIn view
 IsAskedAt r (place.Header (Some id)) asked = asked ≡ call.Header id
 IsAskedAt r place.Log asked = LogAsked (query_in r) asked
+IsAskedAt r place.Status asked = asked ≡ call.Status
 IsAskedAt r place.Live asked = asked ≡ call.Live
 IsAskedAt r place.Health asked = asked ≡ call.Health
 IsAskedAt r _ asked = asked ≡ call.Refused refused.Number

@@ -1,6 +1,8 @@
 -- What is answered to a call.
 use Rattle.std.specs.Prelude.{◌≡◌, ◌⊎◌, ◌<◌, ◌≤◌, ◌+◌, ◌++◌, ◌∷◌, [], ℕ, List, Option, Some, None, IfSome, IsTrue, codes, min}
+use Rattle.blocks.specs.Genesis.{genesis_of}
 use Rattle.blocks.specs.Replica.{Stored}
+use Rattle.blocks.specs.declared.ballot.Ballot.{Ballot}
 use Rattle.http.specs.declared.request.Request.{Request}
 use Rattle.http_server.specs.declared.response.Response.{Response}
 use Rattle.http_server.specs.Exchange.{Call as Exchanged}
@@ -22,14 +24,18 @@ use Rattle.vote_desk.specs.declared.reply.Answer.TheVariants.{Voted}
 use Rattle.vote_desk.specs.declared.reply.Receipt.{Receipt}
 use Rattle.replica_lines.specs.OutcomeLines.{answer_text}
 use Rattle.replica_lines.specs.declared.outcome.Outcome.{Outcome}
+use Rattle.replica_lines.specs.declared.outcome.Outcome.TheVariants as came
 use Rattle.replica_lines.specs.declared.request.Request.{Request as Asked}
 use Rattle.replica_lines.specs.declared.request.Request.TheVariants as asks
 use Rattle.replica_answers.specs.Answers.{IsAnswerTo}
 use Rattle.replica_answers.specs.SessionReceipts.{HasReceipt, receipts_after}
 use Rattle.signing_service.specs.Asking.{AsksFor}
+use Rattle.signing_service.specs.Commits.{IsCommitOf}
 use Rattle.signing_service.specs.Healths.{IsHealthTold}
+use Rattle.signing_service.specs.Judging.{IsJudgementTold}
 use Rattle.signing_service.specs.Refusals.{IsRefusalTold}
 use Rattle.signing_service.specs.Responses.{IsLine, fields_of_kind}
+use Rattle.signing_service.specs.Statuses.{IsStatusTold}
 use Rattle.signing_service.specs.ToldLines.{desk_status, named_desk_line, outcome_status, told_line}
 use Rattle.signing_service.specs.declared.call.Call.{Call}
 use Rattle.signing_service.specs.declared.call.Call.TheVariants as call
@@ -52,6 +58,16 @@ IsOutcomeTold None response = IsRefusalTold refused.Far response
 -- the response tells a vote of the log
 abbrev pub IsReceiptTold : Receipt → Response → Type 0
 IsReceiptTold receipt response = IsLine 200 (answer_text (Voted receipt) ++ codes "\n") response
+
+-- the view of the parent of a block that is asked for
+abbrev pub parent_view_of : Asked → ℕ
+parent_view_of (asks.Block header certificate) = header.parent_view
+parent_view_of _ = 0
+
+-- the block that an outcome commits
+abbrev pub committed_by : Outcome → Option (List ℕ)
+committed_by (came.Replied reply) = reply.committed
+committed_by _ = None
 
 -- what a refused export means to a caller
 abbrev pub from_export : ExportError → DeskError
@@ -117,27 +133,39 @@ module _ {D : Type 0} (disk : Ghosts D) (committee : List ℕ) (replica : ℕ) (
   abbrev pub IsDeskHealthTold : Response → Type 0
   IsDeskHealthTold response = (status : DeskStatus) × SomeOne (λ d. status ≡ status_of d) × IsHealthTold status response
 
+  -- what a desk is at, and a block that some block commits, or none that is known
+  abbrev pub IsDeskStatusTold : Response → Type 0
+  IsDeskStatusTold response =
+      (status : DeskStatus) × (committed : Option Ballot) × SomeOne (λ d. status ≡ status_of d)
+      × IfSome committed (IsCommitOf (genesis_of committee)) × IsStatusTold committee replica status committed response
+
   -- ---- a call
 
   -- what a call is told, and the outcome among it
   abbrev pub IsCallTold : Rules → Call → Option Outcome → Response → Type 0
   IsCallTold rules (call.Replica asked) told response = IsOutcomeOf rules.furthest asked told × IsOutcomeTold told response
+  IsCallTold rules (call.Judge vote) told response = (told ≡ None) × IsJudgementTold committee vote response
   IsCallTold rules (call.VoteIn view) told response = (told ≡ None) × IsVoteTold view response
   IsCallTold rules (call.Header id) told response = (told ≡ None) × IsHeaderTold id response
   IsCallTold rules (call.Log part) told response = (told ≡ None) × IsPartTold part response
+  IsCallTold rules call.Status told response = (told ≡ None) × IsDeskStatusTold response
   IsCallTold rules call.Live told response = (told ≡ None) × IsLine 200 (codes "ok\n") response
   IsCallTold rules call.Health told response = (told ≡ None) × IsDeskHealthTold response
   IsCallTold rules (call.Refused refusal) told response = (told ≡ None) × IsRefusalTold refusal response
 
-  -- a request has one reading, is told what its call is told, and the receipt of a vote is added to the session
-  pub record IsServed (rules : Rules) (before : List Receipt) (request : Request (List ℕ)) (response : Response) (after : List Receipt) : Type 0 where
-    pub asked : Call
-    pub asks : AsksFor rules request asked
+  -- the response tells what the call is told, and the receipt of a vote is added to the session
+  pub record IsCallServed (rules : Rules) (asked : Call) (before : List Receipt) (response : Response) (after : List Receipt) : Type 0 where
     pub told : Option Outcome
     pub tells : IsCallTold rules asked told response
     pub receipts : after ≡ receipts_told before told
 
-  -- .. and the receipt of a vote is among these
+  -- .. to a request, by what it asks for
+  pub record IsServed (rules : Rules) (before : List Receipt) (request : Request (List ℕ)) (response : Response) (after : List Receipt) : Type 0 where
+    pub asked : Call
+    pub asks : AsksFor rules request asked
+    pub served : IsCallServed rules asked before response after
+
+  -- the response tells what the request's call is told, and the receipt of a vote is among these
   pub record IsBacked (rules : Rules) (receipts : List Receipt) (exchanged : Exchanged) : Type 0 where
     pub asked : Call
     pub asks : AsksFor rules exchanged.0 asked

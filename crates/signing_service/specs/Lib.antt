@@ -7,4 +7,7 @@ pub mod Responses
 pub mod Refusals
 pub mod ToldLines
 pub mod Healths
+pub mod Judging
+pub mod Commits
+pub mod Statuses
 pub mod CallAnswers

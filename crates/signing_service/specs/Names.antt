@@ -6,6 +6,8 @@ use Rattle.certificates.specs.declared.certificate.CertificateRefusal.{Certifica
 use Rattle.certificates.specs.declared.certificate.CertificateRefusal.TheVariants as certificate
 use Rattle.certificates.specs.declared.checked_block.BlockRefusal.{BlockRefusal}
 use Rattle.certificates.specs.declared.checked_block.BlockRefusal.TheVariants as block
+use Rattle.certificates.specs.declared.vote.VoteRefusal.{VoteRefusal}
+use Rattle.certificates.specs.declared.vote.VoteRefusal.TheVariants as vote
 use Rattle.replica_core.specs.declared.refusal.CoreRefusal.{CoreRefusal}
 use Rattle.replica_core.specs.declared.refusal.CoreRefusal.TheVariants as core
 use Rattle.vote_desk.specs.declared.desk_error.DeskError.{DeskError}
@@ -28,6 +30,11 @@ block_refusal_name block.Count = codes "Count"
 block_refusal_name block.UnknownReplica = codes "UnknownReplica"
 block_refusal_name block.UnknownKey = codes "UnknownKey"
 block_refusal_name (block.Signature k) = codes "Signature"
+
+abbrev pub vote_refusal_name : VoteRefusal → List ℕ
+vote_refusal_name vote.UnknownReplica = codes "UnknownReplica"
+vote_refusal_name vote.UnknownKey = codes "UnknownKey"
+vote_refusal_name vote.Signature = codes "Signature"
 
 abbrev pub core_refusal_name : CoreRefusal → List ℕ
 core_refusal_name core.Memory = codes "Memory"

@@ -2,7 +2,7 @@
 use Rattle.std.specs.Prelude.{◌≡◌, ◌≢◌, ◌<◌, ◌^◌, ◌++◌, ℕ, Bool, true, false, List, Option, Some, None, codes, decimal, length}
 use Rattle.hex.specs.Hex.{IsBytes, encode_lower}
 use Rattle.signing_service.specs.declared.place.Place.{Place}
-use Rattle.signing_service.specs.declared.place.Place.TheVariants.{Block, Timeout, VoteIn, Header, Log, Live, Health, Nowhere}
+use Rattle.signing_service.specs.declared.place.Place.TheVariants.{Block, Timeout, Vote, VoteIn, Header, Log, Status, Live, Health, Nowhere}
 use Rattle.signing_service.specs.declared.place.Methods.{Methods}
 use Rattle.signing_service.specs.declared.place.Methods.TheVariants.{Post, Get}
 
@@ -23,14 +23,18 @@ IsIdOf digits None = (id : List ℕ) → IsId id → digits ≡ encode_lower id 
 -- the path is none of those without an argument
 pub record HasNoName (path : List ℕ) : Type 0 where
   pub block : path ≢ codes "/block"
+  pub vote : path ≢ codes "/vote"
   pub log : path ≢ codes "/log"
+  pub status : path ≢ codes "/status"
   pub live : path ≢ codes "/live"
   pub health : path ≢ codes "/health"
 
 -- a place without an argument
 abbrev pub IsNamedPlace : List ℕ → Place → Type 0
 IsNamedPlace path Block = path ≡ codes "/block"
+IsNamedPlace path Vote = path ≡ codes "/vote"
 IsNamedPlace path Log = path ≡ codes "/log"
+IsNamedPlace path Status = path ≡ codes "/status"
 IsNamedPlace path Live = path ≡ codes "/live"
 IsNamedPlace path Health = path ≡ codes "/health"
 IsNamedPlace path Nowhere = HasNoName path
@@ -53,6 +57,7 @@ IsPlace path place = HasNoArgument path × IsNamedPlace path place
 abbrev pub methods_of : Place → Methods
 methods_of Block = Post
 methods_of (Timeout view) = Post
+methods_of Vote = Post
 methods_of _ = Get
 
 abbrev pub is_posted : Methods → Bool

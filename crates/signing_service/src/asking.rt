@@ -2,13 +2,14 @@
 
 ghost use Rattle.std.specs.Prelude.{◌≡◌, ◌↔◌, IfOk, IsTrue, MatchOption};
 ghost use Rattle.http.specs.Request.{head_of};
-ghost use Rattle.signing_service.specs.Asking.{AsksFor, HasContentType, HasGoodTarget, HasNoOrigin, HasRightMethod, IsAdmitted, IsAskedAt, IsRefusedAt, IsThere, LogAsked, NamesHost, PassesDoor, query_in};
+ghost use Rattle.signing_service.specs.Asking.{AsksFor, HasContentType, HasGoodTarget, HasNoOrigin, HasRightMethod, IsAdmitted, IsAskedAt, IsRefusedAt, IsThere, LogAsked, NamesHost, PassesDoor, VoteAsked, query_in};
 
 use crate::call::{Call, CallRefusal};
 use crate::door::{has_bytes_type, has_good_host};
 use crate::log_part::part_in;
 use crate::place::{Methods, Place, is_same, place_of};
 use crate::rules::Rules;
+use crate::vote_reading::vote_in;
 use bytes::Bytes;
 use http::Request;
 use replica_lines::{Request as Asked, block_in};
@@ -82,12 +83,23 @@ fn asked_at(
         Place::Block => Ok(Call::Replica(block_in(alloc, body)?)),
         Place::Timeout(Some(view)) if body.is_empty() => Ok(Call::Replica(Asked::Timeout(view))),
         Place::Timeout(Some(_)) => Ok(Call::Refused(CallRefusal::Length)),
+        Place::Vote => Ok(vote_asked(body)),
         Place::VoteIn(Some(view)) => Ok(Call::VoteIn(view)),
         Place::Header(Some(id)) => Ok(Call::Header(id)),
         Place::Log => Ok(log_asked(request)),
+        Place::Status => Ok(Call::Status),
         Place::Live => Ok(Call::Live),
         Place::Health => Ok(Call::Health),
         _ => Ok(Call::Refused(CallRefusal::Number)),
+    }
+}
+
+fn vote_asked(body: &[u8]) -> Call
+    ensures { VoteAsked body.now result }
+{
+    match vote_in(body) {
+        Some(vote) => Call::Judge(vote),
+        None => Call::Refused(CallRefusal::Length),
     }
 }
 

@@ -6,6 +6,7 @@ ghost use Rattle.signing_service.specs.Refusals.{call_refusal_name, call_refusal
 use crate::log_part::LogPart;
 use crate::place::Methods;
 use blocks::Id;
+use certificates::SignedVote;
 use http::StatusCode;
 use replica_lines::Request;
 
@@ -14,12 +15,16 @@ use replica_lines::Request;
 pub enum Call {
     /// To deliver a block, `POST /block`, or to give up on views, `POST /timeout/V`; or what is refused of a block's bytes.
     Replica(Request),
+    /// Whether a vote is good: `POST /vote`.
+    Judge(SignedVote),
     /// The log's vote in this view: `GET /vote/V`.
     VoteIn(u64),
     /// Whether the header of this id is held: `GET /block/ID`.
     Header(Id),
     /// A part of the log: `GET /log?first=F&most=M`.
     Log(LogPart),
+    /// What the desk is at: `GET /status`.
+    Status,
     /// Whether the process answers: `GET /live`.
     Live,
     /// Whether a block could get a vote: `GET /health`.

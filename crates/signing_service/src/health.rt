@@ -24,7 +24,7 @@ pub(crate) fn tell_health(response: &mut Response, status: &DeskStatus)
     }
 }
 
-fn trouble_of(status: &DeskStatus) -> Option<DeskError>
+pub(crate) fn trouble_of(status: &DeskStatus) -> Option<DeskError>
     ensures { result ≡ trouble_of status.now }
 {
     if status.stopped {

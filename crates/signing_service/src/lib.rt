@@ -4,8 +4,10 @@
 
 mod asking;
 mod call;
+mod commits;
 mod door;
 mod health;
+mod judging;
 mod log_part;
 mod names;
 mod place;
@@ -13,10 +15,13 @@ mod refusing;
 mod rules;
 mod serving;
 mod signer;
+mod status;
 mod telling;
+mod vote_reading;
 mod writing;
 
 pub use call::{Call, CallRefusal};
+pub use commits::Commits;
 pub use log_part::{LogPart, MOST_ENTRIES_AT_ONCE};
 pub use place::{Methods, Place};
 pub use rules::Rules;

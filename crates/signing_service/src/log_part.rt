@@ -42,7 +42,8 @@ pub(crate) fn part_in(query: Option<&str>) -> Option<LogPart>
 }
 
 fn part_in_one(text: &[u8]) -> Option<LogPart>
-    ensures { MatchOption result ((p : LogPart) → IsOneParameter text.now p → ⊥) (IsOneParameter text.now) }
+    ensures { MatchOption result ((p : LogPart) → IsOneParameter text.now p → ⊥)
+        (IsOneParameter text.now) }
 {
     Some(part_of_one(parameter_in(text)?))
 }
@@ -79,7 +80,8 @@ fn part_of_two(one: Parameter, other: Parameter) -> Option<LogPart>
 }
 
 fn parameter_in(text: &[u8]) -> Option<Parameter>
-    ensures { MatchOption result ((p : Parameter) → IsParameter text.now p → ⊥) (IsParameter text.now) }
+    ensures { MatchOption result ((p : Parameter) → IsParameter text.now p → ⊥)
+        (IsParameter text.now) }
 {
     if let Some(digits) = behind(text, b"first=") {
         return Some(Parameter::First(small_number_in(digits)?));
@@ -91,7 +93,8 @@ fn parameter_in(text: &[u8]) -> Option<Parameter>
 // The number of 32 bits that is printed so.
 fn small_number_in(digits: &[u8]) -> Option<u32>
     ensures some { IfSome result (λ number. digits.now ≡ decimal number) }
-    ensures none { IfNone result ((number : ℕ) → number < 2 ^ 32 → digits.now ≡ decimal number → ⊥) }
+    ensures none { IfNone result ((number : ℕ) → number < 2 ^ 32 → digits.now ≡ decimal number
+        → ⊥) }
 {
     let number = number_in(digits)?;
     if number > u64::from(u32::MAX) {

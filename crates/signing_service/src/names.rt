@@ -1,10 +1,10 @@
 //! The names that docs/REFUSALS.md gives the refusals of other crates.
 
 ghost use Rattle.std.specs.Prelude.{◌≡◌, ◌≤◌, length};
-ghost use Rattle.signing_service.specs.Names.{block_refusal_name, certificate_refusal_name, core_refusal_name, desk_error_name, header_refusal_name};
+ghost use Rattle.signing_service.specs.Names.{block_refusal_name, certificate_refusal_name, core_refusal_name, desk_error_name, header_refusal_name, vote_refusal_name};
 
 use blocks::HeaderRefusal;
-use certificates::{BlockRefusal, CertificateRefusal};
+use certificates::{BlockRefusal, CertificateRefusal, VoteRefusal};
 use replica_core::CoreRefusal;
 use vote_desk::DeskError;
 
@@ -41,6 +41,17 @@ pub(crate) fn block_refusal_name(refusal: BlockRefusal) -> &'static [u8]
         BlockRefusal::UnknownReplica => b"UnknownReplica",
         BlockRefusal::UnknownKey => b"UnknownKey",
         BlockRefusal::Signature(_) => b"Signature",
+    }
+}
+
+pub(crate) fn vote_refusal_name(refusal: VoteRefusal) -> &'static [u8]
+    ensures name { result.now ≡ vote_refusal_name refusal }
+    ensures short { length result.now ≤ 20 }
+{
+    match refusal {
+        VoteRefusal::UnknownReplica => b"UnknownReplica",
+        VoteRefusal::UnknownKey => b"UnknownKey",
+        VoteRefusal::Signature => b"Signature",
     }
 }
 

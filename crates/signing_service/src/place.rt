@@ -13,12 +13,16 @@ pub enum Place {
     Block,
     /// `/timeout/V`, if V is a number of 64 bits as it is printed.
     Timeout(Option<u64>),
+    /// `/vote`
+    Vote,
     /// `/vote/V`, if V is a number of 64 bits as it is printed.
     VoteIn(Option<u64>),
     /// `/block/ID`, if ID is 64 hex digits in lower case.
     Header(Option<Id>),
     /// `/log`
     Log,
+    /// `/status`
+    Status,
     /// `/live`
     Live,
     /// `/health`
@@ -41,7 +45,7 @@ impl Place {
         ensures { result ≡ methods_of self }
     {
         match self {
-            Place::Block | Place::Timeout(_) => Methods::Post,
+            Place::Block | Place::Timeout(_) | Place::Vote => Methods::Post,
             _ => Methods::Get,
         }
     }
@@ -108,8 +112,14 @@ fn named_place(path: &[u8]) -> Place
     if is_same(path, b"/block") {
         return Place::Block;
     }
+    if is_same(path, b"/vote") {
+        return Place::Vote;
+    }
     if is_same(path, b"/log") {
         return Place::Log;
+    }
+    if is_same(path, b"/status") {
+        return Place::Status;
     }
     if is_same(path, b"/live") {
         return Place::Live;

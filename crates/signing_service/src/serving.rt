@@ -29,7 +29,8 @@ pub fn serve_calls<'a, N: DeskNaming, T: Wait, D: Disk, V: Verifier, R: Read, W:
     // session: so the vote stands in the log.
     ensures backed { All (IsBacked D.Disk N.committee N.replica N.opening signer.old.rules.now
         signer.new.session.receipts.items) (history connection.new).calls }
-    ensures grows { ReceiptsGrow signer.old.session.receipts.items signer.new.session.receipts.items }
+    ensures grows { ReceiptsGrow signer.old.session.receipts.items
+        signer.new.session.receipts.items }
 
     // What went out is the answers to the first requests that came, in order.
     ensures served { ∥ IsAllServed (config_of connection.new) (history connection.new) ∥₁ }

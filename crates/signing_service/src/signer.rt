@@ -2,19 +2,21 @@
 
 ghost use Rattle.std.specs.Prelude.{◌≡◌, ◌<◌, ◌≤◌, ◌+◌, IsFalse, IsTrue, OnErr, OnOk, Option, codes};
 ghost use Rattle.http_server.specs.Response.{IsBlank};
-ghost use Rattle.replica_lines.specs.declared.outcome.Outcome.{Outcome as OutcomeValue};
-ghost use Rattle.signing_service.specs.CallAnswers.{IsCallTold, IsDeskHealthTold, IsFar, IsHeaderTold, IsNear, IsOutcomeOf, IsPartTold, IsServed, IsVoteTold, SomeOne, from_export, receipts_told};
+ghost use Rattle.signing_service.specs.CallAnswers.{IsCallServed, IsDeskHealthTold, IsDeskStatusTold, IsFar, IsHeaderTold, IsNear, IsOutcomeOf, IsPartTold, IsServed, IsVoteTold, SomeOne, committed_by, from_export, parent_view_of, receipts_told};
 ghost use Rattle.signing_service.specs.Responses.{IsLine};
 
 use crate::asking::call_of;
 use crate::call::{Call, CallRefusal};
+use crate::commits::Commits;
 use crate::health::tell_health;
+use crate::judging::tell_judgement;
 use crate::log_part::LogPart;
 use crate::refusing::{refuse, tell_refused};
 use crate::rules::Rules;
+use crate::status::tell_status;
 use crate::telling::{tell_desk, tell_outcome, tell_receipt, tell_text};
 use crate::writing::{Kind, fill, make_ready};
-use blocks::{CommitteeView, Id};
+use blocks::{Ballot, CommitteeView, Id};
 use bytes::Bytes;
 use certificates::Verifier;
 use http::Request;
@@ -37,8 +39,11 @@ pub struct Signer<'a, N: DeskNaming, R: Wait, D: Disk, V: Verifier> {
     committee: &'a CommitteeView<'a>,
     verifier: &'a V,
     rules: &'a Rules,
+    replica: u16,
+    commits: &'a Commits<N>,
     session: Session<N>,
     ghost committee_is: { committee.now ≡ N.committee },
+    ghost replica_is: { replica ≡ N.replica },
 }
 
 impl<'a, N: DeskNaming, R: Wait, D: Disk, V: Verifier> Signer<'a, N, R, D, V> {
@@ -48,11 +53,14 @@ impl<'a, N: DeskNaming, R: Wait, D: Disk, V: Verifier> Signer<'a, N, R, D, V> {
         alloc: Global,
         desk: &'a Desk<N, D>,
         committee: &'a CommitteeView<'a>,
+        replica: u16,
         verifier: &'a V,
         rules: &'a Rules,
+        commits: &'a Commits<N>,
         session: Session<N>,
     ) -> Signer<'a, N, R, D, V>
-        requires { committee.now ≡ N.committee }
+        requires committee { committee.now ≡ N.committee }
+        requires replica { replica ≡ N.replica }
         ensures session { result.session ≡ session }
         ensures rules { result.rules.now ≡ rules.now }
     {
@@ -63,6 +71,8 @@ impl<'a, N: DeskNaming, R: Wait, D: Disk, V: Verifier> Signer<'a, N, R, D, V> {
             committee,
             verifier,
             rules,
+            replica,
+            commits,
             session,
         }
     }
@@ -110,23 +120,28 @@ impl<'a, N: DeskNaming, R: Wait, D: Disk, V: Verifier> Signer<'a, N, R, D, V> {
         if self.lies_far(&asked) {
             return None;
         }
-        Some(answer(
+        let parent_view = parent_view_of(&asked);
+        let outcome = answer(
             self.rt,
             self.desk,
             self.committee,
             self.verifier,
             &mut self.session,
             asked,
-        ))
+        );
+        if let Some(id) = committed_by(&outcome) {
+            let view = parent_view.saturating_sub(2);
+            self.commits.note(self.rt, Ballot { view, id });
+        }
+        Some(outcome)
     }
 
     // Does what is asked of the replica. Room for the answer is made first: behind that nothing fails.
     fn ask(&mut self, asked: Asked, response: &mut Response) -> Result<(), AllocError>
         requires { IsBlank response.old }
-        ensures ok { OnOk result ((told : Option OutcomeValue)
-            × IsCallTold D.Disk N.committee N.replica N.opening self.old.rules.now
-            (Call.Replica asked) told response.new
-            × (self.new.session.receipts.items ≡ receipts_told self.old.session.receipts.items told)) }
+        ensures ok { OnOk result (IsCallServed D.Disk N.committee N.replica N.opening
+            self.old.rules.now (Call.Replica asked) self.old.session.receipts.items response.new
+            self.new.session.receipts.items) }
         ensures rules { self.new.rules ≡ self.old.rules }
         ensures err { OnErr result (self.new ≡ self.old) }
     {
@@ -141,7 +156,8 @@ impl<'a, N: DeskNaming, R: Wait, D: Disk, V: Verifier> Signer<'a, N, R, D, V> {
     // Tells the log's vote in a view.
     fn tell_vote(&self, view: u64, response: &mut Response) -> Result<(), AllocError>
         requires { IsBlank response.old }
-        ensures { OnOk result (IsVoteTold D.Disk N.committee N.replica N.opening view response.new) }
+        ensures { OnOk result
+            (IsVoteTold D.Disk N.committee N.replica N.opening view response.new) }
     {
         make_ready(response, Kind::Text)?;
         match self.desk.vote_in(self.rt, view) {
@@ -155,7 +171,8 @@ impl<'a, N: DeskNaming, R: Wait, D: Disk, V: Verifier> Signer<'a, N, R, D, V> {
     // Tells whether a header is held.
     fn tell_header(&self, id: &Id, response: &mut Response) -> Result<(), AllocError>
         requires { IsBlank response.old }
-        ensures { OnOk result (IsHeaderTold D.Disk N.committee N.replica N.opening id.now response.new) }
+        ensures { OnOk result
+            (IsHeaderTold D.Disk N.committee N.replica N.opening id.now response.new) }
     {
         make_ready(response, Kind::Text)?;
         if self.desk.holds(self.rt, id) {
@@ -169,7 +186,8 @@ impl<'a, N: DeskNaming, R: Wait, D: Disk, V: Verifier> Signer<'a, N, R, D, V> {
     // Hands out a part of the log, which is copied under the desk's lock and answered behind it.
     fn hand_out(&self, part: LogPart, response: &mut Response) -> Result<(), AllocError>
         requires { IsBlank response.old }
-        ensures { OnOk result (IsPartTold D.Disk N.committee N.replica N.opening part response.new) }
+        ensures { OnOk result
+            (IsPartTold D.Disk N.committee N.replica N.opening part response.new) }
     {
         let mut copy = MemorySink::new(self.alloc);
         match self.desk.export(self.rt, part.first, part.most, &mut copy) {
@@ -185,27 +203,43 @@ impl<'a, N: DeskNaming, R: Wait, D: Disk, V: Verifier> Signer<'a, N, R, D, V> {
     // Tells whether a block could get a vote.
     fn tell_desk_health(&self, response: &mut Response) -> Result<(), AllocError>
         requires { IsBlank response.old }
-        ensures { OnOk result (IsDeskHealthTold D.Disk N.committee N.replica N.opening response.new) }
+        ensures { OnOk result
+            (IsDeskHealthTold D.Disk N.committee N.replica N.opening response.new) }
     {
         make_ready(response, Kind::Text)?;
         tell_health(response, &self.desk.status(self.rt));
         Ok(())
     }
 
+    // Tells what the desk is at.
+    fn tell_desk_status(&self, response: &mut Response) -> Result<(), AllocError>
+        requires { IsBlank response.old }
+        ensures { OnOk result
+            (IsDeskStatusTold D.Disk N.committee N.replica N.opening response.new) }
+    {
+        make_ready(response, Kind::Json)?;
+        let status = self.desk.status(self.rt);
+        let committed = self.commits.last(self.rt);
+        tell_status(response, self.committee, self.replica, &status, &committed);
+        Ok(())
+    }
+
     // Does what a call asks for, and tells what came of it.
     fn do_call(&mut self, call: Call, response: &mut Response) -> Result<(), AllocError>
         requires { IsBlank response.old }
-        ensures ok { OnOk result ((told : Option OutcomeValue)
-            × IsCallTold D.Disk N.committee N.replica N.opening self.old.rules.now call told response.new
-            × (self.new.session.receipts.items ≡ receipts_told self.old.session.receipts.items told)) }
+        ensures ok { OnOk result (IsCallServed D.Disk N.committee N.replica N.opening
+            self.old.rules.now call self.old.session.receipts.items response.new
+            self.new.session.receipts.items) }
         ensures rules { self.new.rules ≡ self.old.rules }
         ensures err { OnErr result (self.new ≡ self.old) }
     {
         match call {
             Call::Replica(asked) => self.ask(asked, response),
+            Call::Judge(vote) => tell_judgement(self.committee, &vote, response),
             Call::VoteIn(view) => self.tell_vote(view, response),
             Call::Header(id) => self.tell_header(&id, response),
             Call::Log(part) => self.hand_out(part, response),
+            Call::Status => self.tell_desk_status(response),
             Call::Live => tell_live(response),
             Call::Health => self.tell_desk_health(response),
             Call::Refused(refusal) => refuse(response, refusal),
@@ -226,6 +260,26 @@ impl<'a, N: DeskNaming, R: Wait, D: Disk, V: Verifier> Service for Signer<'a, N,
     ) -> Result<(), AllocError> {
         let call = call_of(self.alloc, self.rules, request)?;
         self.do_call(call, response)
+    }
+}
+
+// The view of the parent of a block that is asked for.
+fn parent_view_of(asked: &Asked) -> u64
+    ensures { result ≡ parent_view_of asked.now }
+{
+    match asked {
+        Asked::Block(header, _) => header.parent_view,
+        _ => 0,
+    }
+}
+
+// The block that an outcome commits.
+fn committed_by(outcome: &Outcome) -> Option<Id>
+    ensures { result ≡ committed_by outcome.now }
+{
+    match outcome {
+        Outcome::Replied(reply) => reply.committed,
+        _ => None,
     }
 }
 

@@ -137,7 +137,8 @@ fn put_timeout(body: &mut Rope, view: u64)
 
 fn put_reply(body: &mut Rope, reply: &Reply)
     requires { (body.old.items ≡ []) × (ROOM ≤ body.old.spare) }
-    ensures { body.new.items ≡ answer_text reply.now.act ++ commit_text reply.now.committed ++ codes "\n" }
+    ensures { body.new.items ≡ answer_text reply.now.act ++ commit_text reply.now.committed
+        ++ codes "\n" }
 {
     put_answer(body, &reply.act);
     put_commit(body, &reply.committed);
