@@ -113,6 +113,7 @@ IsAskedAt r place.Log asked = LogAsked (query_in r) asked
 IsAskedAt r place.Status asked = asked ≡ call.Status
 IsAskedAt r place.Live asked = asked ≡ call.Live
 IsAskedAt r place.Health asked = asked ≡ call.Health
+IsAskedAt r place.Metrics asked = asked ≡ call.Metrics
 IsAskedAt r _ asked = asked ≡ call.Refused refused.Number
 
 -- ---- the whole

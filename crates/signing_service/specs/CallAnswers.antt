@@ -33,6 +33,7 @@ use Rattle.signing_service.specs.Asking.{AsksFor}
 use Rattle.signing_service.specs.Commits.{IsCommitOf}
 use Rattle.signing_service.specs.Healths.{IsHealthTold}
 use Rattle.signing_service.specs.Judging.{IsJudgementTold}
+use Rattle.signing_service.specs.Metrics.{IsMetricsTold}
 use Rattle.signing_service.specs.Refusals.{IsRefusalTold}
 use Rattle.signing_service.specs.Responses.{IsLine, fields_of_kind}
 use Rattle.signing_service.specs.Statuses.{IsStatusTold}
@@ -42,6 +43,7 @@ use Rattle.signing_service.specs.declared.call.Call.TheVariants as call
 use Rattle.signing_service.specs.declared.call.CallRefusal.TheVariants as refused
 use Rattle.signing_service.specs.declared.log_part.LogPart.{LogPart}
 use Rattle.signing_service.specs.declared.rules.Rules.{Rules}
+use Rattle.signing_service.specs.declared.tallies.Numbers.{Numbers}
 use Rattle.signing_service.specs.declared.writing.Kind.TheVariants.{Octets}
 
 -- ---- lines
@@ -139,6 +141,12 @@ module _ {D : Type 0} (disk : Ghosts D) (committee : List ℕ) (replica : ℕ) (
       (status : DeskStatus) × (committed : Option Ballot) × SomeOne (λ d. status ≡ status_of d)
       × IfSome committed (IsCommitOf (genesis_of committee)) × IsStatusTold committee replica status committed response
 
+  -- .. and some numbers of what was told
+  abbrev pub IsDeskMetricsTold : Response → Type 0
+  IsDeskMetricsTold response =
+      (numbers : Numbers) × (status : DeskStatus) × (committed : Option Ballot) × SomeOne (λ d. status ≡ status_of d)
+      × IfSome committed (IsCommitOf (genesis_of committee)) × IsMetricsTold numbers status committed response
+
   -- ---- a call
 
   -- what a call is told, and the outcome among it
@@ -151,6 +159,7 @@ module _ {D : Type 0} (disk : Ghosts D) (committee : List ℕ) (replica : ℕ) (
   IsCallTold rules call.Status told response = (told ≡ None) × IsDeskStatusTold response
   IsCallTold rules call.Live told response = (told ≡ None) × IsLine 200 (codes "ok\n") response
   IsCallTold rules call.Health told response = (told ≡ None) × IsDeskHealthTold response
+  IsCallTold rules call.Metrics told response = (told ≡ None) × IsDeskMetricsTold response
   IsCallTold rules (call.Refused refusal) told response = (told ≡ None) × IsRefusalTold refusal response
 
   -- the response tells what the call is told, and the receipt of a vote is added to the session

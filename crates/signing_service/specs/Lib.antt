@@ -10,4 +10,6 @@ pub mod Healths
 pub mod Judging
 pub mod Commits
 pub mod Statuses
+pub mod Tallies
+pub mod Metrics
 pub mod CallAnswers

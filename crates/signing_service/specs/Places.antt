@@ -2,7 +2,7 @@
 use Rattle.std.specs.Prelude.{◌≡◌, ◌≢◌, ◌<◌, ◌^◌, ◌++◌, ℕ, Bool, true, false, List, Option, Some, None, codes, decimal, length}
 use Rattle.hex.specs.Hex.{IsBytes, encode_lower}
 use Rattle.signing_service.specs.declared.place.Place.{Place}
-use Rattle.signing_service.specs.declared.place.Place.TheVariants.{Block, Timeout, Vote, VoteIn, Header, Log, Status, Live, Health, Nowhere}
+use Rattle.signing_service.specs.declared.place.Place.TheVariants.{Block, Timeout, Vote, VoteIn, Header, Log, Status, Live, Health, Metrics, Nowhere}
 use Rattle.signing_service.specs.declared.place.Methods.{Methods}
 use Rattle.signing_service.specs.declared.place.Methods.TheVariants.{Post, Get}
 
@@ -28,6 +28,7 @@ pub record HasNoName (path : List ℕ) : Type 0 where
   pub status : path ≢ codes "/status"
   pub live : path ≢ codes "/live"
   pub health : path ≢ codes "/health"
+  pub metrics : path ≢ codes "/metrics"
 
 -- a place without an argument
 abbrev pub IsNamedPlace : List ℕ → Place → Type 0
@@ -37,6 +38,7 @@ IsNamedPlace path Log = path ≡ codes "/log"
 IsNamedPlace path Status = path ≡ codes "/status"
 IsNamedPlace path Live = path ≡ codes "/live"
 IsNamedPlace path Health = path ≡ codes "/health"
+IsNamedPlace path Metrics = path ≡ codes "/metrics"
 IsNamedPlace path Nowhere = HasNoName path
 IsNamedPlace path _ = ⊥
 

@@ -9,12 +9,8 @@ use Rattle.vote_desk.specs.declared.desk_error.DeskError.{DeskError}
 use Rattle.vote_desk.specs.declared.desk_error.DeskError.TheVariants as desk
 use Rattle.vote_desk.specs.declared.parts.DeskStatus.{DeskStatus}
 use Rattle.signing_service.specs.Healths.{trouble_of}
-use Rattle.signing_service.specs.Responses.{fields_of_kind}
+use Rattle.signing_service.specs.Responses.{field_text, fields_of_kind}
 use Rattle.signing_service.specs.declared.writing.Kind.TheVariants.{Json}
-
--- words and a number
-abbrev pub field_text : List ℕ → ℕ → List ℕ
-field_text words number = words ++ decimal number
 
 -- a view and an id
 abbrev pub ballot_text : ℕ → List ℕ → List ℕ

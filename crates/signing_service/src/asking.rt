@@ -90,6 +90,7 @@ fn asked_at(
         Place::Status => Ok(Call::Status),
         Place::Live => Ok(Call::Live),
         Place::Health => Ok(Call::Health),
+        Place::Metrics => Ok(Call::Metrics),
         _ => Ok(Call::Refused(CallRefusal::Number)),
     }
 }

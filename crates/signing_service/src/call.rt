@@ -29,6 +29,8 @@ pub enum Call {
     Live,
     /// Whether a block could get a vote: `GET /health`.
     Health,
+    /// What was told since the start, and what the desk is at: `GET /metrics`.
+    Metrics,
     /// Nothing: this is wrong with the call.
     Refused(CallRefusal),
 }

@@ -27,6 +27,8 @@ pub enum Place {
     Live,
     /// `/health`
     Health,
+    /// `/metrics`
+    Metrics,
     /// Any other path.
     Nowhere,
 }
@@ -126,6 +128,9 @@ fn named_place(path: &[u8]) -> Place
     }
     if is_same(path, b"/health") {
         return Place::Health;
+    }
+    if is_same(path, b"/metrics") {
+        return Place::Metrics;
     }
     Place::Nowhere
 }

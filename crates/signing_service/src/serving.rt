@@ -14,10 +14,11 @@ use stable_log::Disk;
 use std::io;
 use std::io::{Read, Write};
 use std::sync::Wait;
+use std::time::Clock;
 use vote_desk::DeskNaming;
 
 /// Answers the calls of a new connection, until it is done or a read or a write fails.
-pub fn serve_calls<'a, N: DeskNaming, T: Wait, D: Disk, V: Verifier, R: Read, W: Write>(
+pub fn serve_calls<'a, N: DeskNaming, T: Wait + Clock, D: Disk, V: Verifier, R: Read, W: Write>(
     signer: &mut Signer<'a, N, T, D, V>,
     connection: &mut Connection,
     reader: &mut R,

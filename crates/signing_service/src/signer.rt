@@ -2,8 +2,9 @@
 
 ghost use Rattle.std.specs.Prelude.{◌≡◌, ◌<◌, ◌≤◌, ◌+◌, IsFalse, IsTrue, OnErr, OnOk, Option, codes};
 ghost use Rattle.http_server.specs.Response.{IsBlank};
-ghost use Rattle.signing_service.specs.CallAnswers.{IsCallServed, IsDeskHealthTold, IsDeskStatusTold, IsFar, IsHeaderTold, IsNear, IsOutcomeOf, IsPartTold, IsServed, IsVoteTold, SomeOne, committed_by, from_export, parent_view_of, receipts_told};
-ghost use Rattle.signing_service.specs.Responses.{IsLine};
+ghost use Rattle.signing_service.specs.CallAnswers.{IsCallServed, IsDeskHealthTold, IsDeskMetricsTold, IsDeskStatusTold, IsFar, IsHeaderTold, IsNear, IsOutcomeOf, IsPartTold, IsServed, IsVoteTold, SomeOne, committed_by, from_export, parent_view_of, receipts_told};
+ghost use Rattle.signing_service.specs.Refusals.{IsRefusalTold, refusal_fields};
+ghost use Rattle.signing_service.specs.Responses.{IsLine, IsReady};
 
 use crate::asking::call_of;
 use crate::call::{Call, CallRefusal};
@@ -11,11 +12,13 @@ use crate::commits::Commits;
 use crate::health::tell_health;
 use crate::judging::tell_judgement;
 use crate::log_part::LogPart;
+use crate::metrics::{METRICS_ROOM, tell_metrics};
 use crate::refusing::{refuse, tell_refused};
 use crate::rules::Rules;
 use crate::status::tell_status;
+use crate::tallies::Tallies;
 use crate::telling::{tell_desk, tell_outcome, tell_receipt, tell_text};
-use crate::writing::{Kind, fill, make_ready};
+use crate::writing::{Kind, fill, make_ready, make_room};
 use blocks::{Ballot, CommitteeView, Id};
 use bytes::Bytes;
 use certificates::Verifier;
@@ -25,14 +28,16 @@ use replica_answers::answer;
 use replica_lines::{Outcome, Request as Asked};
 use stable_log::Disk;
 use std::alloc::{AllocError, Global};
+use std::io;
 use std::sync::Wait;
+use std::time::{Clock, Instant};
 use streams::MemorySink;
 use vote_desk::{Desk, DeskError, DeskNaming, Session};
 use vote_log::ExportError;
 
 /// A replica's desk as one caller sees it: each call is answered at once, by what the desk answers.
 #[derive(Drop)]
-pub struct Signer<'a, N: DeskNaming, R: Wait, D: Disk, V: Verifier> {
+pub struct Signer<'a, N: DeskNaming, R: Wait + Clock, D: Disk, V: Verifier> {
     rt: &'a R,
     alloc: Global,
     desk: &'a Desk<N, D>,
@@ -41,12 +46,13 @@ pub struct Signer<'a, N: DeskNaming, R: Wait, D: Disk, V: Verifier> {
     rules: &'a Rules,
     replica: u16,
     commits: &'a Commits<N>,
+    tallies: &'a Tallies,
     session: Session<N>,
     ghost committee_is: { committee.now ≡ N.committee },
     ghost replica_is: { replica ≡ N.replica },
 }
 
-impl<'a, N: DeskNaming, R: Wait, D: Disk, V: Verifier> Signer<'a, N, R, D, V> {
+impl<'a, N: DeskNaming, R: Wait + Clock, D: Disk, V: Verifier> Signer<'a, N, R, D, V> {
     /// The side of the caller of this session.
     pub fn new(
         rt: &'a R,
@@ -57,6 +63,7 @@ impl<'a, N: DeskNaming, R: Wait, D: Disk, V: Verifier> Signer<'a, N, R, D, V> {
         verifier: &'a V,
         rules: &'a Rules,
         commits: &'a Commits<N>,
+        tallies: &'a Tallies,
         session: Session<N>,
     ) -> Signer<'a, N, R, D, V>
         requires committee { committee.now ≡ N.committee }
@@ -73,6 +80,7 @@ impl<'a, N: DeskNaming, R: Wait, D: Disk, V: Verifier> Signer<'a, N, R, D, V> {
             rules,
             replica,
             commits,
+            tallies,
             session,
         }
     }
@@ -136,6 +144,28 @@ impl<'a, N: DeskNaming, R: Wait, D: Disk, V: Verifier> Signer<'a, N, R, D, V> {
         Some(outcome)
     }
 
+    // .. counted, with the time that a block takes.
+    fn counted_outcome_of(&mut self, asked: Asked) -> Option<Outcome>
+        ensures outcome { IsOutcomeOf D.Disk N.committee N.replica N.opening
+            self.old.rules.now.furthest asked result }
+        ensures receipts { self.new.session.receipts.items
+            ≡ receipts_told self.old.session.receipts.items result }
+        ensures rules { self.new.rules ≡ self.old.rules }
+    {
+        let is_block = is_block(&asked);
+        let began = Instant::now(self.rt);
+        let outcome = self.outcome_of(asked);
+        match &outcome {
+            Some(outcome) => self.tallies.count_outcome(self.rt, outcome),
+            None => self.tallies.count_refusal(self.rt, CallRefusal::Far),
+        }
+        if is_block {
+            self.tallies
+                .count_block(self.rt, micros_since(self.rt, began));
+        }
+        outcome
+    }
+
     // Does what is asked of the replica. Room for the answer is made first: behind that nothing fails.
     fn ask(&mut self, asked: Asked, response: &mut Response) -> Result<(), AllocError>
         requires { IsBlank response.old }
@@ -146,11 +176,29 @@ impl<'a, N: DeskNaming, R: Wait, D: Disk, V: Verifier> Signer<'a, N, R, D, V> {
         ensures err { OnErr result (self.new ≡ self.old) }
     {
         make_ready(response, Kind::Text)?;
-        match self.outcome_of(asked) {
+        match self.counted_outcome_of(asked) {
             Some(outcome) => tell_outcome(response, &outcome),
             None => tell_refused(response, CallRefusal::Far),
         }
         Ok(())
+    }
+
+    // Tells that something is not there.
+    fn tell_missing(&self, response: &mut Response, refusal: CallRefusal)
+        requires { IsReady (refusal_fields refusal) response.old }
+        ensures { IsRefusalTold refusal response.new }
+    {
+        self.tallies.count_refusal(self.rt, refusal);
+        tell_refused(response, refusal);
+    }
+
+    // Refuses a call of which nothing was done.
+    fn tell_refusal(&self, response: &mut Response, refusal: CallRefusal) -> Result<(), AllocError>
+        requires { IsBlank response.old }
+        ensures { OnOk result (IsRefusalTold refusal response.new) }
+    {
+        self.tallies.count_refusal(self.rt, refusal);
+        refuse(response, refusal)
     }
 
     // Tells the log's vote in a view.
@@ -162,7 +210,7 @@ impl<'a, N: DeskNaming, R: Wait, D: Disk, V: Verifier> Signer<'a, N, R, D, V> {
         make_ready(response, Kind::Text)?;
         match self.desk.vote_in(self.rt, view) {
             Ok(Some(receipt)) => tell_receipt(response, &receipt),
-            Ok(None) => tell_refused(response, CallRefusal::NoVote),
+            Ok(None) => self.tell_missing(response, CallRefusal::NoVote),
             Err(error) => tell_desk(response, DeskError::from(error)),
         }
         Ok(())
@@ -178,7 +226,7 @@ impl<'a, N: DeskNaming, R: Wait, D: Disk, V: Verifier> Signer<'a, N, R, D, V> {
         if self.desk.holds(self.rt, id) {
             tell_text(response, b"held\n");
         } else {
-            tell_refused(response, CallRefusal::NotHeld);
+            self.tell_missing(response, CallRefusal::NotHeld);
         }
         Ok(())
     }
@@ -224,6 +272,20 @@ impl<'a, N: DeskNaming, R: Wait, D: Disk, V: Verifier> Signer<'a, N, R, D, V> {
         Ok(())
     }
 
+    // Tells what was told since the start, and what the desk is at.
+    fn tell_desk_metrics(&self, response: &mut Response) -> Result<(), AllocError>
+        requires { IsBlank response.old }
+        ensures { OnOk result
+            (IsDeskMetricsTold D.Disk N.committee N.replica N.opening response.new) }
+    {
+        make_room(response, Kind::Metrics, METRICS_ROOM)?;
+        let numbers = self.tallies.numbers(self.rt);
+        let status = self.desk.status(self.rt);
+        let committed = self.commits.last(self.rt);
+        tell_metrics(response, &numbers, &status, &committed);
+        Ok(())
+    }
+
     // Does what a call asks for, and tells what came of it.
     fn do_call(&mut self, call: Call, response: &mut Response) -> Result<(), AllocError>
         requires { IsBlank response.old }
@@ -242,12 +304,13 @@ impl<'a, N: DeskNaming, R: Wait, D: Disk, V: Verifier> Signer<'a, N, R, D, V> {
             Call::Status => self.tell_desk_status(response),
             Call::Live => tell_live(response),
             Call::Health => self.tell_desk_health(response),
-            Call::Refused(refusal) => refuse(response, refusal),
+            Call::Metrics => self.tell_desk_metrics(response),
+            Call::Refused(refusal) => self.tell_refusal(response, refusal),
         }
     }
 }
 
-impl<'a, N: DeskNaming, R: Wait, D: Disk, V: Verifier> Service for Signer<'a, N, R, D, V> {
+impl<'a, N: DeskNaming, R: Wait + Clock, D: Disk, V: Verifier> Service for Signer<'a, N, R, D, V> {
     ghost answers = { λ old request response new.
         IsServed D.Disk N.committee N.replica N.opening old.rules.now
         old.session.receipts.items request response new.session.receipts.items
@@ -260,6 +323,24 @@ impl<'a, N: DeskNaming, R: Wait, D: Disk, V: Verifier> Service for Signer<'a, N,
     ) -> Result<(), AllocError> {
         let call = call_of(self.alloc, self.rules, request)?;
         self.do_call(call, response)
+    }
+}
+
+fn is_block(asked: &Asked) -> bool {
+    match asked {
+        Asked::Block(_, _) => true,
+        _ => false,
+    }
+}
+
+// How many microseconds have gone by, 0 where the clock fails.
+fn micros_since<R: Clock>(clock: &R, began: io::Result<Instant>) -> u64 {
+    let Ok(began) = began else {
+        return 0;
+    };
+    match began.elapsed(clock) {
+        Ok(gone) => u64::try_from(gone.as_micros()).unwrap_or(u64::MAX),
+        Err(_) => 0,
     }
 }
 

@@ -8,10 +8,9 @@ ghost use Rattle.signing_service.specs.Statuses.{IsStatusTold, ballot_text, comm
 ghost use Rattle.signing_service.specs.declared.writing.TheConstants.{ROOM};
 
 use crate::health::trouble_of;
-use crate::writing::{Kind, put, put_number};
+use crate::writing::{Kind, put, put_field, put_number};
 use blocks::{Ballot, CommitteeView, Id};
 use http_server::{Response, Rope};
-use itoa::Integer;
 use printed_lines::id_digits;
 use vote_desk::{DeskError, DeskStatus};
 
@@ -96,15 +95,6 @@ fn put_views(body: &mut Rope, status: &DeskStatus)
     put_field(body, b",\"vote_view\":\"", status.vote_view);
     put_field(body, b"\",\"stored_vote_view\":\"", status.stored_vote_view);
     put(body, b"\",\"lock\":");
-}
-
-fn put_field<I: Integer>(body: &mut Rope, words: &[u8], number: I)
-    requires { (length words.now ≤ 40) × (80 ≤ body.old.spare) }
-    ensures items { body.new.items ≡ body.old.items ++ (words.now ++ I.text number) }
-    ensures spare { body.old.spare ≤ body.new.spare + 80 }
-{
-    put(body, words);
-    put_number(body, number);
 }
 
 fn put_ballot(body: &mut Rope, view: u64, id: &Id)

@@ -11,4 +11,4 @@ returns-then-holds g c =
 pub returns-else-holds : goal.returns-else-holds
 returns-else-holds g c =
     let no = c.if-holds in
-    inr (also_so _ _ _ (λ d holds has. let yes = holds.1 has in search rules) c.holds.ensures, c.tell_refused.ensures)
+    inr (also_so _ _ _ (λ d holds has. let yes = holds.1 has in search rules) c.holds.ensures, c.tell_missing.ensures)

@@ -19,4 +19,4 @@ returns-in-Ok-None g c =
     let n = g.N.DeskNaming in
     let found : c.in-Ok-None.field-0 ≡ None = search rules in
     let none = subst (λ (f : Option Receipt). SomeOne g.D.Disk n.committee n.replica n.opening (λ d. IsVoteFound g.D.Disk.bytes n.replica d.log c.args.view f)) found c.in-Ok-None.ensures.ok in
-    inr (inl (none, c.tell_refused.ensures))
+    inr (inl (none, c.tell_missing.ensures))
