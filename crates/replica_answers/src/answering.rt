@@ -23,7 +23,8 @@ pub fn answer<N: DeskNaming, T: Wait, D: Disk, V: Verifier>(
 ) -> Outcome
     requires { committee.now ≡ N.committee }
     ensures answer { IsAnswerTo D.Disk N.committee N.replica N.opening request result }
-    ensures receipts { session.new.receipts.items ≡ receipts_after session.old.receipts.items result }
+    ensures receipts { session.new.receipts.items
+        ≡ receipts_after session.old.receipts.items result }
 {
     match request {
         Request::Block(header, certificate) => {
@@ -48,7 +49,8 @@ pub fn deliver<N: DeskNaming, T: Wait, D: Disk, V: Verifier>(
 ) -> Outcome
     requires { committee.now ≡ N.committee }
     ensures answer { IsAnswerToBlock D.Disk N.committee N.replica N.opening header certificate result }
-    ensures receipts { session.new.receipts.items ≡ receipts_after session.old.receipts.items result }
+    ensures receipts { session.new.receipts.items
+        ≡ receipts_after session.old.receipts.items result }
 {
     let block = match check_block(committee, verifier, header, certificate) {
         Ok(block) => block,

@@ -1,0 +1,183 @@
+-- What is answered to a call.
+use Rattle.std.specs.Prelude.{◌≡◌, ◌⊎◌, ◌<◌, ◌≤◌, ◌+◌, ◌++◌, ◌∷◌, [], ℕ, List, Option, Some, None, IfSome, IsTrue, codes, min}
+use Rattle.blocks.specs.Genesis.{genesis_of}
+use Rattle.blocks.specs.Replica.{Stored}
+use Rattle.blocks.specs.declared.ballot.Ballot.{Ballot}
+use Rattle.http.specs.declared.request.Request.{Request}
+use Rattle.http_server.specs.declared.response.Response.{Response}
+use Rattle.http_server.specs.Exchange.{Call as Exchanged}
+use Rattle.http_server.specs.Response.{IsResponse}
+use Rattle.stable_log.specs.declared.disk.Disk.{Ghosts}
+use Rattle.vote_log.specs.declared.export_error.ExportError.{ExportError}
+use Rattle.vote_log.specs.declared.export_error.ExportError.TheVariants as export
+use Rattle.vote_log.specs.declared.log_error.LogError.{LogError}
+use Rattle.vote_desk.specs.DeskRefusals.{from_log}
+use Rattle.vote_desk.specs.Desks.{DeskView, HoldsId, status_of}
+use Rattle.vote_desk.specs.Exports.{IsOut, RefusesExport}
+use Rattle.vote_desk.specs.SomeDesk.{IsDeskOf, SomeDesk, SomeDeskMoves}
+use Rattle.vote_desk.specs.Votes.{HasNoVote, IsVoteFound, RefusesVoteIn}
+use Rattle.vote_desk.specs.declared.desk.TheConstants.{MOST_FRAMES_AT_ONCE}
+use Rattle.vote_desk.specs.declared.desk_error.DeskError.{DeskError}
+use Rattle.vote_desk.specs.declared.desk_error.DeskError.TheVariants as desk
+use Rattle.vote_desk.specs.declared.parts.DeskStatus.{DeskStatus}
+use Rattle.vote_desk.specs.declared.reply.Answer.TheVariants.{Voted}
+use Rattle.vote_desk.specs.declared.reply.Receipt.{Receipt}
+use Rattle.replica_lines.specs.OutcomeLines.{answer_text}
+use Rattle.replica_lines.specs.declared.outcome.Outcome.{Outcome}
+use Rattle.replica_lines.specs.declared.outcome.Outcome.TheVariants as came
+use Rattle.replica_lines.specs.declared.request.Request.{Request as Asked}
+use Rattle.replica_lines.specs.declared.request.Request.TheVariants as asks
+use Rattle.replica_answers.specs.Answers.{IsAnswerTo}
+use Rattle.replica_answers.specs.SessionReceipts.{HasReceipt, receipts_after}
+use Rattle.signing_service.specs.Asking.{AsksFor}
+use Rattle.signing_service.specs.Commits.{IsCommitOf}
+use Rattle.signing_service.specs.Healths.{IsHealthTold}
+use Rattle.signing_service.specs.Judging.{IsJudgementTold}
+use Rattle.signing_service.specs.Metrics.{IsMetricsTold}
+use Rattle.signing_service.specs.Refusals.{IsRefusalTold}
+use Rattle.signing_service.specs.Responses.{IsLine, fields_of_kind}
+use Rattle.signing_service.specs.Statuses.{IsStatusTold}
+use Rattle.signing_service.specs.ToldLines.{desk_status, named_desk_line, outcome_status, told_line}
+use Rattle.signing_service.specs.declared.call.Call.{Call}
+use Rattle.signing_service.specs.declared.call.Call.TheVariants as call
+use Rattle.signing_service.specs.declared.call.CallRefusal.TheVariants as refused
+use Rattle.signing_service.specs.declared.log_part.LogPart.{LogPart}
+use Rattle.signing_service.specs.declared.rules.Rules.{Rules}
+use Rattle.signing_service.specs.declared.tallies.Numbers.{Numbers}
+use Rattle.signing_service.specs.declared.writing.Kind.TheVariants.{Octets}
+
+-- ---- lines
+
+-- the response tells this refusal of the desk
+abbrev pub IsDeskTold : DeskError → Response → Type 0
+IsDeskTold refusal response = IsLine (desk_status refusal) (named_desk_line refusal) response
+
+-- the response tells an outcome, or that the view lies too far ahead
+abbrev pub IsOutcomeTold : Option Outcome → Response → Type 0
+IsOutcomeTold (Some outcome) response = IsLine (outcome_status outcome) (told_line outcome) response
+IsOutcomeTold None response = IsRefusalTold refused.Far response
+
+-- the response tells a vote of the log
+abbrev pub IsReceiptTold : Receipt → Response → Type 0
+IsReceiptTold receipt response = IsLine 200 (answer_text (Voted receipt) ++ codes "\n") response
+
+-- the view of the parent of a block that is asked for
+abbrev pub parent_view_of : Asked → ℕ
+parent_view_of (asks.Block header certificate) = header.parent_view
+parent_view_of _ = 0
+
+-- the block that an outcome commits
+abbrev pub committed_by : Outcome → Option (List ℕ)
+committed_by (came.Replied reply) = reply.committed
+committed_by _ = None
+
+-- what a refused export means to a caller
+abbrev pub from_export : ExportError → DeskError
+from_export export.Stopped = desk.Stopped
+from_export export.Device = desk.Device
+from_export _ = desk.Memory
+
+-- the receipts of a session after what it was told
+abbrev pub receipts_told : List Receipt → Option Outcome → List Receipt
+receipts_told receipts (Some outcome) = receipts_after receipts outcome
+receipts_told receipts None = receipts
+
+-- ---- by some desk
+
+module _ {D : Type 0} (disk : Ghosts D) (committee : List ℕ) (replica : ℕ) (opening : List Stored) where
+  -- some desk of this committee, replica and opening list is so
+  abbrev pub SomeOne : (DeskView D → Type 0) → Type 0
+  SomeOne Is = SomeDesk (IsDeskOf disk committee replica opening) Is
+
+  -- some such desk moves so
+  abbrev pub SomeMove : ((old new : DeskView D) → Type 0) → Type 0
+  SomeMove Moves = SomeDeskMoves (IsDeskOf disk committee replica opening) Moves
+
+  -- the view of a block or a timeout lies too far above the vote view
+  abbrev pub IsFar : ℕ → Asked → Type 0
+  IsFar furthest (asks.Block header certificate) = SomeOne (λ d. d.core.state.vote_view + furthest < header.view)
+  IsFar furthest (asks.Timeout view) = SomeOne (λ d. d.core.state.vote_view + furthest < view)
+  IsFar furthest _ = ⊥
+
+  -- .. does not
+  abbrev pub IsNear : ℕ → Asked → Type 0
+  IsNear furthest (asks.Block header certificate) = SomeOne (λ d. header.view ≤ d.core.state.vote_view + furthest)
+  IsNear furthest (asks.Timeout view) = SomeOne (λ d. view ≤ d.core.state.vote_view + furthest)
+  IsNear furthest _ = Unit {0}
+
+  -- what comes of a block or a timeout; none where its view lies too far, and then nothing is delivered
+  abbrev pub IsOutcomeOf : ℕ → Asked → Option Outcome → Type 0
+  IsOutcomeOf furthest asked (Some outcome) = IsNear furthest asked × IsAnswerTo disk committee replica opening asked outcome
+  IsOutcomeOf furthest asked None = IsFar furthest asked
+
+  -- the log's vote in this view, or that there is none, or why it cannot be read
+  abbrev pub IsVoteTold : ℕ → Response → Type 0
+  IsVoteTold view response =
+      ((receipt : Receipt) × SomeOne (λ d. IsVoteFound disk.bytes replica d.log view (Some receipt)) × IsReceiptTold receipt response)
+      ⊎ (SomeOne (λ d. IsVoteFound disk.bytes replica d.log view None) × IsRefusalTold refused.NoVote response)
+      ⊎ ((e : LogError) × SomeMove (RefusesVoteIn disk view e) × IsDeskTold (from_log e) response)
+
+  -- whether the header of this id is held
+  abbrev pub IsHeaderTold : List ℕ → Response → Type 0
+  IsHeaderTold id response =
+      (SomeOne (λ d. HoldsId d id) × IsLine 200 (codes "held\n") response)
+      ⊎ (SomeOne (λ d. HoldsId d id → ⊥) × IsRefusalTold refused.NotHeld response)
+
+  -- the export of a part of some list, at most 64 entries, or why it cannot be read
+  abbrev pub IsPartTold : LogPart → Response → Type 0
+  IsPartTold part response =
+      ((text : List ℕ) × (frames : ℕ)
+      × SomeOne (λ d. IsOut disk.bytes d.log part.first (min part.most MOST_FRAMES_AT_ONCE) (Some []) (Some text) frames)
+      × IsResponse 200 (fields_of_kind Octets) text response)
+      ⊎ ((e : ExportError) × SomeMove (RefusesExport disk part.first (min part.most MOST_FRAMES_AT_ONCE) e) × IsDeskTold (from_export e) response)
+
+  -- how a desk is
+  abbrev pub IsDeskHealthTold : Response → Type 0
+  IsDeskHealthTold response = (status : DeskStatus) × SomeOne (λ d. status ≡ status_of d) × IsHealthTold status response
+
+  -- what a desk is at, and a block that some block commits, or none that is known
+  abbrev pub IsDeskStatusTold : Response → Type 0
+  IsDeskStatusTold response =
+      (status : DeskStatus) × (committed : Option Ballot) × SomeOne (λ d. status ≡ status_of d)
+      × IfSome committed (IsCommitOf (genesis_of committee)) × IsStatusTold committee replica status committed response
+
+  -- .. and some numbers of what was told
+  abbrev pub IsDeskMetricsTold : Response → Type 0
+  IsDeskMetricsTold response =
+      (numbers : Numbers) × (status : DeskStatus) × (committed : Option Ballot) × SomeOne (λ d. status ≡ status_of d)
+      × IfSome committed (IsCommitOf (genesis_of committee)) × IsMetricsTold numbers status committed response
+
+  -- ---- a call
+
+  -- what a call is told, and the outcome among it
+  abbrev pub IsCallTold : Rules → Call → Option Outcome → Response → Type 0
+  IsCallTold rules (call.Replica asked) told response = IsOutcomeOf rules.furthest asked told × IsOutcomeTold told response
+  IsCallTold rules (call.Judge vote) told response = (told ≡ None) × IsJudgementTold committee vote response
+  IsCallTold rules (call.VoteIn view) told response = (told ≡ None) × IsVoteTold view response
+  IsCallTold rules (call.Header id) told response = (told ≡ None) × IsHeaderTold id response
+  IsCallTold rules (call.Log part) told response = (told ≡ None) × IsPartTold part response
+  IsCallTold rules call.Status told response = (told ≡ None) × IsDeskStatusTold response
+  IsCallTold rules call.Live told response = (told ≡ None) × IsLine 200 (codes "ok\n") response
+  IsCallTold rules call.Health told response = (told ≡ None) × IsDeskHealthTold response
+  IsCallTold rules call.Metrics told response = (told ≡ None) × IsDeskMetricsTold response
+  IsCallTold rules (call.Refused refusal) told response = (told ≡ None) × IsRefusalTold refusal response
+
+  -- the response tells what the call is told, and the receipt of a vote is added to the session
+  pub record IsCallServed (rules : Rules) (asked : Call) (before : List Receipt) (response : Response) (after : List Receipt) : Type 0 where
+    pub told : Option Outcome
+    pub tells : IsCallTold rules asked told response
+    pub receipts : after ≡ receipts_told before told
+
+  -- .. to a request, by what it asks for
+  pub record IsServed (rules : Rules) (before : List Receipt) (request : Request (List ℕ)) (response : Response) (after : List Receipt) : Type 0 where
+    pub asked : Call
+    pub asks : AsksFor rules request asked
+    pub served : IsCallServed rules asked before response after
+
+  -- the response tells what the request's call is told, and the receipt of a vote is among these
+  pub record IsBacked (rules : Rules) (receipts : List Receipt) (exchanged : Exchanged) : Type 0 where
+    pub asked : Call
+    pub asks : AsksFor rules exchanged.0 asked
+    pub told : Option Outcome
+    pub tells : IsCallTold rules asked told exchanged.1
+    pub backed : IfSome told (HasReceipt receipts)

@@ -1,0 +1,15 @@
+pub mod Places
+pub mod Doors
+pub mod LogParts
+pub mod Asking
+pub mod Names
+pub mod Responses
+pub mod Refusals
+pub mod ToldLines
+pub mod Healths
+pub mod Judging
+pub mod Commits
+pub mod Statuses
+pub mod Tallies
+pub mod Metrics
+pub mod CallAnswers

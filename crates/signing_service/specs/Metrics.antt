@@ -1,0 +1,88 @@
+-- The metrics of a signer, as Prometheus reads them (text format 0.0.4). Each part begins where the one before ends its line.
+use Rattle.std.specs.Prelude.{◌++◌, ℕ, Bool, true, false, List, Option, Some, None, codes}
+use Rattle.blocks.specs.declared.ballot.Ballot.{Ballot}
+use Rattle.http_server.specs.declared.response.Response.{Response}
+use Rattle.http_server.specs.Response.{IsResponse}
+use Rattle.vote_desk.specs.declared.parts.DeskStatus.{DeskStatus}
+use Rattle.signing_service.specs.Responses.{field_text, fields_of_kind}
+use Rattle.signing_service.specs.declared.tallies.Numbers.{Numbers}
+use Rattle.signing_service.specs.declared.writing.Kind.TheVariants.{Metrics}
+
+-- the view, or 0
+abbrev pub committed_view : Option Ballot → ℕ
+committed_view (Some ballot) = ballot.view
+committed_view None = 0
+
+abbrev pub number_of : Bool → ℕ
+number_of true = 1
+number_of false = 0
+
+abbrev pub answers_text : Numbers → List ℕ
+answers_text numbers =
+    field_text (codes "# HELP hs_signer_answers_total What blocks and timeouts were answered.\n# TYPE hs_signer_answers_total counter\nhs_signer_answers_total{answer=\"voted\"} ") numbers.voted
+    ++ field_text (codes "\nhs_signer_answers_total{answer=\"raised\"} ") numbers.raised
+    ++ field_text (codes "\nhs_signer_answers_total{answer=\"held\"} ") numbers.held
+    ++ field_text (codes "\nhs_signer_answers_total{answer=\"timeout\"} ") numbers.timeouts
+
+abbrev pub refusals_text : Numbers → List ℕ
+refusals_text numbers =
+    field_text (codes "\nhs_signer_answers_total{answer=\"header\"} ") numbers.refused_headers
+    ++ field_text (codes "\nhs_signer_answers_total{answer=\"certificate\"} ") numbers.refused_certificates
+    ++ field_text (codes "\nhs_signer_answers_total{answer=\"block\"} ") numbers.refused_blocks
+    ++ field_text (codes "\nhs_signer_answers_total{answer=\"core\"} ") numbers.refused_by_core
+
+abbrev pub times_text : Numbers → List ℕ
+times_text numbers =
+    field_text (codes "\nhs_signer_answers_total{answer=\"desk\"} ") numbers.refused_by_desk
+    ++ field_text (codes "\n# HELP hs_signer_block_seconds How long blocks took, with their checks.\n# TYPE hs_signer_block_seconds summary\nhs_signer_block_seconds_sum ") numbers.block_micros
+    ++ field_text (codes "e-6\nhs_signer_block_seconds_count ") numbers.blocks
+
+abbrev pub calls_text : Numbers → List ℕ
+calls_text numbers =
+    field_text (codes "\n# HELP hs_signer_refused_calls_total Calls that were refused, by reason.\n# TYPE hs_signer_refused_calls_total counter\nhs_signer_refused_calls_total{reason=\"NoSuchCall\"} ") numbers.no_such_calls
+    ++ field_text (codes "\nhs_signer_refused_calls_total{reason=\"Method\"} ") numbers.wrong_methods
+    ++ field_text (codes "\nhs_signer_refused_calls_total{reason=\"Number\"} ") numbers.bad_numbers
+    ++ field_text (codes "\nhs_signer_refused_calls_total{reason=\"Host\"} ") numbers.bad_hosts
+
+abbrev pub doors_text : Numbers → List ℕ
+doors_text numbers =
+    field_text (codes "\nhs_signer_refused_calls_total{reason=\"Origin\"} ") numbers.origins
+    ++ field_text (codes "\nhs_signer_refused_calls_total{reason=\"ContentType\"} ") numbers.bad_content_types
+    ++ field_text (codes "\nhs_signer_refused_calls_total{reason=\"Far\"} ") numbers.far
+    ++ field_text (codes "\nhs_signer_refused_calls_total{reason=\"NoVote\"} ") numbers.no_votes
+
+abbrev pub arguments_text : Numbers → List ℕ
+arguments_text numbers =
+    field_text (codes "\nhs_signer_refused_calls_total{reason=\"Target\"} ") numbers.bad_targets
+    ++ field_text (codes "\nhs_signer_refused_calls_total{reason=\"NotHeld\"} ") numbers.not_held
+    ++ field_text (codes "\nhs_signer_refused_calls_total{reason=\"Length\"} ") numbers.bad_lengths
+
+abbrev pub views_text : DeskStatus → ℕ → List ℕ
+views_text status committed =
+    field_text (codes "\n# HELP hs_signer_vote_view The greatest view of a vote or a timeout.\n# TYPE hs_signer_vote_view gauge\nhs_signer_vote_view ") status.vote_view
+    ++ field_text (codes "\n# HELP hs_signer_lock_view The view of the locked block.\n# TYPE hs_signer_lock_view gauge\nhs_signer_lock_view ") status.lock.view
+    ++ field_text (codes "\n# HELP hs_signer_committed_view The greatest committed view that was told, or 0.\n# TYPE hs_signer_committed_view gauge\nhs_signer_committed_view ") committed
+    ++ field_text (codes "\n# HELP hs_signer_entries How many entries the log has.\n# TYPE hs_signer_entries gauge\nhs_signer_entries ") status.entries
+
+abbrev pub rooms_text : DeskStatus → ℕ → List ℕ
+rooms_text status stopped =
+    field_text (codes "\n# HELP hs_signer_entries_left How many more it has room for.\n# TYPE hs_signer_entries_left gauge\nhs_signer_entries_left ") status.left.entries
+    ++ field_text (codes "\n# HELP hs_signer_indices_left How many votes the keys can still sign.\n# TYPE hs_signer_indices_left gauge\nhs_signer_indices_left ") status.left.indices
+    ++ field_text (codes "\n# HELP hs_signer_headers How many headers are held.\n# TYPE hs_signer_headers gauge\nhs_signer_headers ") status.headers
+    ++ field_text (codes "\n# HELP hs_signer_stopped Whether a disk failed.\n# TYPE hs_signer_stopped gauge\nhs_signer_stopped ") stopped
+
+abbrev pub process_text : Numbers → List ℕ
+process_text numbers =
+    field_text (codes "\n# HELP hs_build_info The version of this program.\n# TYPE hs_build_info gauge\nhs_build_info{version=\"0.9.0\"} ") 1
+    ++ field_text (codes "\n# HELP process_start_time_seconds When the process began, in seconds since 1970.\n# TYPE process_start_time_seconds gauge\nprocess_start_time_seconds ") numbers.started
+
+-- the parts, one behind the other
+unfoldable pub metrics_text : Numbers → DeskStatus → (committed stopped : ℕ) → List ℕ
+metrics_text numbers status committed stopped =
+    answers_text numbers ++ refusals_text numbers ++ times_text numbers ++ calls_text numbers
+    ++ doors_text numbers ++ arguments_text numbers ++ views_text status committed
+    ++ rooms_text status stopped ++ process_text numbers ++ codes "\n"
+
+abbrev pub IsMetricsTold : Numbers → DeskStatus → Option Ballot → Response → Type 0
+IsMetricsTold numbers status committed response =
+    IsResponse 200 (fields_of_kind Metrics) (metrics_text numbers status (committed_view committed) (number_of status.stopped)) response

@@ -1,0 +1,55 @@
+-- What a desk tells of itself, as JSON. Views are texts, since some readers keep no whole number above 2^53.
+use Rattle.std.specs.Prelude.{◌++◌, ℕ, List, Option, Some, None, codes, decimal}
+use Rattle.hex.specs.Hex.{encode_lower}
+use Rattle.blocks.specs.Genesis.{chain_id_of}
+use Rattle.blocks.specs.declared.ballot.Ballot.{Ballot}
+use Rattle.http_server.specs.declared.response.Response.{Response}
+use Rattle.http_server.specs.Response.{IsResponse}
+use Rattle.vote_desk.specs.declared.desk_error.DeskError.{DeskError}
+use Rattle.vote_desk.specs.declared.desk_error.DeskError.TheVariants as desk
+use Rattle.vote_desk.specs.declared.parts.DeskStatus.{DeskStatus}
+use Rattle.signing_service.specs.Healths.{trouble_of}
+use Rattle.signing_service.specs.Responses.{field_text, fields_of_kind}
+use Rattle.signing_service.specs.declared.writing.Kind.TheVariants.{Json}
+
+-- a view and an id
+abbrev pub ballot_text : ℕ → List ℕ → List ℕ
+ballot_text view id = codes "{\"view\":\"" ++ decimal view ++ codes "\",\"id\":\"" ++ encode_lower id ++ codes "\"}"
+
+abbrev pub name_text : List ℕ → ℕ → List ℕ
+name_text chain replica =
+    codes "{\"format\":\"wezhgula-status-1\",\"chain\":\"" ++ encode_lower chain ++ codes "\",\"replica\":" ++ decimal replica
+
+-- why no block gets a vote, in a word
+abbrev pub state_name : Option DeskError → List ℕ
+state_name None = codes "voting"
+state_name (Some desk.LogFull) = codes "full"
+state_name (Some desk.KeySpent) = codes "spent"
+state_name (Some _) = codes "stopped"
+
+abbrev pub state_text : DeskStatus → List ℕ
+state_text status = codes ",\"state\":\"" ++ state_name (trouble_of status) ++ codes "\""
+
+abbrev pub views_text : DeskStatus → List ℕ
+views_text status =
+    field_text (codes ",\"vote_view\":\"") status.vote_view ++ field_text (codes "\",\"stored_vote_view\":\"") status.stored_vote_view
+    ++ codes "\",\"lock\":"
+
+abbrev pub counts_text : DeskStatus → List ℕ
+counts_text status =
+    field_text (codes ",\"headers\":") status.headers ++ field_text (codes ",\"entries\":") status.entries
+    ++ field_text (codes ",\"entries_left\":") status.left.entries ++ field_text (codes ",\"indices_left\":") status.left.indices
+
+abbrev pub committed_text : Option Ballot → List ℕ
+committed_text None = codes "null"
+committed_text (Some ballot) = ballot_text ballot.view ballot.id
+
+-- the parts, one behind the other
+abbrev pub status_text : List ℕ → ℕ → DeskStatus → Option Ballot → List ℕ
+status_text chain replica status committed =
+    name_text chain replica ++ state_text status ++ views_text status ++ ballot_text status.lock.view status.lock.id
+    ++ counts_text status ++ codes ",\"committed\":" ++ committed_text committed ++ codes "}\n"
+
+abbrev pub IsStatusTold : List ℕ → ℕ → DeskStatus → Option Ballot → Response → Type 0
+IsStatusTold committee replica status committed response =
+    IsResponse 200 (fields_of_kind Json) (status_text (chain_id_of committee) replica status committed) response

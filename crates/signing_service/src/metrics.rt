@@ -1,0 +1,294 @@
+//! The metrics of a signer, as Prometheus reads them.
+
+ghost use Rattle.std.specs.Prelude.{◌≡◌, ◌≤◌, ◌+◌, ◌++◌, []};
+ghost use Rattle.http_server.specs.Response.{IsResponse};
+ghost use Rattle.signing_service.specs.Metrics.{IsMetricsTold, committed_view, metrics_text, number_of, answers_text, refusals_text, times_text, calls_text, doors_text, arguments_text, views_text, rooms_text, process_text};
+ghost use Rattle.signing_service.specs.Responses.{HasRoom, fields_of_kind};
+
+use crate::tallies::Numbers;
+use crate::writing::{Kind, put, put_field};
+use blocks::Ballot;
+use http_server::{Response, Rope};
+use vote_desk::DeskStatus;
+
+// How much room the metrics take at the most.
+pub(crate) const METRICS_ROOM: usize = 12_288;
+
+// Tells the metrics.
+pub(crate) fn tell_metrics(
+    response: &mut Response,
+    numbers: &Numbers,
+    status: &DeskStatus,
+    committed: &Option<Ballot>,
+)
+    requires { HasRoom (fields_of_kind Kind.Metrics) METRICS_ROOM response.old }
+    ensures { IsMetricsTold numbers.now status.now committed.now response.new }
+{
+    put_metrics(
+        &mut response.body,
+        numbers,
+        status,
+        view_of(committed),
+        number_of(status.stopped),
+    );
+}
+
+#[tactic(auto, unfolding(crate::specs::Metrics::metrics_text))]
+fn put_metrics(body: &mut Rope, numbers: &Numbers, status: &DeskStatus, committed: u64, stopped: u8)
+    requires { (body.old.items ≡ []) × (METRICS_ROOM ≤ body.old.spare) }
+    ensures { body.new.items ≡ metrics_text numbers.now status.now committed stopped }
+{
+    put_answers(body, numbers);
+    put_refusals(body, numbers);
+    put_times(body, numbers);
+    put_calls(body, numbers);
+    put_doors(body, numbers);
+    put_arguments(body, numbers);
+    put_views(body, status, committed);
+    put_rooms(body, status, stopped);
+    put_process(body, numbers);
+    put(body, b"\n");
+}
+
+fn view_of(committed: &Option<Ballot>) -> u64
+    ensures { result ≡ committed_view committed.now }
+{
+    match committed {
+        Some(ballot) => ballot.view,
+        None => 0,
+    }
+}
+
+fn number_of(is_so: bool) -> u8
+    ensures { result ≡ number_of is_so }
+{
+    if is_so { 1 } else { 0 }
+}
+
+fn put_answers(body: &mut Rope, numbers: &Numbers)
+    requires { 1200 ≤ body.old.spare }
+    ensures items { body.new.items ≡ body.old.items
+        ++ answers_text numbers.now }
+    ensures spare { body.old.spare ≤ body.new.spare + 1200 }
+{
+    put_field(
+        body,
+        b"# HELP hs_signer_answers_total What blocks and timeouts were answered.\n# TYPE hs_signer_answers_total counter\nhs_signer_answers_total{answer=\"voted\"} ",
+        numbers.voted,
+    );
+    put_field(
+        body,
+        b"\nhs_signer_answers_total{answer=\"raised\"} ",
+        numbers.raised,
+    );
+    put_field(
+        body,
+        b"\nhs_signer_answers_total{answer=\"held\"} ",
+        numbers.held,
+    );
+    put_field(
+        body,
+        b"\nhs_signer_answers_total{answer=\"timeout\"} ",
+        numbers.timeouts,
+    );
+}
+
+fn put_refusals(body: &mut Rope, numbers: &Numbers)
+    requires { 1200 ≤ body.old.spare }
+    ensures items { body.new.items ≡ body.old.items
+        ++ refusals_text numbers.now }
+    ensures spare { body.old.spare ≤ body.new.spare + 1200 }
+{
+    put_field(
+        body,
+        b"\nhs_signer_answers_total{answer=\"header\"} ",
+        numbers.refused_headers,
+    );
+    put_field(
+        body,
+        b"\nhs_signer_answers_total{answer=\"certificate\"} ",
+        numbers.refused_certificates,
+    );
+    put_field(
+        body,
+        b"\nhs_signer_answers_total{answer=\"block\"} ",
+        numbers.refused_blocks,
+    );
+    put_field(
+        body,
+        b"\nhs_signer_answers_total{answer=\"core\"} ",
+        numbers.refused_by_core,
+    );
+}
+
+fn put_times(body: &mut Rope, numbers: &Numbers)
+    requires { 1200 ≤ body.old.spare }
+    ensures items { body.new.items ≡ body.old.items
+        ++ times_text numbers.now }
+    ensures spare { body.old.spare ≤ body.new.spare + 1200 }
+{
+    put_field(
+        body,
+        b"\nhs_signer_answers_total{answer=\"desk\"} ",
+        numbers.refused_by_desk,
+    );
+    put_field(
+        body,
+        b"\n# HELP hs_signer_block_seconds How long blocks took, with their checks.\n# TYPE hs_signer_block_seconds summary\nhs_signer_block_seconds_sum ",
+        numbers.block_micros,
+    );
+    put_field(body, b"e-6\nhs_signer_block_seconds_count ", numbers.blocks);
+}
+
+fn put_calls(body: &mut Rope, numbers: &Numbers)
+    requires { 1200 ≤ body.old.spare }
+    ensures items { body.new.items ≡ body.old.items
+        ++ calls_text numbers.now }
+    ensures spare { body.old.spare ≤ body.new.spare + 1200 }
+{
+    put_field(
+        body,
+        b"\n# HELP hs_signer_refused_calls_total Calls that were refused, by reason.\n# TYPE hs_signer_refused_calls_total counter\nhs_signer_refused_calls_total{reason=\"NoSuchCall\"} ",
+        numbers.no_such_calls,
+    );
+    put_field(
+        body,
+        b"\nhs_signer_refused_calls_total{reason=\"Method\"} ",
+        numbers.wrong_methods,
+    );
+    put_field(
+        body,
+        b"\nhs_signer_refused_calls_total{reason=\"Number\"} ",
+        numbers.bad_numbers,
+    );
+    put_field(
+        body,
+        b"\nhs_signer_refused_calls_total{reason=\"Host\"} ",
+        numbers.bad_hosts,
+    );
+}
+
+fn put_doors(body: &mut Rope, numbers: &Numbers)
+    requires { 1200 ≤ body.old.spare }
+    ensures items { body.new.items ≡ body.old.items
+        ++ doors_text numbers.now }
+    ensures spare { body.old.spare ≤ body.new.spare + 1200 }
+{
+    put_field(
+        body,
+        b"\nhs_signer_refused_calls_total{reason=\"Origin\"} ",
+        numbers.origins,
+    );
+    put_field(
+        body,
+        b"\nhs_signer_refused_calls_total{reason=\"ContentType\"} ",
+        numbers.bad_content_types,
+    );
+    put_field(
+        body,
+        b"\nhs_signer_refused_calls_total{reason=\"Far\"} ",
+        numbers.far,
+    );
+    put_field(
+        body,
+        b"\nhs_signer_refused_calls_total{reason=\"NoVote\"} ",
+        numbers.no_votes,
+    );
+}
+
+fn put_arguments(body: &mut Rope, numbers: &Numbers)
+    requires { 1200 ≤ body.old.spare }
+    ensures items { body.new.items ≡ body.old.items
+        ++ arguments_text numbers.now }
+    ensures spare { body.old.spare ≤ body.new.spare + 1200 }
+{
+    put_field(
+        body,
+        b"\nhs_signer_refused_calls_total{reason=\"Target\"} ",
+        numbers.bad_targets,
+    );
+    put_field(
+        body,
+        b"\nhs_signer_refused_calls_total{reason=\"NotHeld\"} ",
+        numbers.not_held,
+    );
+    put_field(
+        body,
+        b"\nhs_signer_refused_calls_total{reason=\"Length\"} ",
+        numbers.bad_lengths,
+    );
+}
+
+fn put_views(body: &mut Rope, status: &DeskStatus, committed: u64)
+    requires { 1200 ≤ body.old.spare }
+    ensures items { body.new.items ≡ body.old.items
+        ++ views_text status.now committed }
+    ensures spare { body.old.spare ≤ body.new.spare + 1200 }
+{
+    put_field(
+        body,
+        b"\n# HELP hs_signer_vote_view The greatest view of a vote or a timeout.\n# TYPE hs_signer_vote_view gauge\nhs_signer_vote_view ",
+        status.vote_view,
+    );
+    put_field(
+        body,
+        b"\n# HELP hs_signer_lock_view The view of the locked block.\n# TYPE hs_signer_lock_view gauge\nhs_signer_lock_view ",
+        status.lock.view,
+    );
+    put_field(
+        body,
+        b"\n# HELP hs_signer_committed_view The greatest committed view that was told, or 0.\n# TYPE hs_signer_committed_view gauge\nhs_signer_committed_view ",
+        committed,
+    );
+    put_field(
+        body,
+        b"\n# HELP hs_signer_entries How many entries the log has.\n# TYPE hs_signer_entries gauge\nhs_signer_entries ",
+        status.entries,
+    );
+}
+
+fn put_rooms(body: &mut Rope, status: &DeskStatus, stopped: u8)
+    requires { 1200 ≤ body.old.spare }
+    ensures items { body.new.items ≡ body.old.items
+        ++ rooms_text status.now stopped }
+    ensures spare { body.old.spare ≤ body.new.spare + 1200 }
+{
+    put_field(
+        body,
+        b"\n# HELP hs_signer_entries_left How many more it has room for.\n# TYPE hs_signer_entries_left gauge\nhs_signer_entries_left ",
+        status.left.entries,
+    );
+    put_field(
+        body,
+        b"\n# HELP hs_signer_indices_left How many votes the keys can still sign.\n# TYPE hs_signer_indices_left gauge\nhs_signer_indices_left ",
+        status.left.indices,
+    );
+    put_field(
+        body,
+        b"\n# HELP hs_signer_headers How many headers are held.\n# TYPE hs_signer_headers gauge\nhs_signer_headers ",
+        status.headers,
+    );
+    put_field(
+        body,
+        b"\n# HELP hs_signer_stopped Whether a disk failed.\n# TYPE hs_signer_stopped gauge\nhs_signer_stopped ",
+        stopped,
+    );
+}
+
+fn put_process(body: &mut Rope, numbers: &Numbers)
+    requires { 1200 ≤ body.old.spare }
+    ensures items { body.new.items ≡ body.old.items
+        ++ process_text numbers.now }
+    ensures spare { body.old.spare ≤ body.new.spare + 1200 }
+{
+    put_field(
+        body,
+        b"\n# HELP hs_build_info The version of this program.\n# TYPE hs_build_info gauge\nhs_build_info{version=\"0.9.0\"} ",
+        1u8,
+    );
+    put_field(
+        body,
+        b"\n# HELP process_start_time_seconds When the process began, in seconds since 1970.\n# TYPE process_start_time_seconds gauge\nprocess_start_time_seconds ",
+        numbers.started,
+    );
+}
