@@ -1,0 +1,24 @@
+//! A replica that answers calls: `hs_signer COMMITTEE R DIR ..`. docs/hs_signer.md is its manual page.
+#![tactic(auto)]
+
+use program_parts::run_main;
+use signer_command::{Host, run_signer};
+use std::io::{Stderr, Stdout};
+use std::process::ExitCode;
+use streams::{StdFeed, StdSink};
+
+fn main(rt: HostRuntime) -> ExitCode {
+    run_main(
+        &rt,
+        rt.stdout(),
+        rt.stderr(),
+        &|words: &[String], out: &mut StdSink<Stdout>, faults: &mut StdSink<Stderr>| {
+            let mut input = StdFeed::new(rt.stdin());
+            let host = Host {
+                rt: &rt,
+                alloc: rt.alloc(),
+            };
+            run_signer(&host, words, &mut input, out, faults)
+        },
+    )
+}

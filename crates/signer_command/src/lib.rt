@@ -1,0 +1,18 @@
+//! A replica that answers calls over HTTP: the words of its command line, its folder and its desk, where it listens, and
+//! threads that take connections, each with a session of its own. Needs threads that wait for one lock, sockets and a clock.
+#![tactic(auto)]
+
+mod announcing;
+mod fault;
+mod handing_out;
+mod link;
+mod listening;
+mod pace;
+mod pool;
+mod program;
+mod socket_file;
+mod stay;
+mod words;
+
+pub use fault::{Fault, SignerFault};
+pub use program::{Host, run_signer};

@@ -1,0 +1,132 @@
+//! A Unix socket at a path that callers know.
+
+use crate::listening::Listener;
+use std::alloc::{AllocError, Global};
+use std::fs::{DirBuilder, File, Files, Permissions};
+use std::io::ErrorKind;
+use std::net::Net;
+use std::os::unix::fs::{DirBuilderExt, FileTypeExt, PermissionsExt};
+use std::os::unix::net::{UnixListener, UnixStream};
+use std::{fs, io};
+
+/// The longest path that a Unix socket can be bound or found at, in bytes.
+const LONGEST_PATH: usize = 107;
+
+/// Who may connect: the signer's own user, or his group too.
+#[derive(Clone, Copy, Debug)]
+pub(crate) enum Callers {
+    Owner,
+    Group,
+}
+
+impl Callers {
+    fn mode(self) -> u32 {
+        match self {
+            Callers::Owner => 0o600,
+            Callers::Group => 0o660,
+        }
+    }
+}
+
+//// Why nothing listens at a path.
+#[derive(Clone, Copy, Debug)]
+pub(crate) enum SocketFault {
+    /// The path, or the one that the socket is made under, is longer than a socket's may be.
+    TooLong,
+    /// Something else stands there, or somebody answers there, or the system would not have it.
+    Taken,
+    /// Memory was refused.
+    Memory,
+}
+
+impl From<AllocError> for SocketFault {
+    ghost from_gives = { λ _ _. Unit {0} };
+
+    fn from(_refused: AllocError) -> SocketFault {
+        SocketFault::Memory
+    }
+}
+
+// Where a socket is made, before it has its name and its mode: in a folder that nobody else enters.
+#[derive(Drop)]
+struct Workshop {
+    folder: String,
+    socket: String,
+}
+
+impl Workshop {
+    fn beside(alloc: Global, path: &str) -> Result<Workshop, AllocError> {
+        Ok(Workshop {
+            folder: format!(in alloc; "{path}.new")?,
+            socket: format!(in alloc; "{path}.new/s")?,
+        })
+    }
+}
+
+/// Listens at a socket that has its mode before it has its name: what stands at the path is replaced only if it is a socket
+/// that nobody answers at. A folder that a kill left beside it is used again.
+pub(crate) fn listen_at<F: Files<File = File> + Net>(
+    files: &F,
+    alloc: Global,
+    path: &str,
+    callers: Callers,
+) -> Result<Listener, SocketFault> {
+    let shop = Workshop::beside(alloc, path)?;
+    if shop.socket.len() > LONGEST_PATH {
+        return Err(SocketFault::TooLong);
+    }
+    if !is_free(files, path) {
+        return Err(SocketFault::Taken);
+    }
+    match bind(files, &shop, path, callers) {
+        Ok(listener) => Ok(Listener::Unix(listener)),
+        Err(error) if error.kind() == ErrorKind::OutOfMemory => Err(SocketFault::Memory),
+        Err(_) => Err(SocketFault::Taken),
+    }
+}
+
+// Whether nothing stands at the path, or a socket that nobody answers at.
+fn is_free<F: Files<File = File> + Net>(files: &F, path: &str) -> bool {
+    match fs::symlink_metadata(files, path) {
+        Ok(found) => {
+            found.file_type().is_socket()
+                && matches!(UnixStream::connect(files, path),
+                Err(error) if error.kind() == ErrorKind::ConnectionRefused)
+        }
+        Err(error) => error.kind() == ErrorKind::NotFound,
+    }
+}
+
+fn bind<F: Files<File = File> + Net>(
+    files: &F,
+    shop: &Workshop,
+    path: &str,
+    callers: Callers,
+) -> io::Result<UnixListener> {
+    make_folder(files, &shop.folder)?;
+    if let Err(error) = fs::remove_file(files, &shop.socket)
+        && error.kind() != ErrorKind::NotFound
+    {
+        return Err(error);
+    }
+    let listener = UnixListener::bind(files, &shop.socket)?;
+    fs::set_permissions(files, &shop.socket, Permissions::from_mode(callers.mode()))?;
+    fs::rename(files, &shop.socket, path)?;
+    fs::remove_dir(files, &shop.folder)?;
+    Ok(listener)
+}
+
+// A folder that only its owner enters, also where one was left.
+fn make_folder<F: Files<File = File>>(files: &F, path: &str) -> io::Result<()> {
+    let mut builder = DirBuilder::new();
+    builder.mode(0o700);
+    match builder.create(files, path) {
+        Err(error) if error.kind() == ErrorKind::AlreadyExists => {
+            if !fs::symlink_metadata(files, path)?.is_dir() {
+                return Err(error);
+            }
+            fs::set_permissions(files, path, Permissions::from_mode(0o700))
+        }
+        outcome => outcome,
+    }
+}
