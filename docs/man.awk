@@ -9,6 +9,7 @@ BEGIN {
     about["hs_check"] = "judge whether a verdict proves that a replica broke a voting rule"
     about["hs_show"] = "show what stands in a file of a committee, a verdict or a log"
     about["hs_draw"] = "draw what logs show and whom they accuse"
+    about["hs_signer"] = "answer a ledger that asks a replica for votes"
 }
 
 NR == 1 { begin_page($0); next }
