@@ -1,14 +1,17 @@
 -- The lines that commands print.
-use Rattle.std.specs.Prelude.{◌≡◌, ◌⊎◌, ℕ, List, ◌++◌, Option, Ok, codes, decimal, length}
+use Rattle.std.specs.Prelude.{◌≡◌, ◌⊎◌, ℕ, List, ◌++◌, IfSome, Option, Ok, codes, decimal, length}
 use Rattle.std.specs.List.{AllZip}
 use Rattle.hex.specs.Hex.{decode_of, encode_lower}
 use Rattle.streams.specs.Streams.{Wrote}
 use Rattle.blocks.specs.Committees.{IsCommittee, Member, committee_text, multikey_text, weighted_text}
 use Rattle.blocks.specs.Genesis.{chain_id_of, genesis_of}
+use Rattle.blocks.specs.Headers.{Header}
+use Rattle.blocks.specs.Replay.{IsLegal}
 use Rattle.key_files.specs.KeyFiles.{key_line}
+use Rattle.stable_log.specs.State.{JournalState}
+use Rattle.stable_log.specs.declared.disk.Disk.{Ghosts}
 use Rattle.vote_log.specs.Logs.{LogState}
-use Rattle.vote_log.specs.Migrations.{IsRunningLog}
-use Rattle.stable_log.specs.declared.file_disk.FileDisk.{FileDisk}
+use Rattle.vote_log.specs.Migrations.{AreCarriedOver, IsRunningLog}
 use Rattle.tool_words.specs.declared.command.WeightedReplica.{WeightedReplica}
 
 -- ---- keys
@@ -50,17 +53,23 @@ IsTextOfReplicas replicas bytes =
 
 -- ---- logs
 
--- a log of this committee's chain runs, with so many entries
-abbrev pub IsCarriedLog : List ℕ → ℕ → Type 0
-IsCarriedLog committee count = (log : LogState FileDisk) × IsRunningLog (genesis_of committee) count log
+-- the entries of a journal stand in a log over this genesis, which runs, has as many and is legal; where both disks tell
+-- their bytes they are just what the journal's payloads spell
+pub record IsCarriedOver {D : Type 0} (disk : Ghosts D) (genesis : Header) (old : JournalState D) (empty : D) (log : LogState D) : Type 0 where
+  pub runs : IsRunningLog genesis (length old.payloads) log
+  pub legal : IsLegal genesis log.steps
+  pub same : IfSome (disk.bytes old.disk) (λ _. IfSome (disk.bytes empty) (λ _. AreCarriedOver old.payloads log.entries))
 
 -- "migrated COUNT"
 abbrev pub migrated_line : ℕ → List ℕ
 migrated_line count = codes "migrated " ++ (decimal count ++ codes "\n")
 
-pub record IsMigrationPrinted (before after : Option (List ℕ)) : Type 0 where
+-- of as many entries as a journal has that was carried over to a log of a committee's chain
+pub record IsMigrationPrinted {D : Type 0} (disk : Ghosts D) (before after : Option (List ℕ)) : Type 0 where
   pub committee : List ℕ
-  pub count : ℕ
   pub is_committee : IsCommittee committee
-  pub log : IsCarriedLog committee count
-  pub wrote : Wrote before after (migrated_line count)
+  pub old : JournalState D
+  pub empty : D
+  pub log : LogState D
+  pub carried : IsCarriedOver disk (genesis_of committee) old empty log
+  pub wrote : Wrote before after (migrated_line (length old.payloads))

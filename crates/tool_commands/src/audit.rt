@@ -1,6 +1,6 @@
 //! `hs_tool audit COMMITTEE OUTDIR SOURCE.. [--tries T]`: what logs prove, and whom they accuse.
 
-ghost use Rattle.std.specs.Prelude.{◌≡◌, ◌≢◌, [], false, true, IfErr, IfOk, map};
+ghost use Rattle.std.specs.Prelude.{◌≡◌, ◌≢◌, [], false, true, IfErr, IfOk};
 ghost use Rattle.std.specs.List.{All};
 ghost use Rattle.parallel_verify.specs.Collections.{MayBeTried};
 ghost use Rattle.tool_commands.specs.Audits.{AreCulpritsPrinted, IsAuditOfWords, IsAuditPrinted};
@@ -14,7 +14,7 @@ use crate::sources::{open_sources, read_source_words};
 use blocks::CommitteeView;
 use certificates::Verifier;
 use culprit_search::{Report, Verdict};
-use log_transfer::Connector;
+use log_transfer::{Connector, SourceConnector};
 use parallel_verify::Source;
 use program_parts::{ProgramFault, parse_committee, read_committee};
 use source_audit::audit_run_of;
@@ -47,9 +47,11 @@ pub fn audit_sources<
 where
     F::Dir: Send,
     ensures culprits { IfOk result (λ found. found ≡ true
-        → AreCulpritsPrinted words.now (W.text out.old) (W.text out.new)) }
+        → AreCulpritsPrinted ⟦<SourceConnector<'a, T, F> as Connector>⟧ words.now tries.count
+        (W.text out.old) (W.text out.new)) }
     ensures none { IfOk result (λ found. found ≡ false
-        → IsAuditOfWords words.now (W.text out.old) (W.text out.new) []) }
+        → IsAuditOfWords ⟦<SourceConnector<'a, T, F> as Connector>⟧ words.now tries.count
+        (W.text out.old) (W.text out.new) []) }
     ensures counted { CountsWrites result (W.failed out.old) (W.failed out.new) }
 {
     let sources = read_source_words(host.alloc, words)?;
@@ -73,7 +75,7 @@ fn print_report<'a, T: Threads + Wait + Sync, C: Connector + Send, V: Verifier +
 ) -> Result<Report, Fault<'a>>
     requires tries { All (MayBeTried C.allowed) sources.items }
     ensures printed { IfOk result (λ report.
-        IsAuditPrinted committee.now (map (λ s. s.replica) sources.items) (W.text out.old)
+        IsAuditPrinted C.Connector committee.now sources.items (W.text out.old)
         (W.text out.new) report.verdicts) }
     ensures counted { CountsWrites result (W.failed out.old) (W.failed out.new) }
 {

@@ -1,18 +1,16 @@
 //! `hs_tool migrate OLD NEW COMMITTEE`: a log from before votes named their keys, carried over to the form of today.
 
-ghost use Rattle.std.specs.Prelude.{◌≡◌, ◌≢◌, IfErr, IfOk, OnOk};
+ghost use Rattle.std.specs.Prelude.{◌≡◌, ◌≢◌, IfErr, IfOk, OnOk, length};
 ghost use Rattle.blocks.specs.Headers.{IsGenesis};
-ghost use Rattle.stable_log.specs.declared.file_disk.FileDisk.{FileDisk as FileDiskValue};
 ghost use Rattle.vote_log.specs.Logs.{LogState};
-ghost use Rattle.vote_log.specs.Migrations.{IsRunningLog};
 ghost use Rattle.program_parts.specs.Writes.{CountsWrites};
-ghost use Rattle.tool_commands.specs.Lines.{IsMigrationPrinted, migrated_line as migrated_text};
+ghost use Rattle.tool_commands.specs.Lines.{IsCarriedOver, IsMigrationPrinted, migrated_line as migrated_text};
 
 use crate::fault::{Fault, ToolFault};
 use blocks::Header;
 use printed_lines::put_number;
 use program_parts::{ProgramFault, parse_committee, read_committee};
-use stable_log::{FileDisk, Journal, JournalError};
+use stable_log::{Disk, FileDisk, Journal, JournalError};
 use std::alloc::{AllocError, Global};
 use std::fs;
 use std::fs::{File, Files, OpenOptions};
@@ -34,7 +32,8 @@ pub fn migrate_log<'a, F: Files<File = File>, W: Sink>(
     path: &'a str,
     out: &mut W,
 ) -> Result<(), Fault<'a>>
-    ensures printed { OnOk result (IsMigrationPrinted (W.text out.old) (W.text out.new)) }
+    ensures printed { OnOk result (IsMigrationPrinted ⟦<FileDisk as Disk>⟧ (W.text out.old)
+        (W.text out.new)) }
     ensures counted { CountsWrites result (W.failed out.old) (W.failed out.new) }
 {
     let log = open_old(rt, alloc, old)?;
@@ -98,20 +97,24 @@ fn make_new<'a, F: Files<File = File>>(rt: &F, path: &'a str) -> Result<FileDisk
     }
 }
 
-// How many entries were carried over.
-fn carry<'a>(
+// How many entries were carried over: all of the old journal.
+fn carry<'a, D: Disk>(
     alloc: Global,
-    old: Journal<FileDisk>,
-    disk: FileDisk,
+    old: Journal<D>,
+    disk: D,
     genesis: Header,
 ) -> Result<usize, Fault<'a>>
     requires { IsGenesis genesis }
-    ensures log { IfOk result (λ count. (log : LogState FileDiskValue)
-        × IsRunningLog genesis count log) }
+    ensures log { IfOk result (λ count. (count ≡ length old.payloads)
+        × (log : LogState D) × IsCarriedOver D.Disk genesis old disk log) }
     ensures fault { IfErr result (λ fault. fault ≢ ProgramFault.Output) }
 {
     match migrate(alloc, old, disk, genesis) {
-        Ok((log, _)) => Ok(log.count()),
+        Ok((log, _)) => {
+            // For the proof: a log is legal.
+            let _steps = log.steps();
+            Ok(log.count())
+        }
         Err((LogError::Memory, _, _)) => Err(Fault::Memory),
         Err((refusal, _, _)) => Err(Fault::Own(ToolFault::Store(refusal.number()))),
     }

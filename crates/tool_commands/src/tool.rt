@@ -1,12 +1,11 @@
 //! The tool over handed-in words and streams, so that tests run it whole.
 
-ghost use Rattle.std.specs.Prelude.{◌≡◌, ◌≢◌, ◌⊎◌, ◌↔◌, ℕ, List, IfOk};
-ghost use Rattle.std.specs.Borrow.{Bor};
+ghost use Rattle.std.specs.Prelude.{◌≡◌, ◌≢◌, ◌⊎◌, ◌↔◌, IfOk};
 ghost use Rattle.program_parts.specs.Writes.{CountsWrites};
+ghost use Rattle.tool_words.specs.Commands.{IsAskedBy};
 ghost use Rattle.tool_words.specs.declared.command.Command.{Command as CommandValue};
-ghost use Rattle.tool_commands.specs.Audits.{AreCulpritsPrinted};
-ghost use Rattle.tool_commands.specs.Commands.{IsDone};
-ghost use Rattle.tool_commands.specs.Stays.{AreReadOf, IsStopPrinted};
+ghost use Rattle.tool_commands.specs.Commands.{AreCulpritsFound, IsDone, IsStopped};
+ghost use Rattle.tool_commands.specs.Stays.{AreReadOf};
 ghost use Rattle.tool_commands.specs.Writes.{TellsFault};
 
 use crate::audit::audit_sources;
@@ -16,6 +15,7 @@ use crate::host::Host;
 use crate::keygen::keygen;
 use crate::migrate::migrate_log;
 use crate::replica::replica;
+use log_transfer::{Connector, SourceConnector};
 use program_parts::FAULT;
 use replica_command::Ending;
 use stable_log::{Disk, FileDisk};
@@ -47,24 +47,26 @@ hs_tool migrate OLD NEW COMMITTEE
 /// a disk failed under a replica, the facts say it, and there is no fault's line with `FAULT`. The words stand without the
 /// program's name; only `replica` reads `lines`.
 pub fn run_tool<
+    'a,
     F: Files<File = File> + Sync,
     T: Threads + Wait + Clock + Net<Listener = TcpListener, Stream = TcpStream> + Sync,
     R: Feed,
     W: Sink,
     E: Sink,
->(host: &Host<F, T>, words: &[String], lines: &mut R, out: &mut W, faults: &mut E) -> u8
+>(host: &Host<'a, F, T>, words: &[String], lines: &mut R, out: &mut W, faults: &mut E) -> u8
 where
     F::Dir: Send,
     ensures status { (result ≡ 0) ⊎ (result ≡ 2) ⊎ (result ≡ 3) }
-    ensures done { result ≡ 0 → (command : CommandValue)
-        × IsDone ⟦<FileDisk as Disk>⟧ (AreReadOf R.Feed lines.old lines.new)
-        command (W.text out.old) (W.text out.new) }
-    ensures culprits { result ≡ 3 → (words : List (Bor (List ℕ)))
-        × AreCulpritsPrinted words (W.text out.old) (W.text out.new) }
+    ensures done { result ≡ 0 → (command : CommandValue) × IsAskedBy words.now command
+        × IsDone ⟦<FileDisk as Disk>⟧ ⟦<SourceConnector<'a, T, F> as Connector>⟧
+        (AreReadOf R.Feed lines.old lines.new) command (W.text out.old) (W.text out.new) }
+    ensures culprits { result ≡ 3 → (command : CommandValue) × IsAskedBy words.now command
+        × AreCulpritsFound ⟦<SourceConnector<'a, T, F> as Connector>⟧ command
+        (W.text out.old) (W.text out.new) }
     ensures quiet { result ≢ 2 → (faults.new ≡ faults.old) × (W.failed out.new ≡ W.failed out.old) }
     ensures told { result ≡ 2 → ((faults.new ≡ faults.old) × (W.failed out.new ≡ W.failed out.old)
-        × (replica : ℕ) × IsStopPrinted ⟦<FileDisk as Disk>⟧ (AreReadOf R.Feed lines.old lines.new)
-        replica (W.text out.old) (W.text out.new))
+        × (command : CommandValue) × IsAskedBy words.now command × IsStopped ⟦<FileDisk as Disk>⟧
+        (AreReadOf R.Feed lines.old lines.new) command (W.text out.old) (W.text out.new))
         ⊎ TellsFault (E.text faults.old) (E.text faults.new) (E.failed faults.old)
         (E.failed faults.new) (W.failed out.old) (W.failed out.new) }
 {
@@ -125,14 +127,17 @@ fn run<
 where
     F::Dir: Send,
     ensures done { IfOk result (λ ended. ended ≡ Ended.Done → (command : CommandValue)
-        × IsDone ⟦<FileDisk as Disk>⟧ (AreReadOf R.Feed lines.old lines.new)
+        × IsAskedBy words.now command
+        × IsDone ⟦<FileDisk as Disk>⟧ ⟦<SourceConnector<'a, T, F> as Connector>⟧
+        (AreReadOf R.Feed lines.old lines.new) command (W.text out.old) (W.text out.new)) }
+    ensures culprits { IfOk result (λ ended. ended ≡ Ended.Culprits → (command : CommandValue)
+        × IsAskedBy words.now command
+        × AreCulpritsFound ⟦<SourceConnector<'a, T, F> as Connector>⟧ command
+        (W.text out.old) (W.text out.new)) }
+    ensures stopped { IfOk result (λ ended. ended ≡ Ended.Stopped → (command : CommandValue)
+        × IsAskedBy words.now command
+        × IsStopped ⟦<FileDisk as Disk>⟧ (AreReadOf R.Feed lines.old lines.new)
         command (W.text out.old) (W.text out.new)) }
-    ensures culprits { IfOk result (λ ended. ended ≡ Ended.Culprits
-        → (words : List (Bor (List ℕ)))
-        × AreCulpritsPrinted words (W.text out.old) (W.text out.new)) }
-    ensures stopped { IfOk result (λ ended. ended ≡ Ended.Stopped → (replica : ℕ)
-        × IsStopPrinted ⟦<FileDisk as Disk>⟧ (AreReadOf R.Feed lines.old lines.new)
-        replica (W.text out.old) (W.text out.new)) }
     ensures counted { CountsWrites result (W.failed out.old) (W.failed out.new) }
 {
     match read_words(host.alloc, words) {
@@ -157,14 +162,14 @@ fn done<
 where
     F::Dir: Send,
     ensures done { IfOk result (λ ended. ended ≡ Ended.Done
-        → IsDone ⟦<FileDisk as Disk>⟧ (AreReadOf R.Feed lines.old lines.new)
-        command.now (W.text out.old) (W.text out.new)) }
+        → IsDone ⟦<FileDisk as Disk>⟧ ⟦<SourceConnector<'a, T, F> as Connector>⟧
+        (AreReadOf R.Feed lines.old lines.new) command.now (W.text out.old) (W.text out.new)) }
     ensures culprits { IfOk result (λ ended. ended ≡ Ended.Culprits
-        → (words : List (Bor (List ℕ)))
-        × AreCulpritsPrinted words (W.text out.old) (W.text out.new)) }
-    ensures stopped { IfOk result (λ ended. ended ≡ Ended.Stopped → (replica : ℕ)
-        × IsStopPrinted ⟦<FileDisk as Disk>⟧ (AreReadOf R.Feed lines.old lines.new)
-        replica (W.text out.old) (W.text out.new)) }
+        → AreCulpritsFound ⟦<SourceConnector<'a, T, F> as Connector>⟧ command.now
+        (W.text out.old) (W.text out.new)) }
+    ensures stopped { IfOk result (λ ended. ended ≡ Ended.Stopped
+        → IsStopped ⟦<FileDisk as Disk>⟧ (AreReadOf R.Feed lines.old lines.new)
+        command.now (W.text out.old) (W.text out.new)) }
     ensures counted { CountsWrites result (W.failed out.old) (W.failed out.new) }
 {
     let (files, alloc) = (host.files, host.alloc);

@@ -1,9 +1,9 @@
--- The numbers and counts of what words ask for.
-use Rattle.std.specs.Prelude.{◌≡◌, ◌≤◌, ◌+◌, ◌*◌, length, ⊤}
+-- What words ask for: its numbers and counts, and when it is how the program is called.
+use Rattle.std.specs.Prelude.{◌≡◌, ◌≤◌, ◌↔◌, ◌+◌, ◌*◌, List, [], length, ⊤}
 use Rattle.std.specs.List.{All}
 use Rattle.tool_words.specs.declared.command.WeightedReplica.{WeightedReplica}
 use Rattle.tool_words.specs.declared.command.Command.{Command}
-use Rattle.tool_words.specs.declared.command.Command.TheVariants.{Usage, Keygen, Committee, Weighted, Replica, Audit, Migrate}
+use Rattle.tool_words.specs.declared.command.Command.TheVariants.{Usage, Committee, Weighted}
 
 -- a weight, and one to four keys
 pub record IsWeighted (r : WeightedReplica) : Type 0 where
@@ -16,3 +16,8 @@ abbrev pub HasItsCounts : Command → Type 0
 HasItsCounts (Committee f out keys) = (1 ≤ f) × (f ≤ 10) × (length keys.items ≡ 3 * f + 1)
 HasItsCounts (Weighted out replicas) = (4 ≤ length replicas.items) × (length replicas.items ≤ 31) × All IsWeighted replicas.items
 HasItsCounts command = ⊤
+
+-- just no words ask how the program is called
+pub record IsAskedBy {W : Type 0} (words : List W) (command : Command) : Type 0 where
+  pub usage : command ≡ Usage ↔ words ≡ []
+  pub counts : HasItsCounts command

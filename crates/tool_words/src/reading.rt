@@ -1,8 +1,8 @@
 //! From words to what they ask for.
 
-ghost use Rattle.std.specs.Prelude.{◌≡◌, ◌≤◌, ◌<◌, ◌^◌, ℕ, IfOk, MatchOption, decimal};
+ghost use Rattle.std.specs.Prelude.{◌≡◌, ◌≢◌, ◌≤◌, ◌<◌, ◌^◌, [], ℕ, IfOk, MatchOption, Ok, decimal};
 ghost use Rattle.program_parts.specs.Words.{SpellsNumber};
-ghost use Rattle.tool_words.specs.Commands.{HasItsCounts, IsWeighted};
+ghost use Rattle.tool_words.specs.Commands.{HasItsCounts, IsAskedBy, IsWeighted};
 
 use crate::command::{Command, Requests, Service, Tries, WeightedReplica, Workers};
 use crate::grammar::parsed;
@@ -45,7 +45,8 @@ impl<T: Drop> From<AllocFailed<T>> for WordsFault {
 /// Reads the words, without the program's name. Refused as usage where they are not written as
 /// docs/hs_tool.md says.
 pub fn read_words<'a>(alloc: Global, words: &'a [String]) -> Result<Command<'a>, WordsFault>
-    ensures { IfOk result HasItsCounts }
+    ensures asked { IfOk result (IsAskedBy words.now) }
+    ensures usage { words.now ≡ [] → result ≡ Ok Command.Usage }
 {
     if words.is_empty() {
         return Ok(Command::Usage);
@@ -62,7 +63,8 @@ pub fn read_words<'a>(alloc: Global, words: &'a [String]) -> Result<Command<'a>,
 }
 
 fn command<'a>(alloc: Global, matches: &ArgMatches<'a>) -> Result<Command<'a>, WordsFault>
-    ensures { IfOk result HasItsCounts }
+    ensures asked { IfOk result (λ command. command ≢ Command.Usage) }
+    ensures counts { IfOk result HasItsCounts }
 {
     match matches.subcommand() {
         Some(("keygen", given)) => keygen(given),
@@ -76,7 +78,8 @@ fn command<'a>(alloc: Global, matches: &ArgMatches<'a>) -> Result<Command<'a>, W
 }
 
 fn keygen<'a>(given: &ArgMatches<'a>) -> Result<Command<'a>, WordsFault>
-    ensures { IfOk result HasItsCounts }
+    ensures asked { IfOk result (λ command. command ≢ Command.Usage) }
+    ensures counts { IfOk result HasItsCounts }
 {
     let (Some(seed), Some(folder)) = (given.get_str("SEED"), given.get_str("DIR")) else {
         return Err(WordsFault::Usage);
@@ -106,7 +109,8 @@ fn key_number(word: Option<&str>) -> Result<KeyNumber, WordsFault> {
 
 // F of 1 to 10, and 3F + 1 key files.
 fn committee<'a>(alloc: Global, given: &ArgMatches<'a>) -> Result<Command<'a>, WordsFault>
-    ensures { IfOk result HasItsCounts }
+    ensures asked { IfOk result (λ command. command ≢ Command.Usage) }
+    ensures counts { IfOk result HasItsCounts }
 {
     let (Some(f), Some(out), Some(keys)) = (
         given.get_str("F"),
@@ -130,7 +134,8 @@ fn committee<'a>(alloc: Global, given: &ArgMatches<'a>) -> Result<Command<'a>, W
 
 // 4 to 31 replicas, each with its weight and its key files.
 fn weighted<'a>(alloc: Global, given: &ArgMatches<'a>) -> Result<Command<'a>, WordsFault>
-    ensures { IfOk result HasItsCounts }
+    ensures asked { IfOk result (λ command. command ≢ Command.Usage) }
+    ensures counts { IfOk result HasItsCounts }
 {
     let (Some(out), Some(words)) = (given.get_str("OUT"), given.get_strs("KEY")) else {
         return Err(WordsFault::Usage);
@@ -171,7 +176,8 @@ fn weighted_replica<'a>(alloc: Global, word: &'a str) -> Result<WeightedReplica<
 
 // R below 65,536; one worker, and one request, where no number is said.
 fn replica<'a>(given: &ArgMatches<'a>) -> Result<Command<'a>, WordsFault>
-    ensures { IfOk result HasItsCounts }
+    ensures asked { IfOk result (λ command. command ≢ Command.Usage) }
+    ensures counts { IfOk result HasItsCounts }
 {
     let (Some(committee), Some(replica), Some(folder)) = (
         given.get_str("COMMITTEE"),
@@ -213,7 +219,8 @@ fn service<'a>(
 
 // None or more sources, and three tries where no number is said. What a source's word says is not judged here.
 fn audit<'a>(alloc: Global, given: &ArgMatches<'a>) -> Result<Command<'a>, WordsFault>
-    ensures { IfOk result HasItsCounts }
+    ensures asked { IfOk result (λ command. command ≢ Command.Usage) }
+    ensures counts { IfOk result HasItsCounts }
 {
     let (Some(committee), Some(folder)) = (given.get_str("COMMITTEE"), given.get_str("OUTDIR"))
     else {
@@ -238,7 +245,8 @@ fn audit<'a>(alloc: Global, given: &ArgMatches<'a>) -> Result<Command<'a>, Words
 }
 
 fn migrate<'a>(given: &ArgMatches<'a>) -> Result<Command<'a>, WordsFault>
-    ensures { IfOk result HasItsCounts }
+    ensures asked { IfOk result (λ command. command ≢ Command.Usage) }
+    ensures counts { IfOk result HasItsCounts }
 {
     let (Some(old), Some(new), Some(committee)) = (
         given.get_str("OLD"),

@@ -1,5 +1,5 @@
 use Rattle.std.proofs.Common.{◌≡◌, ◌++◌, ◌∷◌, [], rules}
-use Rattle.tool_commands.proofs.Replicas.{opened_more}
+use Rattle.tool_commands.proofs.Openings.{opened_more}
 use Rattle.tool_commands.proofs.sources.open_sources.Goals as goal
 
 pub loop-i-preserved : goal.loop-i-preserved

@@ -1,4 +1,4 @@
-use Rattle.std.proofs.Common.{◌<◌, ℕ, arith, rules}
+use Rattle.std.proofs.Common.{◌<◌, arith, rules}
 use Rattle.program_parts.specs.Words.{SpellsNumber}
 use Rattle.program_parts.proofs.Numbers.{one_number}
 use Rattle.tool_words.proofs.reading.faulty.Goals as goal

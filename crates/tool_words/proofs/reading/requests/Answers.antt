@@ -1,4 +1,4 @@
-use Rattle.std.proofs.Common.{rules, ℕ}
+use Rattle.std.proofs.Common.{rules}
 use Rattle.program_parts.specs.Words.{SpellsNumber}
 use Rattle.program_parts.proofs.Numbers.{bounded_word}
 use Rattle.tool_words.specs.declared.command.Requests.{Requests}
