@@ -1,18 +1,13 @@
 -- Why the program gives up.
-use Rattle.std.proofs.Common.{◌≡◌, ◌≢◌, ◌⊎◌, ◌<◌, ℕ, List, [], ◌∷◌, Option, Result, Ok, Err, IfErr, IfOk, Any, length, get_or, drop, String, string_bytes, inl, inr, refl, sym, ap, ◌∙◌, subst, arith}
-use Rattle.std.specs.Borrow.{Bor}
+use Rattle.std.proofs.Common.{◌≡◌, ◌≢◌, ◌⊎◌, ℕ, List, [], ◌∷◌, Option, String, inl, inr, refl}
 use Rattle.std.specs.declared.alloc.Global.{Global}
-use Rattle.streams.specs.Counting.{one_more}
-use Rattle.streams.specs.Streams.{WrotePart}
-use Rattle.blocks.specs.CommitteeReading.{committee_in}
-use Rattle.blocks.specs.declared.committee.CommitteeRefusal.{CommitteeRefusal}
 use Rattle.program_parts.specs.declared.program_fault.ProgramFault.{ProgramFault}
 use Rattle.program_parts.specs.declared.program_fault.ProgramFault.TheVariants.{Usage, Memory, File, Committee, Output, Own}
 use Rattle.program_parts.specs.declared.source_fault.SourceFault.{SourceFault}
 use Rattle.program_parts.specs.declared.source_fault.SourceFault.TheVariants.{Word, Collision}
-use Rattle.draw_command.specs.Faults.{GivesUp, IsCause, IsFaultOfPicture, IsPictureFault, IsSourcesFault, IsWordsFault}
-use Rattle.draw_command.specs.Outputs.{IsOutput, IsPictureOf}
-use Rattle.draw_command.specs.Words.{AskFor, AskForPicture, AreSources, HaveBadSource, IsFirstBad, IsPath, IsUsage}
+use Rattle.draw_command.specs.Faults.{GivesUp, IsWordsFault}
+use Rattle.draw_command.specs.Outputs.{IsOutput}
+use Rattle.draw_command.specs.Words.{AskForPicture, HaveBadSource, IsUsage}
 use Rattle.draw_command.specs.declared.words.SourceFile.{SourceFile}
 
 no_usage : (words : List (String Global)) (committee : List ℕ) (sources : List SourceFile) → IsUsage words → AskForPicture words committee sources → ⊥

@@ -1,5 +1,5 @@
 -- A word spells a source in one way.
-use Rattle.std.proofs.Common.{◌≡◌, ◌≢◌, ◌⊎◌, ◌<◌, ◌+◌, ◌/◌, ◌%◌, ◌^◌, ◌≤◌, ℕ, List, [], ◌∷◌, ◌++◌, codes, decimal, inl, inr, refl, sym, ap, ◌∙◌, subst, arith}
+use Rattle.std.proofs.Common.{◌≡◌, ◌<◌, ◌+◌, ◌%◌, ◌^◌, ◌≤◌, ℕ, List, [], ◌∷◌, ◌++◌, decimal, inl, inr, refl, sym, ◌∙◌, subst, arith}
 use Rattle.std.specs.Borrow.{Bor}
 use Rattle.std.specs.List.{Contains}
 use Rattle.std.proofs.lemmas.Fmt.{decimal_by_steps}
@@ -8,7 +8,7 @@ use Rattle.program_parts.specs.Words.{SpellsNumber, SpellsOrigin, SpellsSource}
 use Rattle.program_parts.specs.declared.words.Origin.{Origin}
 use Rattle.program_parts.specs.declared.words.Origin.TheVariants.{File, Tcp}
 use Rattle.program_parts.specs.declared.words.SourceWord.{SourceWord}
-use Rattle.draw_command.specs.Words.{IsFileAt, SpellsFile, SpellsNoFile}
+use Rattle.draw_command.specs.Words.{IsFileAt, SpellsNoFile}
 
 one_digit : (n : ℕ) → n < 10 → Contains ((48 + n) ∷ []) 61 → ⊥
 one_digit n below c = elim (Contains-push_cases [] (48 + n) 61 c) [

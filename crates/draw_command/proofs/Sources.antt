@@ -1,13 +1,12 @@
 -- What files show.
-use Rattle.std.proofs.Common.{◌≡◌, ◌≢◌, ◌∙◌, ℕ, List, [], ◌∷◌, length, suc, arith}
+use Rattle.std.proofs.Common.{◌≡◌, ◌≢◌, ◌∙◌, ℕ, List, [], ◌∷◌, suc, arith}
 use Rattle.std.specs.List.{All, AllZip}
-use Rattle.std.proofs.lemmas.Slice.Zip.{AllZip-long}
 use Rattle.log_format.specs.declared.status.Status.TheVariants.{Failed}
 use Rattle.log_transfer.specs.Connections.{Connection}
-use Rattle.evidence.specs.Evidence.{Evidence, IsReportOf}
+use Rattle.evidence.specs.Evidence.{IsReportOf}
 use Rattle.evidence.specs.Logs.{ReceivedLog}
 use Rattle.evidence.specs.declared.source.SourceReport.{SourceReport}
-use Rattle.parallel_verify.specs.Collections.{IsEvidenceOfSources, MayGive}
+use Rattle.parallel_verify.specs.Collections.{MayGive}
 use Rattle.parallel_verify.specs.declared.source.Source.{Source}
 use Rattle.draw_command.specs.Faults.{IsReportOfFile}
 use Rattle.draw_command.specs.Outputs.{IsLogOf, IsReadLogOf}

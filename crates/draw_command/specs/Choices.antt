@@ -1,6 +1,5 @@
 -- Which blocks are drawn.
-use Rattle.std.specs.Prelude.{◌≡◌, ◌≤◌, ◌<◌, ◌++◌, List, [], length}
-use Rattle.std.specs.Prelude.{IsPermutation}
+use Rattle.std.specs.Prelude.{◌≡◌, ◌≤◌, ◌<◌, ◌++◌, List, [], IsPermutation, length}
 use Rattle.blocks.specs.Headers.{Header}
 use Rattle.draw_command.specs.declared.choosing.TheConstants.{MOST_BLOCKS}
 

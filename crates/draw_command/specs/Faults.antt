@@ -4,7 +4,6 @@ use Rattle.std.specs.List.{AllWithin, AllZip, HoldsAt}
 use Rattle.std.specs.declared.alloc.Global.{Global}
 use Rattle.streams.specs.Streams.{WrotePart}
 use Rattle.blocks.specs.CommitteeReading.{committee_in}
-use Rattle.blocks.specs.declared.committee.CommitteeRefusal.{CommitteeRefusal}
 use Rattle.blocks.specs.Committees.{IsCommittee}
 use Rattle.blocks.specs.Headers.{Header}
 use Rattle.log_format.specs.declared.status.Status.TheVariants.{Failed}

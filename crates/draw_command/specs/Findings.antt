@@ -1,5 +1,5 @@
 -- What a picture says in words of an audit.
-use Rattle.std.specs.Prelude.{◌≡◌, ◌++◌, ℕ, List, [], Option, None, Some, codes, decimal, length}
+use Rattle.std.specs.Prelude.{◌++◌, ℕ, List, [], Option, None, Some, codes, decimal, length}
 use Rattle.blocks.specs.Committees.{n_of}
 use Rattle.blocks.specs.Genesis.{chain_id_of}
 use Rattle.culprit_search.specs.Reports.{Report}

@@ -51,7 +51,8 @@ pub record IsJudged (e : Evidence) (r : Report) (b : Block) : Type 0 where
   pub certified : AreCertifiedHeaders e known
   pub standing : IsJudgedBy known r b.header b.standing
 
--- of evidence and its audit: the blocks that are chosen, each once and with what is proved of it; the culprit of each verdict; and the report of each source
+-- of evidence and its audit: the blocks that are chosen, each once and as what is proved of it; the culprit of each verdict; and
+-- the report of each source
 pub record IsDrawn (e : Evidence) (r : Report) (drawn : Drawn) : Type 0 where
   pub chosen : List Header
   pub are_chosen : AreChosen e.headers chosen

@@ -42,7 +42,8 @@ fn put_finding(
     alloc: Global,
     conflict: Option<Conflict>,
 ) -> Result<(), AllocError>
-    ensures { OnOk result (string_bytes text.new ≡ string_bytes text.old ++ finding_line conflict) }
+    ensures { OnOk result (string_bytes text.new
+        ≡ string_bytes text.old ++ finding_line conflict) }
 {
     let Some(conflict) = conflict else {
         return put_no_conflict(text);

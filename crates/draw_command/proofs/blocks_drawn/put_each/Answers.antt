@@ -1,4 +1,4 @@
-use Rattle.std.proofs.Common.{length, string_bytes, subst, arith}
+use Rattle.std.proofs.Common.{string_bytes, subst, arith}
 use Rattle.draw_command.specs.DrawnBlocks.{IsBlock}
 use Rattle.draw_command.specs.Series.{Adds}
 use Rattle.draw_command.specs.declared.scene.Block.{Block}

@@ -1,4 +1,4 @@
-use Rattle.std.proofs.Common.{length, arith}
+use Rattle.std.proofs.Common.{arith}
 use Rattle.draw_command.specs.Lanes.{IsLane}
 use Rattle.draw_command.proofs.Series.{adds_more}
 use Rattle.draw_command.proofs.lanes.put_each.Goals as goal

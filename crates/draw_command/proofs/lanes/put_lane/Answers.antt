@@ -1,7 +1,6 @@
 use Rattle.std.proofs.Common.{ℕ, codes, string_bytes, refl}
 use Rattle.std.proofs.lemmas.Result.{on_ok_weaker}
 use Rattle.draw_command.specs.Lanes.{lane_frame, pair_line}
-use Rattle.draw_command.specs.declared.layout.TheConstants.{MARGIN}
 use Rattle.draw_command.proofs.Series.{seven_pieces}
 use Rattle.draw_command.proofs.lanes.put_lane.Goals as goal
 

@@ -1,4 +1,4 @@
-use Rattle.std.proofs.Common.{◌≡◌, ◌++◌, string_bytes, refl, ap, ◌∙◌}
+use Rattle.std.proofs.Common.{◌≡◌, ◌++◌, string_bytes, refl, ◌∙◌}
 use Rattle.std.proofs.lemmas.Result.{on_ok_weaker}
 use Rattle.draw_command.specs.Lanes.{vote_frame, vote_title, vote_words}
 use Rattle.draw_command.specs.Digits.{short_id, whole_id}

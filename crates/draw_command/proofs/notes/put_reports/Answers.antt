@@ -1,4 +1,4 @@
-use Rattle.std.proofs.Common.{◌≡◌, ◌++◌, ◌<◌, ℕ, List, length, get_or, string_bytes, arith, refl, rules}
+use Rattle.std.proofs.Common.{arith, refl}
 use Rattle.draw_command.specs.Sources.{IsSourceLine}
 use Rattle.draw_command.proofs.Series.{adds_more}
 use Rattle.draw_command.proofs.notes.put_reports.Goals as goal

@@ -1,4 +1,4 @@
-use Rattle.std.proofs.Common.{◌≡◌, ◌∙◌, List, map, ap, subst, sym}
+use Rattle.std.proofs.Common.{◌∙◌, List, map, ap, subst, sym}
 use Rattle.std.specs.List.{All}
 use Rattle.std.specs.Prelude.{IsPermutation}
 use Rattle.std.proofs.lemmas.Result.{IfOk-weaker}

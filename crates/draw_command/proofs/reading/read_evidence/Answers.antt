@@ -1,11 +1,11 @@
-use Rattle.std.proofs.Common.{◌≡◌, ◌≢◌, ◌∙◌, List, length, refl, ap, subst}
+use Rattle.std.proofs.Common.{◌≢◌, ◌∙◌, List, length, refl, ap, subst}
 use Rattle.std.specs.List.{All, AllZip}
 use Rattle.std.proofs.lemmas.Slice.Zip.{AllZip-long}
 use Rattle.log_format.specs.declared.status.Status.TheVariants.{Failed}
 use Rattle.evidence.specs.Evidence.{IsEvidence}
 use Rattle.evidence.specs.declared.source.SourceReport.{SourceReport}
 use Rattle.draw_command.specs.Faults.{IsFirstUnread, IsReportOfFile}
-use Rattle.draw_command.specs.Outputs.{IsLogOf, IsReadLogOf}
+use Rattle.draw_command.specs.Outputs.{IsLogOf}
 use Rattle.draw_command.proofs.Sources.{logs_of, read_logs, reports_of}
 use Rattle.draw_command.proofs.reading.read_evidence.Goals as goal
 

@@ -1,4 +1,4 @@
-use Rattle.std.proofs.Common.{◌≡◌, ◌<◌, ◌≤◌, ℕ, List, String, length, get_or, string_bytes, refl, subst, sym, arith}
+use Rattle.std.proofs.Common.{◌<◌, ℕ, List, String, length, get_or, string_bytes, refl, subst, arith}
 use Rattle.std.proofs.lemmas.List.{get_or_read}
 use Rattle.std.specs.declared.alloc.Global.{Global}
 use Rattle.draw_command.specs.Words.{IsSource, SpellsFile, SpellsNoFile}
