@@ -1,5 +1,5 @@
 -- What a request asks for: one call, or the first thing that is wrong with it.
-use Rattle.std.specs.Prelude.{◌≡◌, ◌≢◌, ◌⊎◌, ℕ, Bool, true, false, List, [], Option, Some, None, codes, length}
+use Rattle.std.specs.Prelude.{◌≡◌, ◌≢◌, ◌⊎◌, ℕ, true, false, List, [], Option, Some, None, codes, length}
 use Rattle.certificates.specs.Votes.{vote_text}
 use Rattle.certificates.specs.declared.vote.TheConstants.{VOTE_LEN}
 use Rattle.http.specs.declared.request.Request.{Request}

@@ -1,5 +1,5 @@
 -- What is answered to a call.
-use Rattle.std.specs.Prelude.{◌≡◌, ◌⊎◌, ◌<◌, ◌≤◌, ◌+◌, ◌++◌, ◌∷◌, [], ℕ, List, Option, Some, None, IfSome, IsTrue, codes, min}
+use Rattle.std.specs.Prelude.{◌≡◌, ◌⊎◌, ◌<◌, ◌≤◌, ◌+◌, ◌++◌, [], ℕ, List, Option, Some, None, IfSome, codes, min}
 use Rattle.blocks.specs.Genesis.{genesis_of}
 use Rattle.blocks.specs.Replica.{Stored}
 use Rattle.blocks.specs.declared.ballot.Ballot.{Ballot}
@@ -15,7 +15,7 @@ use Rattle.vote_desk.specs.DeskRefusals.{from_log}
 use Rattle.vote_desk.specs.Desks.{DeskView, HoldsId, status_of}
 use Rattle.vote_desk.specs.Exports.{IsOut, RefusesExport}
 use Rattle.vote_desk.specs.SomeDesk.{IsDeskOf, SomeDesk, SomeDeskMoves}
-use Rattle.vote_desk.specs.Votes.{HasNoVote, IsVoteFound, RefusesVoteIn}
+use Rattle.vote_desk.specs.Votes.{IsVoteFound, RefusesVoteIn}
 use Rattle.vote_desk.specs.declared.desk.TheConstants.{MOST_FRAMES_AT_ONCE}
 use Rattle.vote_desk.specs.declared.desk_error.DeskError.{DeskError}
 use Rattle.vote_desk.specs.declared.desk_error.DeskError.TheVariants as desk

@@ -1,4 +1,4 @@
-use Rattle.std.proofs.Common.{◌≡◌, ◌∙◌, List, ℕ, rules, subst, sym}
+use Rattle.std.proofs.Common.{◌∙◌, List, ℕ, rules, subst, sym}
 use Rattle.std.specs.Prelude.{codes}
 use Rattle.std.specs.Net.Grammar.{IsIpv6Text}
 use Rattle.std.proofs.lemmas.List.{append_cancel_left, append_cancel_right}

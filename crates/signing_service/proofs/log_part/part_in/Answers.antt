@@ -1,4 +1,4 @@
-use Rattle.std.proofs.Common.{◌≡◌, ◌∙◌, ℕ, List, Option, Some, Bor, subst, sym}
+use Rattle.std.proofs.Common.{◌∙◌, ℕ, List, Option, Bor, subst, sym}
 use Rattle.std.specs.Prelude.{MatchOption, option_copied}
 use Rattle.std.specs.List.{Contains}
 use Rattle.signing_service.specs.LogParts.{IsOneParameter, IsPart}

@@ -1,4 +1,4 @@
-use Rattle.std.proofs.Common.{◌≡◌, ◌∙◌, ap, rules, sym}
+use Rattle.std.proofs.Common.{◌∙◌, ap, rules, sym}
 use Rattle.hex.specs.Hex.{encode_lower}
 use Rattle.signing_service.proofs.Ids.{id_again}
 use Rattle.signing_service.proofs.place.id_in.Goals as goal

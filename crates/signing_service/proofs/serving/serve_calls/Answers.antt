@@ -1,4 +1,4 @@
-use Rattle.std.proofs.Common.{◌≡◌, ◌∙◌, [], List, ◌++◌, ap, subst, sym}
+use Rattle.std.proofs.Common.{◌∙◌, List, ◌++◌, ap, subst, sym}
 use Rattle.std.specs.List.{All}
 use Rattle.http_server.specs.Exchange.{Call as Exchanged}
 use Rattle.http_server.proofs.Theorems.{always_served}
