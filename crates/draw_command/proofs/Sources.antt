@@ -25,7 +25,7 @@ pub reports_of : (files : List SourceFile) (logs : List ReceivedLog) (reports : 
     → AllZip IsReportOfFile files reports
 reports_of files logs reports of are = zip_through IsLogOf IsReportOf IsReportOfFile (λ w l r same is. is.replica ∙ same) files logs reports of are
 
--- each log was read to its end where each report says so
+-- no reading failed where no report says so
 pub read_logs : (files : List SourceFile) (logs : List ReceivedLog) (reports : List SourceReport) → AllZip IsLogOf files logs → AllZip IsReportOf logs reports
     → All (λ r. r.status ≢ Failed) reports → AllZip IsReadLogOf files logs
 read_logs [] [] reports of are read = tt

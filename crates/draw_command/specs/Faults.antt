@@ -25,7 +25,7 @@ use Rattle.draw_command.specs.declared.words.SourceFile.{SourceFile}
 abbrev pub IsReportOfFile : SourceFile → SourceReport → Type 0
 IsReportOfFile s r = r.replica ≡ s.replica
 
--- of the files with these reports that at the path is the first that could not be read to its end
+-- of the files with these reports that at the path is the first whose reading failed
 pub record IsFirstUnread (sources : List SourceFile) (reports : List SourceReport) (path : List ℕ) : Type 0 where
   pub place : ℕ
   pub within : place < length reports

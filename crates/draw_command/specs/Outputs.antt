@@ -22,12 +22,12 @@ usage_line = codes "hs_draw COMMITTEE R=file:PATH..\n"
 abbrev pub IsLogOf : SourceFile → ReceivedLog → Type 0
 IsLogOf s l = l.replica ≡ s.replica
 
--- .. read to its end
+-- .. whose reading did not fail
 pub record IsReadLogOf (s : SourceFile) (l : ReceivedLog) : Type 0 where
   pub of : IsLogOf s l
   pub read : l.status ≢ Failed
 
--- under a committee the evidence of logs, one of each file, each of them read to its end; it is of good votes and of no two
+-- under a committee the evidence of logs, one of each file, whose reading did not fail; it is of good votes and of no two
 -- headers with one id
 pub record IsShown (committee : List ℕ) (sources : List SourceFile) (e : Evidence) : Type 0 where
   pub under : IsCommittee committee
