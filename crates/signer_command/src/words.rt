@@ -66,7 +66,6 @@ pub(crate) struct Words<'a> {
     pub hosts: Vec<String>,
     pub group: bool,
     pub while_input: bool,
-    pub verbose: bool,
 }
 
 /// Reads the words, without the program's name. Refused as usage where they are not written as docs/hs_signer.md says.
@@ -111,8 +110,7 @@ fn with_values<'a>(alloc: Global, grammar: Grammar<'a>) -> Result<Grammar<'a>, A
 fn with_switches<'a>(alloc: Global, grammar: Grammar<'a>) -> Result<Grammar<'a>, AllocError> {
     grammar
         .arg(switch(alloc, "group"))?
-        .arg(switch(alloc, "while-input"))?
-        .arg(switch(alloc, "verbose"))
+        .arg(switch(alloc, "while-input"))
 }
 
 fn switch<'a>(alloc: Global, name: &'a str) -> Arg<'a> {
@@ -146,7 +144,6 @@ fn given<'a>(alloc: Global, matches: &ArgMatches<'a>) -> Result<Words<'a>, Fault
         hosts: hosts_in(alloc, matches)?,
         group: is_set(matches, "group"),
         while_input: is_set(matches, "while-input"),
-        verbose: is_set(matches, "verbose"),
     };
     judged(words)
 }
