@@ -86,6 +86,7 @@ async function main() {
     // A name that is markup stays text.
     const named = `${mkdtempSync(`${tmpdir()}/named-`)}/<img src=x onerror="document.title=1">.hsx`;
     copyFileSync(`${top}/examples/double_vote.hsx`, named);
+    await browser.tell(`verdicts = []; show()`);
     await browser.pick("#verdict-files", [named]);
     await browser.until(`verdicts.length === 1`);
     compare(`0 <img src=x onerror="document.title=1">.hsx Check a verdict`, await browser.tell(`document.querySelectorAll("img").length + " " + document.querySelector("#answers h3").textContent + " " + document.title`), "a name that is markup");
