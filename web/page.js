@@ -146,7 +146,7 @@ function answerOf(verdict, isCompared) {
   const said = checker.verdict(verdict.bytes);
   const isGood = found.answer === 0;
   const colour = !isCompared ? "" : isGood ? "is-good" : "is-bad";
-  const card = made("article", { class: `card verdict ${colour}`.trim() }, made("h3", {}, verdict.name));
+  const card = made("article", { class: `card verdict ${colour}`.trim() }, made("h3", {}, "File: ", made("bdi", {}, verdict.name)));
   card.dataset.line = lineOf(found);
   card.append(...(isGood ? acceptedOf(found, said, isCompared) : refusedOf(found, verdict, isCompared)));
   if (said !== null) card.append(votesOf(said, isGood, isCompared));
@@ -172,45 +172,49 @@ function showAnswers() {
   }
 }
 
-/** Shows all anew. A module that stopped in a call answers nothing more. */
+/** A module that stopped in a call answers nothing more. */
+function stop(error) {
+  checker = null;
+  by("answers").replaceChildren();
+  by("summary").textContent = "Nothing was judged.";
+  if (error !== null) showFault(`The checker stopped: ${error.message}. Nothing was judged. Load the page again.`);
+}
+
+/** Shows all anew. */
 function show() {
+  if (checker === null) return stop(null);
   try {
     showCommittee();
     showAnswers();
   } catch (error) {
-    checker = null;
-    by("answers").replaceChildren();
-    by("summary").textContent = "Nothing was judged.";
-    showFault(`The checker stopped: ${error.message}. Nothing was judged. Load the page again.`);
+    stop(error);
   }
 }
 
+/** Takes what was picked. What stood there before is forgotten at once: no answer stands beside the name of a file that it is not of. */
 async function take(what, files) {
-  if (checker === null || !files.length) return;
   const turn = ++latest[what];
+  if (what === "committee") committee = null;
+  else verdicts = [];
+  if (checker === null) return stop(null);
+  by("fault").hidden = true;
+  show();
+  if (!files.length) return;
   let texts;
   try {
     texts = await Promise.all(Array.from(what === "committee" ? [files[0]] : files, textOf));
   } catch (error) {
-    showFault(`A file could not be read: ${error.message}`);
+    if (turn === latest[what]) showFault(`A file could not be read: ${error.message}. Nothing was judged.`);
     return;
   }
   if (turn !== latest[what] || checker === null) return; // later files were picked meanwhile
-  by("fault").hidden = true;
-  if (what === "verdicts") verdicts = texts;
-  else if (!takeCommittee(texts[0])) return;
-  show();
-}
-
-function takeCommittee(text) {
   try {
-    committee = { ...text, shown: checker.committee(text.bytes) };
-    return true;
+    if (what === "verdicts") verdicts = texts;
+    else committee = { ...texts[0], shown: checker.committee(texts[0].bytes) };
   } catch (error) {
-    checker = null;
-    showFault(`The checker stopped: ${error.message}. Nothing was judged. Load the page again.`);
-    return false;
+    return stop(error);
   }
+  show();
 }
 
 function listen(what, input, drop) {

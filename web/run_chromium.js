@@ -89,7 +89,7 @@ async function main() {
     await browser.tell(`verdicts = []; show()`);
     await browser.pick("#verdict-files", [named]);
     await browser.until(`verdicts.length === 1`);
-    compare(`0 <img src=x onerror="document.title=1">.hsx Check a verdict`, await browser.tell(`document.querySelectorAll("img").length + " " + document.querySelector("#answers h3").textContent + " " + document.title`), "a name that is markup");
+    compare(`0 File: <img src=x onerror="document.title=1">.hsx Check a verdict`, await browser.tell(`document.querySelectorAll("img").length + " " + document.querySelector("#answers h3").textContent + " " + document.title`), "a name that is markup");
     rmSync(dirname(named), { recursive: true });
     // What a reader that speaks is told: the controls by name, and the answer.
     const { nodes } = await browser.send("Accessibility.getFullAXTree");
@@ -110,6 +110,31 @@ async function main() {
     await browser.pick("#verdict-files", [`${top}/examples/double_vote.hsx`]);
     await browser.until(`!by("fault").hidden`);
     compare("The checker stopped 0", (await browser.tell(`by("fault").textContent.slice(0, 19) + " " + document.querySelectorAll("#answers article").length`)), "a checker that stopped");
+    // No answer stands beside another file's name: not while it is read, not where it can't be read, not behind a module that stopped.
+    await browser.send("Page.navigate", { url: pathToFileURL(page).href });
+    await browser.until(`document.documentElement.dataset.ready === "yes"`);
+    await browser.pick("#committee-file", [`${top}/examples/committee.hsc`]);
+    await browser.until(`committee !== null`);
+    await tellChain(chain);
+    const good = async () => {
+      await browser.pick("#verdict-files", [`${top}/examples/double_vote.hsx`]);
+      await browser.until(`document.querySelectorAll("#answers article.is-good").length === 1`);
+    };
+    const cards = `document.querySelectorAll("#answers article").length`;
+    await good();
+    compare(0, await browser.tell(`(() => { take("verdicts", [{ name: "slow", arrayBuffer: () => new Promise(() => {}) }]); return ${cards}; })()`), "answers while a file is read");
+    await good();
+    await browser.tell(`take("verdicts", [{ name: "unreadable", arrayBuffer: () => Promise.reject(new Error("no")) }])`);
+    compare("0 A file could not be read: no.", (await browser.tell(`${cards} + " " + by("fault").textContent`)).slice(0, 31), "a file that can't be read");
+    await good();
+    await browser.tell(`take("verdicts", [])`);
+    compare(0, await browser.tell(cards), "answers where no file is named");
+    await good();
+    await browser.tell(`checker.committee = () => { throw new Error("trap"); }`);
+    await browser.pick("#committee-file", [`${top}/examples/committee.hsc`]);
+    await browser.until(`!by("fault").hidden`);
+    await browser.pick("#verdict-files", [`${top}/examples/lock_violation.hsx`]);
+    compare("0 Nothing was judged.", await browser.tell(`${cards} + " " + by("summary").textContent`), "answers behind a module that stopped");
     // A browser without memories of 64 bits is told where to go, and so is one that runs no script; neither has a place for a file.
     const elsewhere = `[document.getElementById("elsewhere").offsetHeight > 0, document.getElementById("desk").offsetHeight > 0].join()`;
     await browser.send("Page.addScriptToEvaluateOnNewDocument", { source: "WebAssembly.validate = () => false" });

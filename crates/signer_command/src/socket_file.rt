@@ -103,29 +103,29 @@ fn bind<F: Files<File = File> + Net>(
     path: &str,
     callers: Callers,
 ) -> io::Result<UnixListener> {
-    make_folder(files, &shop.folder)?;
-    if let Err(error) = fs::remove_file(files, &shop.socket)
-        && error.kind() != ErrorKind::NotFound
-    {
-        return Err(error);
-    }
+    make_folder(files, shop)?;
     let listener = UnixListener::bind(files, &shop.socket)?;
     fs::set_permissions(files, &shop.socket, Permissions::from_mode(callers.mode()))?;
     fs::rename(files, &shop.socket, path)?;
-    fs::remove_dir(files, &shop.folder)?;
+    if fs::remove_dir(files, &shop.folder).is_err() {
+        // The next start removes it, or says that it can't.
+    }
     Ok(listener)
 }
 
-// A folder that only its owner enters, also where one was left.
-fn make_folder<F: Files<File = File>>(files: &F, path: &str) -> io::Result<()> {
+// A folder that only its owner enters. One that a kill left may be another's by now, so it is made anew.
+fn make_folder<F: Files<File = File>>(files: &F, shop: &Workshop) -> io::Result<()> {
     let mut builder = DirBuilder::new();
     builder.mode(0o700);
-    match builder.create(files, path) {
+    match builder.create(files, &shop.folder) {
         Err(error) if error.kind() == ErrorKind::AlreadyExists => {
-            if !fs::symlink_metadata(files, path)?.is_dir() {
+            if let Err(error) = fs::remove_file(files, &shop.socket)
+                && error.kind() != ErrorKind::NotFound
+            {
                 return Err(error);
             }
-            fs::set_permissions(files, path, Permissions::from_mode(0o700))
+            fs::remove_dir(files, &shop.folder)?;
+            builder.create(files, &shop.folder)
         }
         outcome => outcome,
     }
