@@ -4,3 +4,4 @@ pub mod JoinedLemmas
 pub mod DigestBytes
 pub mod SignedVerifies
 pub mod WalkLemmas
+pub mod FourKeyLemmas

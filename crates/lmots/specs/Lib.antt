@@ -1,4 +1,5 @@
 pub mod Chains
-pub mod Walks
-pub mod Signatures
+pub mod FourKeys
 pub mod Refusals
+pub mod Signatures
+pub mod Walks

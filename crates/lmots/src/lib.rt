@@ -3,11 +3,13 @@
 #![tactic(auto)]
 
 mod chains;
+mod four_keys;
 mod keys;
 mod signatures;
 mod walks;
 
 pub use chains::prefix;
+pub use four_keys::{KEYS_AT_ONCE, four_ots_public};
 pub use keys::{
     HASH_LEN, KEY_ID_LEN, PRIVATE_SEED_LEN, PrivateSeed, chain_end, key_of_ends, ots_public,
 };

@@ -1,12 +1,9 @@
 -- The two equations of a tree's nodes
-use Rattle.std.proofs.Common.{◌≡◌, ◌≢◌, length, take, length-take-le, get_or-take, get_or, set, get_or-set_same, get_or-set_other, ℕ, zero, suc, ◌+◌, ◌-◌, ◌*◌, ◌^◌, ◌<◌, ◌≤◌, List, ◌++◌, refl, sym, ap, ◌∙◌, arith, nat_lt, true, false, inl, inr}
+use Rattle.std.proofs.Common.{◌≡◌, ◌≢◌, length, get_or, set, get_or-set_same, get_or-set_other, ℕ, zero, suc, ◌+◌, ◌-◌, ◌*◌, ◌^◌, ◌<◌, ◌≤◌, List, refl, sym, ap, ◌∙◌, arith, nat_lt, true, false, inl, inr}
 use Rattle.std.proofs.lemmas.Bool.{cases_eq, cases_lt}
-use Rattle.std.proofs.lemmas.List.{get_or-append_right}
-use Rattle.std.proofs.lemmas.Slice.{take-put_mid}
-use borrow.Rule.Slice.PartMut.{put_mid}
 use Rattle.std.proofs.Math.Nat.{pow-suc}
 use Rattle.lmots.specs.Chains.{ots_public_key}
-use Rattle.lms_tree.specs.Tree.{AreLeaves, IsFilled, inner_hash, leaf_hash, tree_node, node_within}
+use Rattle.lms_tree.specs.Tree.{inner_hash, leaf_hash, tree_node, node_within}
 
 within-leaf : (levels : ℕ) (id : List ℕ) (key : ℕ → List ℕ) (r : ℕ) → 1024 ≤ r
     → node_within levels id key r ≡ leaf_hash id r (key (r - 1024))
@@ -71,16 +68,3 @@ leaf_is_node id seed q =
     let back : 1024 + q - 1024 ≡ q = omega arith in
     let high : 1024 ≤ 1024 + q = omega arith in
     rw (node_leaf id seed (1024 + q) high, back) refl
-
--- leaves that are written behind the first 1,024 places fill the places from the first leaf on
-pub leaves_filled : (id seed : List ℕ) (nodes leaves copied : List (List ℕ)) → length nodes ≡ 2048 → AreLeaves id seed leaves
-    → copied ≡ leaves → IsFilled id seed 1024 (put_mid 1024 (length nodes - 1024) nodes copied)
-leaves_filled id seed nodes leaves copied long are same r d low high =
-    let front : length (take 1024 nodes) ≡ 1024 = length-take-le 1024 nodes (omega arith) in
-    let leaf : 1024 + (r - 1024) ≡ r = omega arith in
-    let count : 2048 ≡ 1024 + length copied = omega (arith, ap length same, are.0) in
-    let places = take-put_mid 1024 (length nodes - 1024) nodes copied 2048 count (omega arith) ∙ ap (λ (xs : List (List ℕ)). take 1024 nodes ++ xs) same in
-    sym (get_or-take 2048 _ r d high)
-    ∙ ap (λ (xs : List (List ℕ)). get_or xs r d) places
-    ∙ get_or-append_right (take 1024 nodes) leaves 1024 r d front low
-    ∙ are.1 (r - 1024) d (omega arith) ∙ ap (λ (n : ℕ). tree_node id seed n) leaf

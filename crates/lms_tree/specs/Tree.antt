@@ -1,12 +1,12 @@
 -- LMS with LMS_SHA256_M32_H10 (RFC 8554, section 5), as functions on lists of bytes. The tree has 1,024
 -- leaves; its nodes are numbered from the root, which is 1, and node r has the children 2 * r and
 -- 2 * r + 1. `id` is a key's id of 16 bytes and `seed` its seed of 32 bytes.
-use Rattle.std.specs.Prelude.{◌≡◌, ℕ, zero, suc, ◌+◌, ◌-◌, ◌*◌, ◌/◌, ◌%◌, ◌^◌, ◌<◌, ◌≤◌, List, ◌++◌, length, nat_lt, slice_index_or, ◌==◌, if◌then◌else◌}
+use Rattle.std.specs.Prelude.{◌≡◌, ℕ, zero, suc, ◌+◌, ◌-◌, ◌*◌, ◌/◌, ◌%◌, ◌^◌, ◌<◌, ◌≤◌, List, [], ◌++◌, length, nat_lt, slice_index_or, ◌==◌, if◌then◌else◌}
 use Rattle.byteorder.specs.Endian.{big_bytes}
 use Rattle.sha2.specs.Sha256.{sha256}
 use Rattle.wire.specs.Pieces.{number_at, piece}
 use Rattle.lmots.specs.declared.signatures.TheConstants.{OTS_SIGNATURE_LEN}
-use Rattle.lms_tree.specs.declared.TheConstants.{LEAVES, NODES, OTS_AT, PATH_AT, SIGNATURE_LEN, TREE_TYPE_AT}
+use Rattle.lms_tree.specs.declared.TheConstants.{LEAVES, LEAF_FOURS, NODES, OTS_AT, PATH_AT, SIGNATURE_LEN, TREE_TYPE_AT}
 use Rattle.lmots.specs.Chains.{joined, ots_public_key, prefix}
 use Rattle.lmots.specs.Signatures.{candidate_key, ots_signature}
 
@@ -98,10 +98,19 @@ pub record Verifies (id root message signature : List ℕ) : Type 0 where
 abbrev pub IsFilled : List ℕ → List ℕ → ℕ → List (List ℕ) → Type 0
 IsFilled id seed low nodes = (r : ℕ) (d : List ℕ) → low ≤ r → r < NODES → slice_index_or nodes r d ≡ tree_node id seed r
 
--- the list has the hashes of the tree's leaves, T[1024 + q] at each place q
-abbrev pub AreLeaves : List ℕ → List ℕ → List (List ℕ) → Type 0
-AreLeaves id seed leaves = (length leaves ≡ LEAVES)
-    × ((q : ℕ) (d : List ℕ) → q < LEAVES → slice_index_or leaves q d ≡ tree_node id seed (LEAVES + q))
+-- the list has the hashes of the leaves from q on, four of them
+abbrev pub AreFourLeaves : List ℕ → List ℕ → ℕ → List (List ℕ) → Type 0
+AreFourLeaves id seed q four = (k : ℕ) → k < 4 → slice_index_or four k [] ≡ tree_node id seed (LEAVES + q + k)
+
+-- the list has the hashes of the tree's leaves, those from 4 * p on at each place p
+abbrev pub AreLeaves : List ℕ → List ℕ → List (List (List ℕ)) → Type 0
+AreLeaves id seed fours = (length fours ≡ LEAF_FOURS)
+    × ((p : ℕ) → p < LEAF_FOURS → AreFourLeaves id seed (4 * p) (slice_index_or fours p []))
+
+-- the list has T[r] at the place r of each leaf below the leaf n
+abbrev pub HasLeaves : List ℕ → List ℕ → ℕ → List (List ℕ) → Type 0
+HasLeaves id seed n nodes = (length nodes ≡ NODES)
+    × ((r : ℕ) (d : List ℕ) → LEAVES ≤ r → r < LEAVES + n → slice_index_or nodes r d ≡ tree_node id seed r)
 
 -- the list has T[r] at each place r of the tree
 abbrev pub IsTree : List ℕ → List ℕ → List (List ℕ) → Type 0

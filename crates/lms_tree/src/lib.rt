@@ -7,9 +7,9 @@ mod public_key;
 mod signing_tree;
 mod verification;
 
-use lmots::{HASH_LEN, OTS_SIGNATURE_LEN};
+use lmots::{HASH_LEN, KEYS_AT_ONCE, OTS_SIGNATURE_LEN};
 pub use public_key::{KeyRefusal, PUBLIC_KEY_LEN, PublicKey};
-pub use signing_tree::{SigningTree, leaf};
+pub use signing_tree::{SigningTree, four_leaves};
 pub use verification::{SigRefusal, verify};
 
 /// The length of a signature, in bytes.
@@ -29,6 +29,9 @@ pub(crate) const PATH_AT: usize = TREE_TYPE_AT + 4;
 
 /// The number of leaves, and so of one-time keys, of a tree.
 pub const LEAVES: u32 = 1024;
+
+/// The number of times that four leaves are computed at once.
+pub const LEAF_FOURS: usize = (LEAVES / KEYS_AT_ONCE) as usize;
 
 /// The length of a list that has node `r` of a tree at place `r`: the root stands at 1, the leaves from `LEAVES` on.
 pub(crate) const NODES: usize = 2 * LEAVES as usize;

@@ -1,14 +1,17 @@
 //! A seed's tree, from which its owner signs.
 
-ghost use Rattle.std.specs.Prelude.{◌≡◌, ◌+◌, ◌<◌, length, IfOk};
+ghost use Rattle.std.specs.Prelude.{◌≡◌, ◌+◌, ◌*◌, ◌<◌, ◌≤◌, ℕ, length, IfOk};
 ghost use Rattle.wire.specs.Pieces.{number_at};
-ghost use Rattle.lms_tree.specs.Tree.{AreLeaves, IsFilled, lms_signature, path_node, tree_node, tree_root, Verifies};
-ghost use Rattle.lms_tree.specs.declared.TheConstants.{LEAVES, NODES};
+ghost use Rattle.lmots.specs.Chains.{ots_public_key};
+ghost use Rattle.lms_tree.specs.Tree.{AreFourLeaves, AreLeaves, HasLeaves, IsFilled, lms_signature, path_node, tree_node, tree_root, Verifies};
+ghost use Rattle.lms_tree.specs.declared.TheConstants.{LEAVES, LEAF_FOURS, NODES};
 
 use crate::nodes::{inner_hash, leaf_hash, sibling};
 use crate::public_key::PublicKey;
-use crate::{HEIGHT, LEAVES, NODES, OTS_AT, PATH_AT, SIGNATURE_LEN, TREE_TYPE, TREE_TYPE_AT};
-use lmots::{PrivateSeed, ots_public, ots_sign};
+use crate::{
+    HEIGHT, LEAF_FOURS, LEAVES, NODES, OTS_AT, PATH_AT, SIGNATURE_LEN, TREE_TYPE, TREE_TYPE_AT,
+};
+use lmots::{KEYS_AT_ONCE, PrivateSeed, four_ots_public, ots_sign};
 use std::alloc::{AllocError, Global};
 use std::marker::Model;
 use wire::put;
@@ -45,12 +48,13 @@ impl SigningTree {
         Ok(SigningTree { secret, nodes })
     }
 
-    /// The tree of a seed over its 1,024 leaves, each as `leaf` gives it; so they may be computed elsewhere, in any
-    /// order. The tree takes 65,536 bytes on the heap. AllocError comes where that memory is refused.
+    /// The tree of a seed over its 1,024 leaves, four at each of 256 places, as `four_leaves` gives them; so they may be
+    /// computed elsewhere, in any order. The tree takes 65,536 bytes on the heap. AllocError comes where that memory is
+    /// refused.
     pub fn from_leaves(
         alloc: Global,
         secret: PrivateSeed,
-        leaves: &[[u8; 32]],
+        leaves: &[[[u8; 32]; 4]],
     ) -> Result<SigningTree, AllocError>
         requires { AreLeaves secret.key_id secret.seed leaves.now }
         ensures { IfOk result (λ tree. tree ≡ secret) }
@@ -108,32 +112,62 @@ impl SigningTree {
     }
 }
 
-/// The hash of leaf `q` of a seed's tree, over its one-time public key, whose 34 chains take 8,670 hashes (RFC 8554,
-/// section 5.3). `q` must be below 1,024.
+/// The hashes of the leaves `q` to `q + 3` of a seed's tree, each over its one-time public key (RFC 8554, section 5.3).
+/// The keys are computed together, which takes three quarters of the time that it takes one by one.
+pub fn four_leaves(secret: &PrivateSeed, q: u32) -> [[u8; 32]; 4]
+    requires { q + 4 ≤ LEAVES }
+    ensures { AreFourLeaves secret.now.key_id secret.now.seed q result }
+{
+    let keys = four_ots_public(secret, q);
+    [
+        leaf(secret, q, &keys[0]),
+        leaf(secret, q + 1, &keys[1]),
+        leaf(secret, q + 2, &keys[2]),
+        leaf(secret, q + 3, &keys[3]),
+    ]
+}
+
+// The hash of leaf `q` over its one-time public key.
 #[tactic(auto, using(crate::proofs::NodeLemmas::leaf_is_node))]
-pub fn leaf(secret: &PrivateSeed, q: u32) -> [u8; 32]
-    requires { q < LEAVES }
+fn leaf(secret: &PrivateSeed, q: u32, key: &[u8; 32]) -> [u8; 32]
+    requires within { q < LEAVES }
+    requires key { key.now ≡ ots_public_key secret.now.key_id secret.now.seed q }
     ensures { result ≡ tree_node secret.now.key_id secret.now.seed (LEAVES + q) }
 {
-    leaf_hash(&secret.key_id, LEAVES + q, &ots_public(secret, q))
+    leaf_hash(&secret.key_id, LEAVES + q, key)
 }
 
 fn fill_leaves(secret: &PrivateSeed, nodes: &mut [[u8; 32]])
     requires { length nodes.old ≡ NODES }
     ensures { IsFilled secret.now.key_id secret.now.seed LEAVES nodes.new }
 {
-    for q in 0..LEAVES {
-        nodes[(LEAVES + q) as usize] = leaf(secret, q);
+    for four in 0..LEAF_FOURS as u32 {
+        let q = KEYS_AT_ONCE * four;
+        put_leaves(secret, q, &four_leaves(secret, q), nodes);
     }
 }
 
 // Fills in leaves that are computed already.
-fn copy_leaves(secret: &PrivateSeed, leaves: &[[u8; 32]], nodes: &mut [[u8; 32]])
+fn copy_leaves(secret: &PrivateSeed, leaves: &[[[u8; 32]; 4]], nodes: &mut [[u8; 32]])
     requires long { length nodes.old ≡ NODES }
     requires leaves { AreLeaves secret.now.key_id secret.now.seed leaves.now }
     ensures { IsFilled secret.now.key_id secret.now.seed LEAVES nodes.new }
 {
-    nodes[LEAVES as usize..].copy_from_slice(leaves);
+    for four in 0..LEAF_FOURS {
+        put_leaves(secret, KEYS_AT_ONCE * four as u32, &leaves[four], nodes);
+    }
+}
+
+// Fills in the leaves `q` to `q + 3`, behind those below `q`.
+fn put_leaves(secret: &PrivateSeed, q: u32, four: &[[u8; 32]; 4], nodes: &mut [[u8; 32]])
+    requires within { q + 4 ≤ LEAVES }
+    requires four { AreFourLeaves secret.now.key_id secret.now.seed q four.now }
+    requires before { HasLeaves secret.now.key_id secret.now.seed q nodes.old }
+    ensures { HasLeaves secret.now.key_id secret.now.seed (q + 4) nodes.new }
+{
+    for k in 0..KEYS_AT_ONCE {
+        nodes[(LEAVES + q + k) as usize] = four[k as usize];
+    }
 }
 
 // Fills in the nodes above the leaves, each after its children.

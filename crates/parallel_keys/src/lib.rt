@@ -2,12 +2,12 @@
 //! Whoever only signs or verifies stands on `lms_tree` alone, which needs no threads.
 #![tactic(auto)]
 
-ghost use Rattle.std.specs.Prelude.{◌≡◌, ◌+◌, ◌<◌, IfOk, length};
-ghost use Rattle.lms_tree.specs.Tree.{AreLeaves, tree_node};
-ghost use Rattle.lms_tree.specs.declared.TheConstants.{LEAVES};
+ghost use Rattle.std.specs.Prelude.{◌≡◌, ◌*◌, ◌<◌, IfOk, length};
+ghost use Rattle.lms_tree.specs.Tree.{AreFourLeaves, AreLeaves};
+ghost use Rattle.lms_tree.specs.declared.TheConstants.{LEAF_FOURS};
 
-use lmots::PrivateSeed;
-use lms_tree::{LEAVES, SigningTree, leaf};
+use lmots::{KEYS_AT_ONCE, PrivateSeed};
+use lms_tree::{LEAF_FOURS, SigningTree, four_leaves};
 use rayon::prelude::*;
 use std::alloc::{AllocError, Global};
 use std::thread::Threads;
@@ -23,25 +23,24 @@ pub fn generate_parallel<R: Threads + Sync>(
 ) -> Result<SigningTree, AllocError>
     ensures { IfOk result (λ tree. tree ≡ secret) }
 {
-    let mut leaves = vec![in alloc; [0; 32]; LEAVES as usize]?;
+    let mut leaves = vec![in alloc; [[0; 32]; 4]; LEAF_FOURS]?;
     fill_leaves(rt, &secret, &mut leaves);
     SigningTree::from_leaves(alloc, secret, &leaves)
 }
 
-// Computes each leaf in its place.
-fn fill_leaves<R: Threads + Sync>(rt: &R, secret: &PrivateSeed, leaves: &mut [[u8; 32]])
-    requires { length leaves.old ≡ LEAVES }
+// Computes the leaves four by four, each four in their place.
+fn fill_leaves<R: Threads + Sync>(rt: &R, secret: &PrivateSeed, leaves: &mut [[[u8; 32]; 4]])
+    requires { length leaves.old ≡ LEAF_FOURS }
     ensures { AreLeaves secret.now.key_id secret.now.seed leaves.new }
 {
     par_for_each_mut(
         rt,
         leaves,
-        |q: usize, hash: &mut [u8; 32]|
-            requires { q < LEAVES }
-            ensures { hash.new ≡ tree_node secret.entry.now.key_id secret.entry.now.seed (LEAVES
-                + q) }
+        |p: usize, four: &mut [[u8; 32]; 4]|
+            requires { p < LEAF_FOURS }
+            ensures { AreFourLeaves secret.entry.now.key_id secret.entry.now.seed (4 * p) four.new }
         {
-            *hash = leaf(secret, q as u32);
+            *four = four_leaves(secret, KEYS_AT_ONCE * p as u32);
         },
     );
 }

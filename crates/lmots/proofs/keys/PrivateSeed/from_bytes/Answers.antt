@@ -1,4 +1,4 @@
-use Rattle.std.proofs.Common.{◌≡◌, length, arith, sym, ap, ◌∙◌}
+use Rattle.std.proofs.Common.{◌≡◌, length, arith, sym}
 use Rattle.wire.proofs.Numbers.{cut, cut_last}
 use Rattle.lmots.proofs.keys.PrivateSeed.from_bytes.Goals as goal
 
