@@ -4,3 +4,4 @@ pub mod HeaderOrder
 pub mod Gatherings
 pub mod Absorbing
 pub mod GoodVotes
+pub mod NamedVotes

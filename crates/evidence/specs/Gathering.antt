@@ -7,6 +7,7 @@ use Rattle.certificates.specs.VoteOrder.{IsLowerVote}
 use Rattle.certificates.specs.declared.vote.SignedVote.{SignedVote}
 use Rattle.log_format.specs.EntryText.{Entry, own_vote_of}
 use Rattle.evidence.specs.declared.refusal.EvidenceRefusal.{EvidenceRefusal}
+use Rattle.evidence.specs.NamedVotes.{AreSame}
 use Rattle.evidence.specs.Sets.{InSome, IsEither}
 use Rattle.evidence.specs.Logs.{IsVoteOf, LogNamesVote, ReceivedLog}
 use Rattle.evidence.specs.Evidence.{IsEvidenceRefusal, IsHeaderInEvidence, IsNotBelowParent}
@@ -57,6 +58,12 @@ pub record IsInOrder (g : Gathered) : Type 0 where
   pub headers_rise : AllPairs HasLowerId g.headers
   pub views_fall : All IsNotBelowParent g.headers
   pub votes_rise : AllPairs IsLowerVote g.votes
+
+-- the listing has what was gathered
+pub record IsListingOf (g listing : Gathered) : Type 0 where
+  pub committee : listing.committee ≡ g.committee
+  pub headers : listing.headers ≡ g.headers
+  pub votes : AreSame listing.votes g.votes
 
 -- ---- checked
 

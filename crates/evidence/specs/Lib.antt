@@ -5,3 +5,4 @@ pub mod Logs
 pub mod Evidence
 pub mod Keyed
 pub mod Gathering
+pub mod NamedVotes

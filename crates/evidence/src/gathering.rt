@@ -6,18 +6,19 @@ ghost use Rattle.blocks.specs.Genesis.{genesis_of};
 ghost use Rattle.blocks.specs.Chains.{HasNone};
 ghost use Rattle.blocks.specs.Headers.{HasLowerId, header_id};
 ghost use Rattle.evidence.specs.Evidence.{IsNotBelowParent, IsReportOf};
-ghost use Rattle.evidence.specs.Gathering.{CertificateHas, Grows, HasOwn, IsGatheringRefusal, IsNone};
-ghost use Rattle.certificates.specs.VoteOrder.{IsLowerVote};
+ghost use Rattle.evidence.specs.Gathering.{CertificateHas, Grows, HasOwn, IsGatheringRefusal, IsListingOf, IsNone};
+ghost use Rattle.evidence.specs.NamedVotes.{all_votes, joined};
 ghost use Rattle.evidence.specs.declared.refusal.EvidenceRefusal.TheVariants.{Memory};
 ghost use Rattle.evidence.specs.Sets.{InSome};
 ghost use Rattle.evidence.specs.Logs.{FrameHasHeader, FrameNamesVote, HasHeader, HasVote, HaveEntries, LogHasHeader, LogNamesVote, SpellsEntry};
 
+use crate::certificate_votes::CertificateVotes;
 use crate::headers::HeaderSet;
 use crate::keeper::Keeper;
 use crate::listing::{Listing, copies};
+use crate::named_votes::NamedVotes;
 use crate::refusal::EvidenceRefusal;
 use crate::source::{SourceLog, SourceReport};
-use crate::votes::VoteSet;
 use blocks::{CommitteeView, Header, NamedHeader};
 use certificates::{Certificate, SignedVote};
 use log_format::{Entry, EntryRefusal, Frames, entries_have_one_spelling};
@@ -30,7 +31,7 @@ use std::marker::Model;
 pub struct Gathered<'a> {
     committee: CommitteeView<'a>,
     headers: HeaderSet,
-    votes: VoteSet,
+    votes: NamedVotes,
 }
 
 impl<'a> Model for Gathered<'a> {
@@ -54,7 +55,7 @@ impl<'a> Gathered<'a> {
         Ok(Gathered {
             committee: committee.again(),
             headers,
-            votes: VoteSet::new(alloc),
+            votes: NamedVotes::new(alloc),
         })
     }
 
@@ -97,6 +98,12 @@ impl<'a> Gathered<'a> {
         self.votes.insert(vote)
     }
 
+    fn add_votes_of(&mut self, certificate: Shared<CertificateVotes>) -> Result<(), AllocError>
+        ensures { OnOk result (Grows self.old self.new IsNone (Contains certificate)) }
+    {
+        self.votes.insert_certificate(certificate)
+    }
+
     fn add_certificate<K: Keeper>(
         &mut self,
         keeper: &K,
@@ -104,10 +111,7 @@ impl<'a> Gathered<'a> {
     ) -> Result<(), AllocError>
         ensures { OnOk result (Grows self.old self.new IsNone (CertificateHas certificate.now)) }
     {
-        for k in 0..certificate.count() {
-            self.add_vote(keeper.vote(&certificate.vote(k))?)?;
-        }
-        Ok(())
+        self.add_votes_of(keeper.certificate(certificate)?)
     }
 
     fn add_own_vote<K: Keeper>(
@@ -261,43 +265,79 @@ impl<'a> Gathered<'a> {
         Ok(())
     }
 
-    /// Adds headers and votes that were gathered apart. After a refusal a part of them may have been added.
+    fn absorb_certificates(
+        &mut self,
+        certificates: &[Shared<CertificateVotes>],
+    ) -> Result<(), AllocError>
+        ensures { OnOk result (Grows self.old self.new IsNone
+            (Contains (joined certificates.now))) }
+    {
+        for certificate in certificates {
+            self.add_votes_of(certificate.again()?)?;
+        }
+        Ok(())
+    }
+
+    fn absorb_all_votes(
+        &mut self,
+        votes: &[Shared<SignedVote>],
+        certificates: &[Shared<CertificateVotes>],
+    ) -> Result<(), AllocError>
+        ensures { OnOk result (Grows self.old self.new IsNone
+            (Contains (all_votes votes.now certificates.now))) }
+    {
+        self.absorb_votes(votes)?;
+        self.absorb_certificates(certificates)
+    }
+
+    /// Adds headers, single votes and certificates that were gathered apart. After a refusal a part of them may have been
+    /// added.
     pub fn merge(
         &mut self,
         headers: &[Shared<NamedHeader>],
         votes: &[Shared<SignedVote>],
+        certificates: &[Shared<CertificateVotes>],
     ) -> Result<(), EvidenceRefusal>
         ensures ok { OnOk result (Grows self.old self.new (Contains headers.now)
-            (Contains votes.now)) }
+            (Contains (all_votes votes.now certificates.now))) }
         ensures err { IfErr result (IsGatheringRefusal self.old (Contains headers.now)) }
     {
         self.absorb_headers(headers)?;
-        self.absorb_votes(votes)?;
+        self.absorb_all_votes(votes, certificates)?;
         Ok(())
     }
 
-    /// The headers by rising id, and the votes in order.
+    /// The headers by rising id, the votes that stand alone, rising, and the certificates.
     pub fn into_parts(
         self,
         alloc: Global,
-    ) -> Result<(Vec<Shared<NamedHeader>>, Vec<Shared<SignedVote>>), AllocError>
+    ) -> Result<
+        (
+            Vec<Shared<NamedHeader>>,
+            Vec<Shared<SignedVote>>,
+            Vec<Shared<CertificateVotes>>,
+        ),
+        AllocError,
+    >
         ensures headers { IfOk result (λ parts. parts.0.items ≡ self.entry.headers) }
-        ensures votes { IfOk result (λ parts. parts.1.items ≡ self.entry.votes) }
+        ensures votes { IfOk result (λ parts. all_votes parts.1.items parts.2.items
+            ≡ self.entry.votes) }
         ensures headers_rise { OnOk result (AllPairs HasLowerId self.entry.headers) }
         ensures views_fall { OnOk result (All IsNotBelowParent self.entry.headers) }
-        ensures votes_rise { OnOk result (AllPairs IsLowerVote self.entry.votes) }
     {
         let Gathered {
             committee: _,
             headers,
             votes,
         } = self;
-        Ok((headers.into_vec(alloc)?, votes.into_vec(alloc)?))
+        let headers = headers.into_vec(alloc)?;
+        let (votes, certificates) = votes.into_parts(alloc)?;
+        Ok((headers, votes, certificates))
     }
 
-    /// What was gathered, in order.
+    /// What was gathered, in order, each vote once.
     pub fn in_order(self, alloc: Global) -> Result<Listing<'a>, AllocError>
-        ensures { IfOk result (λ listing. listing ≡ self.entry) }
+        ensures { IfOk result (IsListingOf self.entry) }
     {
         let Gathered {
             committee,

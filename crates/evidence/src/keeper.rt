@@ -1,17 +1,26 @@
 //! Where equal votes and headers of several logs stand in memory once.
 
 ghost use Rattle.std.specs.Prelude.{◌≡◌, IfOk};
+ghost use Rattle.evidence.specs.NamedVotes.{AreVotesOf};
 
+use crate::certificate_votes::CertificateVotes;
 use blocks::NamedHeader;
-use certificates::SignedVote;
+use certificates::{Certificate, SignedVote};
 use shared_values::Shared;
 use std::alloc::{AllocError, Global};
 
-/// Keeps votes and headers that logs name. It may hand out one value, shared, for those that are equal.
-pub trait Keeper {
+/// Keeps votes that logs name. It may hand out one value, shared, for those that are equal.
+pub trait VoteKeeper {
     /// This vote. Memory is refused where it, or a place for it, could not be made.
     fn vote(&self, vote: &SignedVote) -> Result<Shared<SignedVote>, AllocError>
         ensures { IfOk result (λ v. v ≡ vote.now) };
+}
+
+/// Keeps votes, certificates and headers that logs name. It may hand out one value, shared, for those that are equal.
+pub trait Keeper: VoteKeeper {
+    /// The votes of this certificate. Memory is refused where they, or a place for them, could not be made.
+    fn certificate(&self, certificate: &Certificate) -> Result<Shared<CertificateVotes>, AllocError>
+        ensures { IfOk result (AreVotesOf certificate.now) };
 
     /// This header. Memory is refused where it, or a place for it, could not be made.
     fn header(&self, header: &NamedHeader) -> Result<Shared<NamedHeader>, AllocError>
@@ -25,9 +34,21 @@ pub struct Anew {
     pub alloc: Global,
 }
 
-impl Keeper for Anew {
+impl VoteKeeper for Anew {
     fn vote(&self, vote: &SignedVote) -> Result<Shared<SignedVote>, AllocError> {
         Shared::new(self.alloc, *vote)
+    }
+}
+
+impl Keeper for Anew {
+    fn certificate(
+        &self,
+        certificate: &Certificate,
+    ) -> Result<Shared<CertificateVotes>, AllocError> {
+        Shared::new(
+            self.alloc,
+            CertificateVotes::of(self.alloc, self, certificate)?,
+        )
     }
 
     fn header(&self, header: &NamedHeader) -> Result<Shared<NamedHeader>, AllocError> {

@@ -2,18 +2,21 @@
 //! threads, files or network.
 #![tactic(auto)]
 
+mod certificate_votes;
 mod evidence;
 mod gathering;
 mod headers;
 mod keeper;
 mod listing;
+mod named_votes;
 mod refusal;
 mod source;
 mod votes;
 
+pub use certificate_votes::CertificateVotes;
 pub use evidence::{Evidence, evidence_of_logs};
 pub use gathering::Gathered;
-pub use keeper::{Anew, Keeper};
+pub use keeper::{Anew, Keeper, VoteKeeper};
 pub use listing::Listing;
 pub use refusal::EvidenceRefusal;
 pub use source::{SourceLog, SourceReport};

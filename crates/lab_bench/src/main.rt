@@ -7,6 +7,7 @@ mod export;
 mod keys;
 mod ledger;
 mod measuring;
+mod phases;
 mod plan;
 mod row;
 

@@ -6,11 +6,12 @@ ghost use Rattle.log_transfer.specs.declared.place.TheConstants.{MOST_TRIES};
 ghost use Rattle.parallel_verify.specs.Collections.{MayBeTried};
 
 use crate::ledger::Ledger;
+use crate::phases::{Phases, Times, since};
 use blocks::CommitteeView;
 use certificates::{SignedVote, check_vote};
 use culprit_search::audit;
-use log_transfer::{Connector, MemoryConnector};
-use parallel_verify::{Evidence, EvidenceRefusal, Source, SourceText, collect, evidence_of};
+use log_transfer::{Connector, MemoryConnector, Watched};
+use parallel_verify::{Evidence, EvidenceRefusal, Source, SourceText, collect_by, evidence_of};
 use std::alloc::{AllocError, Global};
 use std::io;
 use std::sync::Wait;
@@ -36,17 +37,10 @@ pub(crate) struct Measured {
     pub floor: u64,
     /// How long the evidence takes on one thread, in microseconds.
     pub one_thread: u64,
-    /// How long it takes with a thread for each log, in microseconds.
-    pub threads: u64,
+    /// How long it takes with a thread for each log.
+    pub threads: Times,
     /// How long it is searched, in microseconds.
     pub audit: u64,
-}
-
-// The time since then, in microseconds.
-fn since<R: Clock>(rt: &R, start: Instant) -> io::Result<u64> {
-    let time = start.elapsed(rt)?;
-    let whole = time.as_secs().saturating_mul(1_000_000);
-    Ok(whole.saturating_add(u64::from(time.subsec_micros())))
 }
 
 fn error_of(refusal: EvidenceRefusal) -> io::Error {
@@ -87,8 +81,15 @@ fn floor_of<R: Clock>(
     Ok(all.checked_div(votes.len() as u64).unwrap_or(0))
 }
 
+// A log in memory whose reading is watched.
+type Log<'a, R> = Watched<'a, MemoryConnector, Phases<'a, R>>;
+
 // A source that sends this log, and is read once.
-fn source(alloc: Global, log: SourceText) -> Result<Source<MemoryConnector>, AllocError>
+fn source<'a, R: Clock>(
+    alloc: Global,
+    phases: &'a Phases<'a, R>,
+    log: SourceText,
+) -> Result<Source<Log<'a, R>>, AllocError>
     ensures { IfOk result (MayBeTried (λ c. MOST_TRIES)) }
 {
     let SourceText { replica, text } = log;
@@ -96,15 +97,15 @@ fn source(alloc: Global, log: SourceText) -> Result<Source<MemoryConnector>, All
     connector.add(text, false)?;
     Ok(Source {
         replica,
-        connector,
+        connector: Watched::new(connector, phases, replica.into()),
         tries: 1,
     })
 }
 
 // Adds a source.
-fn put(
-    sources: &mut Vec<Source<MemoryConnector>>,
-    source: Source<MemoryConnector>,
+fn put<'a, R: Clock>(
+    sources: &mut Vec<Source<Log<'a, R>>>,
+    source: Source<Log<'a, R>>,
 ) -> Result<(), AllocError>
     requires all { All (MayBeTried (λ c. MOST_TRIES)) sources.old.items }
     requires one { MayBeTried (λ c. MOST_TRIES) source }
@@ -115,35 +116,36 @@ fn put(
 }
 
 // Sources that send these logs.
-fn sources_of(
+fn sources_of<'a, R: Clock>(
     alloc: Global,
+    phases: &'a Phases<'a, R>,
     logs: Vec<SourceText>,
-) -> Result<Vec<Source<MemoryConnector>>, AllocError>
+) -> Result<Vec<Source<Log<'a, R>>>, AllocError>
     ensures { IfOk result (λ ss. All (MayBeTried (λ c. MOST_TRIES)) ss.items) }
 {
     let mut sources = Vec::new(alloc);
     for log in logs {
-        put(&mut sources, source(alloc, log)?)?;
+        put(&mut sources, source(alloc, phases, log)?)?;
     }
     Ok(sources)
 }
 
-// How long it takes to gather the evidence with a thread for each log, in microseconds. It must have so many votes.
+// How long it takes to gather the evidence with a thread for each log. It must have so many votes.
 fn time_of_threads<R: Threads + Wait + Clock + Sync>(
     rt: &R,
     alloc: Global,
     committee: &CommitteeView,
     logs: Vec<SourceText>,
     votes: usize,
-) -> io::Result<u64> {
-    let sources = sources_of(alloc, logs)?;
-    let start = Instant::now(rt)?;
-    let evidence = collect(rt, alloc, committee, sources).map_err(error_of)?;
-    let time = since(rt, start)?;
+) -> io::Result<Times> {
+    let phases = Phases::new(rt)?;
+    let sources = sources_of(alloc, &phases, logs)?;
+    let evidence = collect_by(rt, alloc, committee, &phases, sources).map_err(error_of)?;
+    let times = phases.times();
     if evidence.votes().len() != votes {
         return Err(io::Error::from(io::ErrorKind::InvalidData));
     }
-    Ok(time)
+    Ok(times)
 }
 
 fn entries_in(evidence: &Evidence) -> usize {
@@ -174,7 +176,7 @@ fn audit_alone<R: Clock>(
         culprits: report.verdicts().len(),
         floor: 0,
         one_thread,
-        threads: 0,
+        threads: Times::default(),
         audit,
     })
 }

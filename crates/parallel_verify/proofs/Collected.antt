@@ -16,6 +16,7 @@ use Rattle.log_transfer.proofs.Places.{leads_stay, leads_then, fetched_end, some
 use Rattle.evidence.specs.Evidence.{IsEvidenceRefusal, IsReportOf}
 use Rattle.evidence.specs.Gathering.{Gathered, Grows, IsGatheringRefusal}
 use Rattle.evidence.specs.Logs.{ReceivedLog, FrameHasHeader, FrameNamesVote, HaveEntries, LogHasHeader, LogNamesVote}
+use Rattle.evidence.specs.NamedVotes.{all_votes}
 use Rattle.evidence.specs.Sets.{InSome}
 use Rattle.evidence.specs.declared.refusal.EvidenceRefusal.{EvidenceRefusal}
 use Rattle.evidence.specs.declared.refusal.EvidenceRefusal.TheVariants.{Memory}
@@ -115,7 +116,7 @@ module _ {C : Type 0} (gives : C → Gives) (reaches : C → C → Type 0) (fail
 
     -- all came
     pub gathered_all : (b : Gathered) (p : Part) (l : ReceivedLog) (after : C) → a.votes ≡ [] → IsLogFrom (gives connector) (first_place tries) replica l → Grows a b (LogHasHeader l) (LogNamesVote l) → IsReportOf l p.report
-        → p.headers.items ≡ b.headers → p.votes.items ≡ b.votes → reaches connector after → HasCause (failed connector) (failed after) p.report.status → IsGathered gives reaches failed connector tries replica committee (Ok p)
+        → p.headers.items ≡ b.headers → all_votes p.votes.items p.certificates.items ≡ b.votes → reaches connector after → HasCause (failed connector) (failed after) p.report.status → IsGathered gives reaches failed connector tries replica committee (Ok p)
     gathered_all b p l after none from grows report headers votes reached cause = record {
       log = l;
       of = record { of = from.of; fetched = from.outcome };

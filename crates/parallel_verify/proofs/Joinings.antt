@@ -10,6 +10,7 @@ use Rattle.log_format.specs.declared.status.Status.TheVariants.{Failed}
 use Rattle.evidence.specs.Evidence.{IsEvidenceRefusal, IsHeaderInEvidence, IsReportOf}
 use Rattle.evidence.specs.Gathering.{Gathered, Grows, IsGatheringRefusal, IsUnion}
 use Rattle.evidence.specs.Logs.{ReceivedLog, LogNamesVote}
+use Rattle.evidence.specs.NamedVotes.{all_votes}
 use Rattle.evidence.specs.Sets.{InSome}
 use Rattle.evidence.specs.declared.refusal.EvidenceRefusal.{EvidenceRefusal}
 use Rattle.evidence.specs.declared.refusal.EvidenceRefusal.TheVariants.{Memory, Collision}
@@ -21,7 +22,7 @@ use Rattle.parallel_verify.specs.declared.part.Part.{Part}
 
 -- ---- one part
 
-pub part_joined : (r : Result SourceReport EvidenceRefusal) (a b : Gathered) (p : Part) (result : Result Part EvidenceRefusal) → result ≡ Ok p → OnOk r (Grows a b (Contains p.headers.items) (Contains p.votes.items))
+pub part_joined : (r : Result SourceReport EvidenceRefusal) (a b : Gathered) (p : Part) (result : Result Part EvidenceRefusal) → result ≡ Ok p → OnOk r (Grows a b (Contains p.headers.items) (Contains (all_votes p.votes.items p.certificates.items)))
     → IfOk r (λ x. x ≡ p.report) → IfOk r (λ x. (l : ReceivedLog) → IsResultOn a.committee l result → IsJoined a b l x)
 part_joined (Err e) a b p result is grown report = tt
 part_joined (Ok x) a b p result is grown report = λ l of.

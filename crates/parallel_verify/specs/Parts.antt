@@ -8,6 +8,7 @@ use Rattle.log_transfer.specs.Connections.{Connection}
 use Rattle.evidence.specs.Evidence.{IsEvidenceRefusal, IsReportOf}
 use Rattle.evidence.specs.Gathering.{Gathered, Grows}
 use Rattle.evidence.specs.Logs.{ReceivedLog, LogHasHeader, LogNamesVote}
+use Rattle.evidence.specs.NamedVotes.{all_votes}
 use Rattle.evidence.specs.Sets.{IsEither}
 use Rattle.evidence.specs.declared.refusal.EvidenceRefusal.{EvidenceRefusal}
 use Rattle.evidence.specs.declared.source.SourceReport.{SourceReport}
@@ -24,7 +25,7 @@ PartHasHeader committee l = IsEither (IsGenesisOf committee) (LogHasHeader l)
 -- the part has what the log names, and genesis
 pub record IsPartOn (committee : List ℕ) (l : ReceivedLog) (p : Part) : Type 0 where
   pub headers : (h : Header) → Contains p.headers.items h ↔ PartHasHeader committee l h
-  pub votes : (v : SignedVote) → Contains p.votes.items v ↔ LogNamesVote l v
+  pub votes : (v : SignedVote) → Contains (all_votes p.votes.items p.certificates.items) v ↔ LogNamesVote l v
   pub report : IsReportOf l p.report
 
 abbrev pub IsResultOn : List ℕ → ReceivedLog → Result Part EvidenceRefusal → Type 0

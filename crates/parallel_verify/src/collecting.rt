@@ -8,7 +8,7 @@ ghost use Rattle.parallel_verify.specs.Parts.{IsGathered};
 
 use crate::batch::check_all;
 use crate::joining::join;
-use crate::keeping::{Keeping, Shelf};
+use crate::keeping::{CertificateShelf, Keeping, Shelf};
 use crate::part::Part;
 use crate::reading::gather;
 use crate::source::Source;
@@ -38,10 +38,13 @@ fn gather_all<N: BoardNaming + Send + Sync, R: Threads + Wait + Sync, C: Connect
         (slice_index_or sources.items i s).tries
         (slice_index_or sources.items i s).replica committee.now (slice_index_or parts.items i d)) }
 {
+    let certificates = Mutex::new(CertificateShelf::new(alloc));
     let shelf = Mutex::new(Shelf::new(alloc));
     let keeping = Keeping {
+        alloc,
         rt,
         board,
+        certificates: &certificates,
         shelf: &shelf,
     };
     thread::map_vec(

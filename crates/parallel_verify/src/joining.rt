@@ -5,6 +5,7 @@ ghost use Rattle.std.specs.List.{AllZip, Contains};
 ghost use Rattle.evidence.specs.Evidence.{IsEvidenceRefusal, IsHeaderInEvidence, IsReportOf};
 ghost use Rattle.evidence.specs.Gathering.{Grows, IsGatheringRefusal, IsUnion};
 ghost use Rattle.evidence.specs.Logs.{ReceivedLog};
+ghost use Rattle.evidence.specs.NamedVotes.{all_votes};
 ghost use Rattle.parallel_verify.specs.Parts.{HasReport, IsJoined, IsResultOn, PartHasHeader};
 
 use crate::part::Part;
@@ -15,11 +16,11 @@ use std::alloc::{AllocError, Global};
 // Adds what one source names.
 fn add_part(gathered: &mut Gathered, part: &Part) -> Result<SourceReport, EvidenceRefusal>
     ensures ok { OnOk result (Grows gathered.old gathered.new (Contains part.now.headers.items)
-        (Contains part.now.votes.items)) }
+        (Contains (all_votes part.now.votes.items part.now.certificates.items))) }
     ensures report { IfOk result (λ r. r ≡ part.now.report) }
     ensures err { IfErr result (IsGatheringRefusal gathered.old (Contains part.now.headers.items)) }
 {
-    gathered.merge(&part.headers, &part.votes)?;
+    gathered.merge(&part.headers, &part.votes, &part.certificates)?;
     Ok(part.report)
 }
 

@@ -2,13 +2,15 @@
 
 use blocks::NamedHeader;
 use certificates::SignedVote;
-use evidence::SourceReport;
+use evidence::{CertificateVotes, SourceReport};
 use shared_values::Shared;
 
-// What one source names: headers by rising id, votes that rise and were not checked, and its report.
+// What one source names: headers by rising id, votes that stand alone and rise, and certificates, none of which was checked,
+// and its report.
 #[derive(Drop)]
 pub(crate) struct Part {
     pub(crate) headers: Vec<Shared<NamedHeader>>,
     pub(crate) votes: Vec<Shared<SignedVote>>,
+    pub(crate) certificates: Vec<Shared<CertificateVotes>>,
     pub(crate) report: SourceReport,
 }

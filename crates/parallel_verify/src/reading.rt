@@ -85,10 +85,11 @@ pub(crate) fn gather<K: Keeper, C: Connector>(
     let _ = pull.failures();
     let mut gathered = Gathered::new(alloc, committee)?;
     let report = gather_frames(alloc, keeper, &mut pull, replica, &mut gathered)?;
-    let (headers, votes) = gathered.into_parts(alloc)?;
+    let (headers, votes, certificates) = gathered.into_parts(alloc)?;
     Ok(Part {
         headers,
         votes,
+        certificates,
         report,
     })
 }

@@ -76,16 +76,23 @@ fn alone(alloc: Global, replica: u16, text: &'static [u8]) -> Result<Gathered<'s
     Ok(gathered)
 }
 
+// What two logs show that were gathered apart.
+fn merged(alloc: Global) -> Result<Gathered<'static>, Fail> {
+    let mut both = alone(alloc, 0, fork_logs::log_0())?;
+    let (headers, votes, certificates) = alone(alloc, 3, fork_logs::log_3())?.into_parts(alloc)?;
+    let outcome = both.merge(&headers, &votes, &certificates).ok();
+    outcome.ok_or("the logs are refused")?;
+    Ok(both)
+}
+
 #[test]
 fn logs_gathered_apart_are_merged(rt: HostRuntime) -> Result<(), Fail> {
     let alloc = rt.alloc();
-    let mut both = alone(alloc, 0, fork_logs::log_0())?;
-    let (headers, votes) = alone(alloc, 3, fork_logs::log_3())?.into_parts(alloc)?;
-    assert!(rt; both.merge(&headers, &votes).is_ok());
-    let (headers, votes) = both.into_parts(alloc)?;
     let evidence = of_fork(alloc)?;
+    let (headers, _votes, _certificates) = merged(alloc)?.into_parts(alloc)?;
     assert!(rt; are_headers(&headers, evidence.headers()));
-    assert!(rt; votes.as_slice() == evidence.votes());
+    let listing = merged(alloc)?.in_order(alloc)?;
+    assert!(rt; listing.votes() == evidence.votes());
     Ok(())
 }
 

@@ -105,7 +105,9 @@ impl<'a, N: BoardNaming> Board<'a, N> {
         ensures { IfOk result (λ v. v ≡ vote.now) }
     {
         let vote = Shared::new(self.alloc, *vote)?;
-        self.memo_of(vote.get().replica).lock(rt).post(vote)
+        // A copy that is not needed is freed once the lock is given back.
+        let posted = self.memo_of(vote.get().replica).lock(rt).post(&vote)?;
+        Ok(posted)
     }
 
     /// Whether the vote is good: its replica is one of the committee, and signed the vote's view and id in the

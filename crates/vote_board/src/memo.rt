@@ -54,19 +54,19 @@ impl<N: BoardNaming> Memo<N> {
     // The vote, as it was posted first. What is remembered stays, of all votes. Where memory is refused nothing changes.
     pub(crate) fn post(
         &mut self,
-        vote: Shared<SignedVote>,
+        vote: &Shared<SignedVote>,
     ) -> Result<Shared<SignedVote>, AllocError>
-        ensures same { IfOk result (λ v. v ≡ vote) }
-        ensures posted { OnOk result (IsPosted self.new vote) }
+        ensures same { IfOk result (λ v. v ≡ vote.now) }
+        ensures posted { OnOk result (IsPosted self.new vote.now) }
         ensures answers { (v : SignedVoteValue) → answer_in self.new v ≡ answer_in self.old v }
         ensures err { OnErr result (self.new ≡ self.old) }
     {
-        if let Some((held, _)) = self.posted.get_key_value(&vote) {
+        if let Some((held, _)) = self.posted.get_key_value(vote) {
             return held.again();
         }
-        let again = vote.again()?;
-        self.posted.insert(vote, None)?;
-        Ok(again)
+        let given = vote.again()?;
+        self.posted.insert(vote.again()?, None)?;
+        Ok(given)
     }
 
     // Remembers the answer to a vote; what is remembered of others stays. Where memory is refused nothing changes.

@@ -1,4 +1,4 @@
-use Rattle.std.proofs.Common.{◌≡◌, ◌∙◌, ◌↔◌, ◌≤◌, ◌+◌, Bool, List, [], ℕ, length, take, sym, ap, subst, arith}
+use Rattle.std.proofs.Common.{◌≡◌, ◌∙◌, ◌↔◌, ◌≤◌, ◌+◌, Bool, List, [], ℕ, length, take, sym, subst, arith}
 use Rattle.std.proofs.lemmas.List.{take_all}
 use Rattle.blocks.specs.Headers.{Header}
 use Rattle.std.specs.List.{AllZip, Contains}
@@ -8,9 +8,10 @@ use Rattle.evidence.specs.Evidence.{IsEvidenceRefusal, IsHeaderInEvidence, IsRep
 use Rattle.certificates.specs.Votes.{IsAnswerOn}
 use Rattle.certificates.specs.declared.vote.SignedVote.{SignedVote}
 use Rattle.evidence.specs.Sets.{InSome}
-use Rattle.evidence.specs.Gathering.{Gathered, Grows, IsUnion}
+use Rattle.evidence.specs.Gathering.{Gathered, Grows, IsListingOf, IsUnion}
 use Rattle.evidence.specs.Logs.{ReceivedLog, LogHasHeader, LogNamesVote}
 use Rattle.evidence.proofs.Gatherings.{evidence_from, is_union, union_has_genesis, fault_of_all, grown_step, handed_on, one_report_more}
+use Rattle.evidence.proofs.NamedVotes.{union_listed}
 use Rattle.evidence.proofs.evidence.evidence_of_logs.Goals as goal
 
 pub returns-in_err-add_log-clause-refused : goal.returns-in_err-add_log-clause-refused
@@ -38,24 +39,28 @@ whole : (committee : List ℕ) (ls : List ReceivedLog) (i : ℕ) (a b : Gathered
 whole committee ls i a b l under headers none g =
     is_union committee ls a b under headers none (subst (λ (xs : List ReceivedLog). Grows a b (InSome LogHasHeader xs) (InSome LogNamesVote xs)) (take_all i ls l) g)
 
+-- what is listed is what the logs name
+listed : (committee : List ℕ) (ls : List ReceivedLog) (i : ℕ) (a b listing : Gathered) → length ls ≤ i → a.committee ≡ committee → ((h : Header) → Contains a.headers h ↔ (h ≡ genesis_of committee)) → a.votes ≡ []
+    → Grows a b (InSome LogHasHeader (take i ls)) (InSome LogNamesVote (take i ls)) → IsListingOf b listing → IsUnion committee ls listing
+listed committee ls i a b listing l under headers none g is = union_listed committee ls b listing (whole committee ls i a b l under headers none g) is
+
 pub of-requires-clause-genesis : goal.of-requires-clause-genesis
 of-requires-clause-genesis c =
-    subst (λ (g : Gathered). Contains g.headers (genesis_of g.committee)) (sym c.in_ok-listing.ensures)
-    (union_has_genesis c.args.committee.now c.args.logs.now c.loop-log.gathered
-    (whole c.args.committee.now c.args.logs.now c.loop-log.log-index c.in_ok-gathered.gathered c.loop-log.gathered (omega (arith, c.loop-log-test.false)) c.in_ok-gathered.ensures.committee c.in_ok-gathered.ensures.headers
-    c.in_ok-gathered.ensures.votes c.loop-log.invariant.grown))
+    union_has_genesis c.args.committee.now c.args.logs.now c.in_ok-listing.listing
+    (listed c.args.committee.now c.args.logs.now c.loop-log.log-index c.in_ok-gathered.gathered c.loop-log.gathered c.in_ok-listing.listing (omega (arith, c.loop-log-test.false)) c.in_ok-gathered.ensures.committee c.in_ok-gathered.ensures.headers
+    c.in_ok-gathered.ensures.votes c.loop-log.invariant.grown c.in_ok-listing.ensures)
 
--- the answers are those to the votes that were gathered
-answered : (committee : List ℕ) (g l : Gathered) (votes : List SignedVote) (answers given : List Bool) → g.committee ≡ committee → l ≡ g → votes ≡ l.votes → given ≡ answers → AllZip (IsAnswerOn committee) votes answers
+-- the answers are those to the votes that were listed
+answered : (committee : List ℕ) (l : Gathered) (votes : List SignedVote) (answers given : List Bool) → l.committee ≡ committee → votes ≡ l.votes → given ≡ answers → AllZip (IsAnswerOn committee) votes answers
     → AllZip (IsAnswerOn l.committee) l.votes given
-answered committee g l votes answers given under is of same zip =
-    subst (λ (k : List ℕ). AllZip (IsAnswerOn k) l.votes given) (sym (ap (λ (x : Gathered). x.committee) is ∙ under))
+answered committee l votes answers given under of same zip =
+    subst (λ (k : List ℕ). AllZip (IsAnswerOn k) l.votes given) (sym under)
     (subst (λ (vs : List SignedVote). AllZip (IsAnswerOn committee) vs given) of (subst (AllZip (IsAnswerOn committee) votes) (sym same) zip))
 
 pub of-requires-clause-answers : goal.of-requires-clause-answers
 of-requires-clause-answers c =
-    answered c.args.committee.now c.loop-log.gathered c.in_ok-listing.listing c.votes.result.now c.in_ok-answers.answers.items c.deref.result.now
-    (c.loop-log.invariant.grown.committee ∙ c.in_ok-gathered.ensures.committee) c.in_ok-listing.ensures c.votes.ensures.value c.deref.ensures.value c.in_ok-answers.ensures
+    answered c.args.committee.now c.in_ok-listing.listing c.votes.result.now c.in_ok-answers.answers.items c.deref.result.now
+    (c.in_ok-listing.ensures.committee ∙ c.loop-log.invariant.grown.committee ∙ c.in_ok-gathered.ensures.committee) c.votes.ensures.value c.deref.ensures.value c.in_ok-answers.ensures
 
 pub returns-clause-ok : goal.returns-clause-ok
 returns-clause-ok c =
@@ -65,11 +70,8 @@ returns-clause-ok c =
     let g = c.loop-log.gathered in
     let listing = c.in_ok-listing.listing in
     let l : length ls ≤ i = omega (arith, c.loop-log-test.false) in
-    let union = whole committee ls i c.in_ok-gathered.gathered g l c.in_ok-gathered.ensures.committee c.in_ok-gathered.ensures.headers c.in_ok-gathered.ensures.votes c.loop-log.invariant.grown in
-    let same = sym c.in_ok-listing.ensures in
-    let zip = answered committee g listing c.votes.result.now c.in_ok-answers.answers.items c.deref.result.now
-    (c.loop-log.invariant.grown.committee ∙ c.in_ok-gathered.ensures.committee) c.in_ok-listing.ensures c.votes.ensures.value c.deref.ensures.value c.in_ok-answers.ensures in
-    evidence_from committee ls listing c.deref.result.now c.loop-log.reports.items c.in_ok-of.field-0
-    (subst (IsUnion committee ls) same union)
-    (subst (λ (k : List ℕ). AllZip (IsAnswerOn k) listing.votes c.deref.result.now) (ap (λ (x : Gathered). x.committee) c.in_ok-listing.ensures ∙ union.under) zip)
+    let union = listed committee ls i c.in_ok-gathered.gathered g listing l c.in_ok-gathered.ensures.committee c.in_ok-gathered.ensures.headers c.in_ok-gathered.ensures.votes c.loop-log.invariant.grown c.in_ok-listing.ensures in
+    let zip = answered committee listing c.votes.result.now c.in_ok-answers.answers.items c.deref.result.now union.under c.votes.ensures.value c.deref.ensures.value c.in_ok-answers.ensures in
+    evidence_from committee ls listing c.deref.result.now c.loop-log.reports.items c.in_ok-of.field-0 union
+    (subst (λ (k : List ℕ). AllZip (IsAnswerOn k) listing.votes c.deref.result.now) union.under zip)
     (subst (λ (xs : List ReceivedLog). AllZip IsReportOf xs c.loop-log.reports.items) (take_all i ls l) c.loop-log.invariant.reports) c.in_ok-of.ensures

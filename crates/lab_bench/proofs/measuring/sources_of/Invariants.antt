@@ -4,4 +4,4 @@ use Rattle.parallel_verify.specs.Collections.{MayBeTried}
 use Rattle.lab_bench.proofs.measuring.sources_of.Given as goal
 
 abbrev pub invariant-loop-log : goal.invariant-loop-log
-invariant-loop-log l = All (MayBeTried (λ c. MOST_TRIES)) l.sources.items
+invariant-loop-log g l = All (MayBeTried (λ c. MOST_TRIES)) l.sources.items

@@ -5,7 +5,7 @@ use Rattle.evidence.specs.Evidence.{IsEvidenceRefusal, IsHeaderInEvidence, IsRep
 use Rattle.evidence.specs.Logs.{ReceivedLog}
 use Rattle.evidence.specs.declared.refusal.EvidenceRefusal.{EvidenceRefusal}
 use Rattle.evidence.specs.declared.source.SourceReport.{SourceReport}
-use Rattle.evidence.specs.Gathering.{IsUnion}
+use Rattle.evidence.proofs.NamedVotes.{union_listed}
 use Rattle.evidence.proofs.Gatherings.{handed_on, zip_length, zip_more}
 use Rattle.parallel_verify.specs.Parts.{HasReport, IsResultOn}
 use Rattle.parallel_verify.specs.declared.part.Part.{Part}
@@ -59,9 +59,9 @@ returns-clause-union c = λ logs zip.
     let parts = c.args.parts.now in
     let i = c.loop-part.part-index in
     let l : length parts ≤ i = omega (arith, c.loop-part-test.false) in
-    subst (IsUnion committee logs) (sym c.in_ok-in_order.ensures)
+    union_listed committee logs c.loop-part.gathered c.in_ok-in_order.field-0
     (union_of_logs committee logs parts c.in_ok-gathered.gathered c.loop-part.gathered i zip l c.in_ok-gathered.ensures.committee c.in_ok-gathered.ensures.headers
-    c.in_ok-gathered.ensures.votes (c.loop-part.invariant.grown logs zip))
+    c.in_ok-gathered.ensures.votes (c.loop-part.invariant.grown logs zip)) c.in_ok-in_order.ensures
 
 pub returns-clause-told : goal.returns-clause-told
 returns-clause-told c = λ logs zip.

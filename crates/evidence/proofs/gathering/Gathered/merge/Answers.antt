@@ -1,5 +1,6 @@
 use Rattle.std.specs.List.{Contains}
 use Rattle.evidence.specs.Gathering.{IsNone}
+use Rattle.evidence.specs.NamedVotes.{all_votes}
 use Rattle.evidence.proofs.Gatherings.{grown_as, grown_both, none_first, none_last}
 use Rattle.evidence.proofs.gathering.Gathered.merge.Goals as goal
 
@@ -7,8 +8,8 @@ pub returns-clause-ok : goal.returns-clause-ok
 returns-clause-ok c =
     let a = c.args.self.now in
     let b = c.absorb_headers.new.self in
-    let d = c.absorb_votes.new.self in
+    let d = c.absorb_all_votes.new.self in
     let hs = c.args.headers.now in
-    let vs = c.args.votes.now in
+    let vs = all_votes c.args.votes.now c.args.certificates.now in
     grown_as a d _ _ _ _ (λ h. none_last (Contains hs) h) (λ v. none_first (Contains vs) v)
-    (grown_both a b d (Contains hs) IsNone IsNone (Contains vs) c.in_ok-absorb_headers.ensures.ok c.in_ok-absorb_votes.ensures)
+    (grown_both a b d (Contains hs) IsNone IsNone (Contains vs) c.in_ok-absorb_headers.ensures.ok c.in_ok-absorb_all_votes.ensures)

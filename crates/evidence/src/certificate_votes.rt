@@ -1,0 +1,99 @@
+//! The votes of a certificate.
+
+ghost use Rattle.std.specs.Prelude.{◌≡◌, ◌∷◌, ◌++◌, [], IfOk, IsTrue, OnOk};
+ghost use Rattle.evidence.specs.NamedVotes.{AreVotesOf, HaveSame};
+
+use crate::keeper::VoteKeeper;
+use blocks::Id;
+use certificates::{Certificate, SignedVote};
+use shared_values::Shared;
+use std::alloc::{AllocError, Global};
+use std::marker::Model;
+
+/// The votes of a certificate, none of which was checked. Logs of many replicas hold one certificate, and then share this.
+/// Contracts see the votes.
+#[derive(Drop)]
+pub struct CertificateVotes {
+    block: Id,
+    votes: Vec<Shared<SignedVote>>,
+}
+
+impl Model for CertificateVotes {
+    ghost use Rattle.std.specs.Prelude.{List};
+    ghost use Rattle.certificates.specs.declared.vote.SignedVote.{SignedVote as SignedVoteValue};
+
+    ghost Value = { List SignedVoteValue };
+
+    ghost view = { λ c. c.votes.items };
+}
+
+// Adds a vote.
+fn put(votes: &mut Vec<Shared<SignedVote>>, vote: Shared<SignedVote>) -> Result<(), AllocError>
+    ensures { OnOk result (votes.new.items ≡ votes.old.items ++ vote ∷ []) }
+{
+    votes.push(vote)?;
+    Ok(())
+}
+
+impl CertificateVotes {
+    /// The votes of this certificate, each as the keeper keeps it. Memory is refused where one of them, or the list, could
+    /// not be made.
+    pub fn of<K: VoteKeeper>(
+        alloc: Global,
+        keeper: &K,
+        certificate: &Certificate,
+    ) -> Result<CertificateVotes, AllocError>
+        ensures { IfOk result (AreVotesOf certificate.now) }
+    {
+        let mut votes = Vec::new(alloc);
+        for k in 0..certificate.count() {
+            put(&mut votes, keeper.vote(&certificate.vote(k))?)?;
+        }
+        Ok(CertificateVotes {
+            block: *certificate.id(),
+            votes,
+        })
+    }
+
+    /// Whether these are the votes of this certificate: as many, each the same in its place.
+    pub fn are_of(&self, certificate: &Certificate) -> bool
+        ensures { IsTrue result → AreVotesOf certificate.now self.now }
+    {
+        if self.votes.len() != certificate.count() {
+            return false;
+        }
+        for k in 0..self.votes.len() {
+            if *self.votes[k].get() != certificate.vote(k) {
+                return false;
+            }
+        }
+        true
+    }
+
+    /// Whether the other has the same votes in the same places.
+    pub(crate) fn is(&self, other: &CertificateVotes) -> bool
+        ensures { IsTrue result → HaveSame self.now other.now }
+    {
+        if self.votes.len() != other.votes.len() {
+            return false;
+        }
+        for k in 0..self.votes.len() {
+            if self.votes[k].get() != other.votes[k].get() {
+                return false;
+            }
+        }
+        true
+    }
+
+    /// The id of the block that they are for.
+    pub(crate) fn block(&self) -> &Id {
+        &self.block
+    }
+
+    /// The votes.
+    pub(crate) fn votes(&self) -> &[Shared<SignedVote>]
+        ensures { result.now ≡ self.now }
+    {
+        &self.votes
+    }
+}
