@@ -18,7 +18,14 @@ fn main(rt: HostRuntime) -> ExitCode {
                 rt: &rt,
                 alloc: rt.alloc(),
             };
-            run_signer(&host, words, &mut input, out, faults)
+            run_signer(
+                &host,
+                words,
+                &mut input,
+                out,
+                faults,
+                StdSink::new(rt.stderr()),
+            )
         },
     )
 }

@@ -1,1 +1,5 @@
 pub mod FaultLines
+pub mod Lines
+pub mod Notes
+pub mod Sockets
+pub mod Ends

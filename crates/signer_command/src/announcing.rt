@@ -1,105 +1,104 @@
 //! What a signer says while its threads work, and when it ends.
 
-use crate::listening::Listener;
+ghost use Rattle.std.specs.Prelude.{◌≡◌, ◌++◌, IfOk, Option, OnErr, OnOk, codes, option_map, string_bytes};
+ghost use Rattle.streams.specs.Counting.{Counts};
+ghost use Rattle.streams.specs.Streams.{Wrote, WrotePart};
+ghost use Rattle.signer_command.specs.Lines.{IsAnnounced, listening_line, listening_line_if, listening_text};
+ghost use Rattle.signer_command.specs.Sockets.{places_of};
+
+use crate::listening::Place;
 use crate::pool::Start;
 use crate::stay::Sockets;
 use std::alloc::{AllocError, Global};
 use std::time::Clock;
 use streams::{Feed, Sink, write_all};
 
-/// What says that calls are taken, and when the signer is to end.
-#[derive(Drop)]
-pub(crate) struct Announcer<'a, R, W> {
-    pub alloc: Global,
-    /// Where calls are taken, as it is printed.
-    pub place: &'a str,
-    /// What ends the signer by its own end, where something does.
-    pub input: Option<&'a mut R>,
-    pub out: &'a mut W,
+/// What came of announcing a signer.
+#[derive(Clone, Copy, Debug, PartialEq, Eq)]
+pub enum Announced {
+    /// Not all threads have begun, and nothing was said.
+    NotBegun,
+    /// It could not be said that calls are taken, or not all of it.
+    Unsaid,
+    /// It was said, and where an input ends the signer, that has ended.
+    Over,
 }
 
 /// Says where calls are taken once all threads have begun, and ends them when the input has ended, or where nothing can be
-/// said. Answers whether all had begun.
+/// said.
 pub(crate) fn announce<T: Clock, R: Feed, W: Sink>(
     rt: &T,
     start: &Start,
     sockets: &Sockets,
-    announcer: &mut Announcer<'_, R, W>,
-) -> bool {
+    text: &[u8],
+    while_input: bool,
+    input: &mut R,
+    out: &mut W,
+) -> Announced
+    ensures { IsAnnounced result (W.text out.old) (W.text out.new) (W.failed out.old)
+        (W.failed out.new) text.now }
+{
     if !start.wait_for_all(rt) {
-        return false;
+        return Announced::NotBegun;
     }
-    if say_places(sockets, announcer).is_ok() {
-        let Some(input) = &mut announcer.input else {
-            return true;
-        };
-        read_to_its_end(*input);
+    let said = write_all(out, text);
+    if said.is_ok() {
+        if !while_input {
+            return Announced::Over;
+        }
+        read_to_its_end(input);
     }
     start.end();
-    for listener in [
+    close_all(sockets);
+    match said {
+        Ok(()) => Announced::Over,
+        Err(_) => Announced::Unsaid,
+    }
+}
+
+fn close_all(sockets: &Sockets) {
+    for place in [
         Some(&sockets.calls),
         sockets.reads.as_ref(),
         sockets.log.as_ref(),
     ] {
-        if let Some(listener) = listener {
+        if let Some(place) = place {
             // A thread that it does not wake looks by itself.
-            let _ = listener.close();
+            let _ = place.listener.close();
         }
     }
-    true
 }
 
-// Why nothing could be said.
-#[derive(Clone, Copy, Debug)]
-enum Unsaid {
-    Memory,
-    Output,
+/// The lines that say where calls are taken.
+pub(crate) fn text_of(alloc: Global, sockets: &Sockets) -> Result<Vec<u8>, AllocError>
+    ensures { IfOk result (λ text. text.items ≡ listening_text (places_of sockets.now)) }
+{
+    let mut text = Vec::new(alloc);
+    put_line(&mut text, b"calls", &sockets.calls)?;
+    put_line_if(&mut text, b"read", &sockets.reads)?;
+    put_line_if(&mut text, b"log", &sockets.log)?;
+    Ok(text)
 }
 
-impl From<AllocError> for Unsaid {
-    ghost from_gives = { λ _ _. Unit {0} };
-
-    fn from(_refused: AllocError) -> Unsaid {
-        Unsaid::Memory
-    }
+fn put_line(text: &mut Vec<u8>, name: &[u8], place: &Place) -> Result<(), AllocError>
+    ensures { OnOk result (text.new.items
+        ≡ text.old.items ++ listening_line name.now (string_bytes place.now.name)) }
+{
+    text.extend_from_slice(b"listening ")?;
+    text.extend_from_slice(name)?;
+    text.extend_from_slice(b" ")?;
+    text.extend_from_slice(place.name.as_bytes())?;
+    text.extend_from_slice(b"\n")
 }
 
-fn say_places<R, W: Sink>(
-    sockets: &Sockets,
-    announcer: &mut Announcer<'_, R, W>,
-) -> Result<(), Unsaid> {
-    let calls = match sockets.calls.local_addr() {
-        Some(address) => format!(in announcer.alloc; "listening calls tcp:{address}\n")?,
-        None => {
-            let path = announcer.place;
-            format!(in announcer.alloc; "listening calls unix:{path}\n")?
-        }
-    };
-    say(announcer, &calls)?;
-    say_place(announcer, "read", &sockets.reads)?;
-    say_place(announcer, "log", &sockets.log)
-}
-
-// Where another socket listens, if there is one.
-fn say_place<R, W: Sink>(
-    announcer: &mut Announcer<'_, R, W>,
-    name: &str,
-    listener: &Option<Listener>,
-) -> Result<(), Unsaid> {
-    let Some(listener) = listener else {
-        return Ok(());
-    };
-    let Some(address) = listener.local_addr() else {
-        return Ok(());
-    };
-    let line = format!(in announcer.alloc; "listening {name} {address}\n")?;
-    say(announcer, &line)
-}
-
-fn say<R, W: Sink>(announcer: &mut Announcer<'_, R, W>, line: &String) -> Result<(), Unsaid> {
-    match write_all(announcer.out, line.as_bytes()) {
-        Ok(()) => Ok(()),
-        Err(_) => Err(Unsaid::Output),
+// The line of another place, if there is one.
+fn put_line_if(text: &mut Vec<u8>, name: &[u8], place: &Option<Place>) -> Result<(), AllocError>
+    ensures { OnOk result (text.new.items ≡ text.old.items ++ listening_line_if name.now
+        (option_map (λ p. string_bytes p.name) place.now)) }
+{
+    match place {
+        Some(place) => put_line(text, name, place),
+        None => Ok(()),
     }
 }
 

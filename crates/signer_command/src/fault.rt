@@ -1,6 +1,6 @@
 //! Why a signer gives up, and the line that it prints then.
 
-ghost use Rattle.std.specs.Prelude.{◌≡◌};
+ghost use Rattle.std.specs.Prelude.{◌≡◌, ◌↔◌};
 ghost use Rattle.signer_command.specs.FaultLines.{fault_in_folder, name_behind, own_line, store_fault_line};
 
 use itoa::Buffer;
@@ -68,7 +68,8 @@ fn store_fault(number: u8) -> Line
 
 /// The fault of a replica on the folder at `path`.
 pub(crate) fn in_folder<'a>(path: &'a str, fault: ReplicaFault) -> Fault<'a>
-    ensures { result ≡ fault_in_folder path.entry fault }
+    ensures value { result ≡ fault_in_folder path.entry fault }
+    ensures output { fault ≡ ReplicaFault.Output ↔ result ≡ ProgramFault.Output }
 {
     match fault {
         ReplicaFault::Memory => Fault::Memory,

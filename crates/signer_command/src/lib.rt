@@ -3,10 +3,12 @@
 #![tactic(auto)]
 
 mod announcing;
+mod calls_read;
 mod fault;
 mod handing_out;
 mod link;
 mod listening;
+mod notes;
 mod pace;
 mod pool;
 mod program;
@@ -15,4 +17,4 @@ mod stay;
 mod words;
 
 pub use fault::{Fault, SignerFault};
-pub use program::{Host, run_signer};
+pub use program::{DONE, Host, run_signer};

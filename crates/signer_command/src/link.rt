@@ -1,6 +1,7 @@
 //! A caller's stream, which is given up where the caller takes too long or the signer ends.
 
-use crate::pace::{Pace, Phase};
+use crate::calls_read::CallsRead;
+use crate::pace::Pace;
 use std::cell::Cell;
 use std::io;
 use std::io::{ErrorKind, Read, Write};
@@ -12,43 +13,57 @@ use std::time::Clock;
 /// stands still does not keep it for ever.
 const MOST_TICKS: u32 = 400;
 
-/// One side of a caller's stream: the reading one or the writing one, which share its pace.
+/// A caller's stream and what it is held to. Both of its sides share it.
 #[derive(Drop)]
 pub(crate) struct Link<'a, C: Clock> {
     pub stream: &'a TcpStream,
     pub clock: &'a C,
-    pub pace: &'a Cell<Pace>,
+    pub pace: Cell<Pace>,
     pub ending: &'a AtomicBool,
 }
 
 impl<C: Clock> Link<'_, C> {
-    // Notes what the connection waits for, and fails where it has waited too long or the signer ends.
-    fn wait_in(&self, phase: Phase) -> io::Result<()> {
-        let mut pace = self.pace.get();
-        pace.enter(phase, self.clock)?;
-        self.pace.set(pace);
-        if self.ending.load(Ordering::SeqCst) || pace.is_over(self.clock)? {
+    // Fails where the caller has taken too long or the signer ends.
+    fn look(&self) -> io::Result<()> {
+        if self.ending.load(Ordering::SeqCst) || self.pace.get().is_over(self.clock)? {
             return Err(io::Error::from(ErrorKind::TimedOut));
         }
         Ok(())
     }
 }
 
-impl<C: Clock> Read for Link<'_, C> {
+/// What a caller sends.
+#[derive(Drop)]
+pub(crate) struct Asking<'a, C: Clock> {
+    pub link: &'a Link<'a, C>,
+    pub calls: CallsRead,
+}
+
+impl<C: Clock> Asking<'_, C> {
+    // Notes what came.
+    fn follow(&mut self, bytes: &[u8]) -> io::Result<()> {
+        let has_ended = self.calls.follow(bytes)?;
+        let mut pace = self.link.pace.get();
+        pace.took(has_ended, self.calls.is_amid(), self.link.clock)?;
+        self.link.pace.set(pace);
+        Ok(())
+    }
+}
+
+impl<C: Clock> Read for Asking<'_, C> {
     fn read(&mut self, buffer: &mut [u8]) -> io::Result<usize> {
-        // Behind an answer the next call has not begun.
-        let phase = if self.pace.get().is_reading() {
-            Phase::Reading
-        } else {
-            Phase::Idle
-        };
+        let mut pace = self.link.pace.get();
+        if !pace.begin_to_read(self.link.clock)? {
+            return Ok(0);
+        }
+        self.link.pace.set(pace);
         for _ in 0..MOST_TICKS {
-            self.wait_in(phase)?;
-            let mut stream = self.stream;
+            self.link.look()?;
+            let mut stream = self.link.stream;
             match stream.read(buffer) {
                 Err(error) if may_go_on(error.kind()) => {}
                 Ok(count) => {
-                    self.wait_in(Phase::Reading)?;
+                    self.follow(buffer.get(..count).unwrap_or(&[]))?;
                     return Ok(count);
                 }
                 Err(error) => return Err(error),
@@ -58,11 +73,20 @@ impl<C: Clock> Read for Link<'_, C> {
     }
 }
 
-impl<C: Clock> Write for Link<'_, C> {
+/// What a caller is sent.
+#[derive(Drop)]
+pub(crate) struct Answering<'a, C: Clock> {
+    pub link: &'a Link<'a, C>,
+}
+
+impl<C: Clock> Write for Answering<'_, C> {
     fn write(&mut self, bytes: &[u8]) -> io::Result<usize> {
+        let mut pace = self.link.pace.get();
+        pace.begin_to_write(self.link.clock)?;
+        self.link.pace.set(pace);
         for _ in 0..MOST_TICKS {
-            self.wait_in(Phase::Writing)?;
-            let mut stream = self.stream;
+            self.link.look()?;
+            let mut stream = self.link.stream;
             match stream.write(bytes) {
                 Err(error) if may_go_on(error.kind()) => {}
                 outcome => return outcome,

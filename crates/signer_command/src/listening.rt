@@ -1,9 +1,10 @@
 //! Where callers connect.
 
 use crate::pace::tick;
+use std::alloc::Global;
 use std::io;
 use std::io::ErrorKind;
-use std::net::{Net, Shutdown, SocketAddr, TcpListener, TcpStream, ToSocketAddrs};
+use std::net::{Net, Shutdown, TcpListener, TcpStream, ToSocketAddrs};
 use std::os::fd::OwnedFd;
 use std::os::unix::net::UnixListener;
 
@@ -47,37 +48,46 @@ impl Listener {
         TcpStream::from(socket).shutdown(Shutdown::Both)
     }
 
-    /// The port that it got, over TCP.
-    pub fn local_addr(&self) -> Option<SocketAddr> {
-        match self {
-            Listener::Tcp(listener) => listener.local_addr().ok(),
-            Listener::Unix(_) => None,
-        }
-    }
-
     /// Whether any program of this machine, and so a page in a browser, may connect.
     pub fn is_tcp(&self) -> bool {
         matches!(self, Listener::Tcp(_))
     }
 }
 
-/// Listens at an address of this machine.
+/// A socket that takes connections, and where it is, as it is printed.
+#[derive(Drop)]
+pub(crate) struct Place {
+    pub listener: Listener,
+    pub name: String,
+}
+
+/// Listens at an address of this machine. The place is named by the address that it got, behind these words.
 pub(crate) fn listen<R: Net<Listener = TcpListener, Stream = TcpStream>>(
     rt: &R,
+    alloc: Global,
+    words: &str,
     address: &str,
-) -> io::Result<Listener> {
-    Ok(Listener::Tcp(TcpListener::bind(rt, address)?))
+) -> io::Result<Place> {
+    let listener = TcpListener::bind(rt, address)?;
+    let got = listener.local_addr()?;
+    let name = format!(in alloc; "{words}{got}")?;
+    Ok(Place {
+        listener: Listener::Tcp(listener),
+        name,
+    })
 }
 
 /// The same, where the address is one that only this machine reaches.
 pub(crate) fn listen_at_home<R: Net<Listener = TcpListener, Stream = TcpStream>>(
     rt: &R,
+    alloc: Global,
+    words: &str,
     address: &str,
-) -> io::Result<Listener> {
+) -> io::Result<Place> {
     for address in address.to_socket_addrs(rt)? {
         if !address.ip().is_loopback() {
             return Err(io::Error::from(ErrorKind::PermissionDenied));
         }
     }
-    listen(rt, address)
+    listen(rt, alloc, words, address)
 }

@@ -2,13 +2,15 @@
 
 ghost use Rattle.std.specs.Prelude.{◌≡◌};
 
+use crate::calls_read::CallsRead;
 use crate::handing_out::{Asker, hand_out};
-use crate::link::Link;
-use crate::listening::Listener;
-use crate::pace::{Pace, tick};
+use crate::link::{Answering, Asking, Link};
+use crate::listening::Place;
+use crate::notes::Notes;
+use crate::pace::{Manner, Pace, tick};
 use crate::stay::Sockets;
 use blocks::CommitteeView;
-use certificates::LmsVerifier;
+use good_votes::{GoodVotes, SideBySide};
 use http_server::{Config, Connection};
 use http1::Limits;
 use signing_service::{Commits, Rules, Signer, Tallies, serve_calls};
@@ -21,6 +23,7 @@ use std::sync::atomic::{AtomicBool, AtomicU32, Ordering};
 use std::thread::Threads;
 use std::time::{Clock, Duration};
 use std::{io, thread};
+use streams::Sink;
 use vote_desk::{Desk, DeskNaming, Session};
 
 /// The longest body: a header of 84 bytes and a certificate of 45,147.
@@ -44,7 +47,7 @@ pub(crate) enum Job<N: DeskNaming> {
 
 /// What the threads share.
 #[derive(Drop)]
-pub(crate) struct Shop<'a, N: DeskNaming, T: Wait, D: Disk> {
+pub(crate) struct Shop<'a, N: DeskNaming, T: Wait, S: Sink, D: Disk> {
     pub rt: &'a T,
     pub alloc: Global,
     pub desk: &'a Desk<N, D>,
@@ -52,7 +55,9 @@ pub(crate) struct Shop<'a, N: DeskNaming, T: Wait, D: Disk> {
     pub replica: u16,
     pub commits: &'a Commits<N>,
     pub tallies: &'a Tallies,
+    pub good: &'a GoodVotes,
     pub sockets: &'a Sockets,
+    pub notes: &'a Notes<'a, T, S>,
     pub start: &'a Start,
     pub ghost committee_is: { committee.now ≡ N.committee },
     pub ghost replica_is: { replica ≡ N.replica },
@@ -100,68 +105,87 @@ impl Start {
     }
 }
 
-/// A thread for each job, where they can be made. Answers the sessions, once all have ended.
+/// A thread for each job, where they can be made. Answers the sessions, once all have ended. Where memory is refused the jobs
+/// are gone, and those that have begun are to end.
 pub(crate) fn work_all<
     N: DeskNaming + Send + Sync,
     T: Threads + Wait + Clock + Sync,
+    S: Sink + Send,
     D: Disk + Send,
->(shop: &Shop<'_, N, T, D>, jobs: Vec<Job<N>>) -> Result<Vec<Option<Session<N>>>, AllocError> {
-    thread::map_vec(shop.rt, jobs, &|job: Job<N>| { work(shop, job) })
+>(
+    shop: &Shop<'_, N, T, S, D>,
+    jobs: Option<Vec<Job<N>>>,
+) -> Result<Vec<Option<Session<N>>>, AllocError> {
+    let Some(jobs) = jobs else {
+        return Ok(Vec::new(shop.alloc));
+    };
+    let left = thread::map_vec(shop.rt, jobs, &|job: Job<N>| { work(shop, job) });
+    if left.is_err() {
+        shop.start.end();
+    }
+    Ok(left?)
 }
 
 // Takes connections until the signer ends.
-fn work<N: DeskNaming, T: Wait + Clock, D: Disk>(
-    shop: &Shop<'_, N, T, D>,
+fn work<N: DeskNaming, T: Threads + Wait + Clock, S: Sink, D: Disk>(
+    shop: &Shop<'_, N, T, S, D>,
     job: Job<N>,
 ) -> Option<Session<N>> {
     let _before = shop.start.begun.fetch_add(1, Ordering::SeqCst);
     let all_begun = shop.start.wait_for_all(shop.rt);
     match job {
         Job::Calls(session) if all_begun => {
-            Some(take_calls(shop, &shop.sockets.calls, &shop.sockets.call_rules, session))
+            let rules = &shop.sockets.call_rules;
+            Some(take_calls(shop, &shop.sockets.calls, rules, Manner::Staying, session))
         }
         Job::Reads(session) if all_begun => match &shop.sockets.reads {
-            Some(listener) => Some(take_calls(shop, listener, &shop.sockets.read_rules, session)),
+            Some(place) => {
+                let rules = &shop.sockets.read_rules;
+                Some(take_calls(shop, place, rules, Manner::Brief, session))
+            }
             None => Some(session),
         },
         Job::Calls(session) | Job::Reads(session) => Some(session),
         Job::HandsOut => {
-            if let Some(listener) = &shop.sockets.log
+            if let Some(place) = &shop.sockets.log
                 && all_begun
             {
-                hand_out_to_all(shop, listener);
+                hand_out_to_all(shop, place);
             }
             None
         }
     }
 }
 
-fn take_calls<N: DeskNaming, T: Wait + Clock, D: Disk>(
-    shop: &Shop<'_, N, T, D>,
-    listener: &Listener,
-    rules: &Rules,
+fn take_calls<'x, N: DeskNaming, T: Threads + Wait + Clock, S: Sink, D: Disk>(
+    shop: &'x Shop<'x, N, T, S, D>,
+    place: &Place,
+    rules: &'x Rules,
+    manner: Manner,
     session: Session<N>,
 ) -> Session<N> {
+    let checker = SideBySide::new(shop.rt, shop.good);
     let mut signer = Signer::new(
         shop.rt,
         shop.alloc,
         shop.desk,
         shop.committee,
         shop.replica,
-        &LmsVerifier,
+        &checker,
         rules,
         shop.commits,
         shop.tallies,
+        shop.notes,
         session,
     );
     for _ in shop.rt.forever() {
         if shop.start.is_ending() {
             break;
         }
-        match listener.accept() {
+        match place.listener.accept() {
             Ok(stream) => {
                 // Where it breaks off, the caller knows.
-                let _ = answer_stream(shop, &mut signer, &stream);
+                let _ = answer_stream(shop, &mut signer, manner, &stream);
             }
             Err(_) => thread::sleep(shop.rt, tick()),
         }
@@ -170,29 +194,25 @@ fn take_calls<N: DeskNaming, T: Wait + Clock, D: Disk>(
 }
 
 // Answers the calls of one stream.
-fn answer_stream<'a, N: DeskNaming, T: Wait + Clock, D: Disk>(
-    shop: &Shop<'_, N, T, D>,
-    signer: &mut Signer<'a, N, T, D, LmsVerifier>,
+fn answer_stream<'a, 'x, N: DeskNaming, T: Threads + Wait + Clock, S: Sink, D: Disk>(
+    shop: &Shop<'_, N, T, S, D>,
+    signer: &mut Signer<'a, N, T, D, SideBySide<'x, T>, Notes<'x, T, S>>,
+    manner: Manner,
     stream: &TcpStream,
 ) -> io::Result<()> {
-    let pace = Cell::new(Pace::new(shop.rt)?);
-    let mut reader = link(shop, stream, &pace);
-    let mut writer = link(shop, stream, &pace);
-    let mut connection = Connection::new(shop.alloc, shop.sockets.keys, config());
-    serve_calls(signer, &mut connection, &mut reader, &mut writer)
-}
-
-fn link<'a, N: DeskNaming, T: Wait + Clock, D: Disk>(
-    shop: &'a Shop<'_, N, T, D>,
-    stream: &'a TcpStream,
-    pace: &'a Cell<Pace>,
-) -> Link<'a, T> {
-    Link {
+    let link = Link {
         stream,
         clock: shop.rt,
-        pace,
+        pace: Cell::new(Pace::new(manner, shop.rt)?),
         ending: &shop.start.ending,
-    }
+    };
+    let mut asking = Asking {
+        link: &link,
+        calls: CallsRead::new(shop.alloc),
+    };
+    let mut answering = Answering { link: &link };
+    let mut connection = Connection::new(shop.alloc, shop.sockets.keys, config());
+    serve_calls(signer, &mut connection, &mut asking, &mut answering)
 }
 
 // What a connection is held to.
@@ -205,15 +225,15 @@ fn config() -> Config {
     }
 }
 
-fn hand_out_to_all<N: DeskNaming, T: Wait + Clock, D: Disk>(
-    shop: &Shop<'_, N, T, D>,
-    listener: &Listener,
+fn hand_out_to_all<N: DeskNaming, T: Wait + Clock, S: Sink, D: Disk>(
+    shop: &Shop<'_, N, T, S, D>,
+    place: &Place,
 ) {
     for _ in shop.rt.forever() {
         if shop.start.is_ending() {
             break;
         }
-        match listener.accept() {
+        match place.listener.accept() {
             Ok(stream) => {
                 // Where it breaks off, the audit asks again.
                 let _ = hand_out_once(shop, &stream);
@@ -223,8 +243,8 @@ fn hand_out_to_all<N: DeskNaming, T: Wait + Clock, D: Disk>(
     }
 }
 
-fn hand_out_once<N: DeskNaming, T: Wait + Clock, D: Disk>(
-    shop: &Shop<'_, N, T, D>,
+fn hand_out_once<N: DeskNaming, T: Wait + Clock, S: Sink, D: Disk>(
+    shop: &Shop<'_, N, T, S, D>,
     stream: &TcpStream,
 ) -> io::Result<()> {
     let asker = Asker::new(stream, shop.rt, &shop.start.ending)?;

@@ -1,19 +1,29 @@
 //! A signer from its words to its end.
 
-ghost use Rattle.std.specs.Prelude.{◌≡◌, ◌≢◌, ◌≤◌, IfOk};
+ghost use Rattle.std.specs.Prelude.{◌≡◌, ◌≢◌, ◌≤◌, ◌⊎◌, ◌++◌, IfErr, IfOk, OnErr, OnOk, codes, string_bytes};
+ghost use Rattle.streams.specs.Streams.{Wrote, WrotePart};
+ghost use Rattle.printed_lines.specs.Printed.{Told};
+ghost use Rattle.program_parts.specs.FaultLines.{fault_line};
+ghost use Rattle.program_parts.specs.Writes.{CountsOutput, CountsWrites};
+ghost use Rattle.signer_command.specs.Ends.{Fault as FaultValue, IsGivenUp, IsRun, IsStay, ended_of, status_of};
+ghost use Rattle.signer_command.specs.FaultLines.{own_line};
+ghost use Rattle.signer_command.specs.Lines.{closed_line};
+ghost use Rattle.signer_command.specs.declared.program.Ended.TheVariants.{Done, Stopped};
 
-use crate::announcing::Announcer;
 use crate::fault::{Fault, SignerFault, in_folder};
-use crate::listening::{Listener, listen, listen_at_home};
+use crate::listening::{Place, listen, listen_at_home};
+use crate::notes::Notes;
 use crate::socket_file::{Callers, SocketFault, listen_at};
-use crate::stay::{Sockets, StayFault, THREADS_BESIDE, stay_once};
+use crate::stay::{Room, Sockets, THREADS_BESIDE, stay_once};
 use crate::words::{Where, Words, read_words};
 use blocks::CommitteeView;
-use printed_lines::put_number;
-use program_parts::{exit_status, parse_committee, read_committee};
+use itoa::Buffer;
+use printed_lines::Line;
+use program_parts::{FAULT, ProgramFault, parse_committee, read_committee, write_out};
 use replica_command::ReplicaFolder;
 use signing_service::Rules;
-use std::alloc::Global;
+use stable_log::{Disk, FileDisk};
+use std::alloc::{AllocError, Global};
 use std::fs::{File, Files};
 use std::hash::RandomState;
 use std::net::{Net, TcpListener, TcpStream};
@@ -23,7 +33,11 @@ use std::sync::Wait;
 use std::thread::Threads;
 use std::time::Clock;
 use std::{fs, io};
-use streams::{Feed, Sink, write_all};
+use streams::{Feed, Sink};
+use vote_desk::{Closed, Parts};
+
+/// The input ended, and no disk had failed.
+pub const DONE: u8 = 0;
 
 /// The bits of a folder's mode by which others than its owner write in it.
 const OTHERS_WRITE: u32 = 0o022;
@@ -37,8 +51,38 @@ pub struct Host<'a, T> {
     pub alloc: Global,
 }
 
+// How a signer ended in order.
+#[derive(Clone, Copy, Debug, PartialEq, Eq)]
+enum Ended {
+    /// No disk failed.
+    Done,
+    /// A disk stopped the desk.
+    Stopped,
+}
+
+impl Ended {
+    fn of<D: Disk>(closed: &Closed<D>) -> Ended
+        ensures { result ≡ ended_of closed.now }
+    {
+        if closed.parts.log.stopped() || closed.parts.index.stopped() {
+            return Ended::Stopped;
+        }
+        Ended::Done
+    }
+
+    fn status(self) -> u8
+        ensures { result ≡ status_of self }
+    {
+        match self {
+            Ended::Done => DONE,
+            Ended::Stopped => FAULT,
+        }
+    }
+}
+
 /// Runs a signer as the words say, until its input ends where they say so, and else until it is killed. Answers the exit
-/// status.
+/// status: 0 where the input ended, 2 where a disk had stopped the desk by then, or at a fault, whose line then goes to `faults`.
+/// What is told of calls, and of a disk that stops the desk, goes to `notes`.
 pub fn run_signer<
     T: Files<File = File>
         + Threads
@@ -47,13 +91,28 @@ pub fn run_signer<
         + Net<Listener = TcpListener, Stream = TcpStream>
         + RandomSource
         + Sync,
-    R: Feed + Send,
-    W: Sink + Send,
+    R: Feed,
+    W: Sink,
     E: Sink,
->(host: &Host<'_, T>, words: &[String], input: &mut R, out: &mut W, faults: &mut E) -> u8
-    ensures quiet { result ≢ 2 → faults.new ≡ faults.old }
+    S: Sink + Send,
+>(host: &Host<'_, T>, words: &[String], input: &mut R, out: &mut W, faults: &mut E, notes: S) -> u8
+    ensures status { (result ≡ 0) ⊎ (result ≡ 2) }
+    ensures done { result ≡ 0 → IsRun ⟦<FileDisk as Disk>⟧ (W.text out.old) (W.text out.new) Done }
+    ensures quiet { result ≢ 2 → (faults.new ≡ faults.old) × (W.failed out.new ≡ W.failed out.old) }
+    ensures told { result ≡ 2 → ((faults.new ≡ faults.old) × (W.failed out.new ≡ W.failed out.old)
+        × IsRun ⟦<FileDisk as Disk>⟧ (W.text out.old) (W.text out.new) Stopped)
+        ⊎ ((fault : FaultValue) × CountsOutput fault (W.failed out.old) (W.failed out.new)
+        × IsGivenUp fault (W.text out.old) (W.text out.new)
+        × Told (E.text faults.old) (E.text faults.new) (E.failed faults.old) (E.failed faults.new)
+        (fault_line own_line fault)) }
 {
-    exit_status(run(host, words, input, out), faults)
+    match run(host, words, input, out, notes) {
+        Ok(ended) => ended.status(),
+        Err(fault) => {
+            fault.tell(faults);
+            FAULT
+        }
+    }
 }
 
 fn run<
@@ -65,25 +124,65 @@ fn run<
         + Net<Listener = TcpListener, Stream = TcpStream>
         + RandomSource
         + Sync,
-    R: Feed + Send,
-    W: Sink + Send,
->(host: &Host<'a, T>, words: &'a [String], input: &mut R, out: &mut W) -> Result<u8, Fault<'a>>
-    ensures { IfOk result (λ status. status ≡ 0) }
+    R: Feed,
+    W: Sink,
+    S: Sink + Send,
+>(
+    host: &Host<'_, T>,
+    words: &'a [String],
+    input: &mut R,
+    out: &mut W,
+    notes: S,
+) -> Result<Ended, Fault<'a>>
+    ensures done { IfOk result (IsRun ⟦<FileDisk as Disk>⟧ (W.text out.old) (W.text out.new)) }
+    ensures given_up { IfErr result (λ fault. IsGivenUp fault (W.text out.old) (W.text out.new)) }
+    ensures counted { CountsWrites result (W.failed out.old) (W.failed out.new) }
 {
-    let words = read_words(host.alloc, words)?;
-    let bytes = read_committee(host.rt, host.alloc, words.committee)?;
-    let committee = parse_committee(&bytes)?;
-    let entries = stand_by(host, &words, &committee, input, out)?;
-    let mut line = b"closed ".to_vec(host.alloc)?;
-    put_number(&mut line, entries)?;
-    line.push(b'\n')?;
-    match write_all(out, &line) {
-        Ok(()) => Ok(0),
-        Err(_) => Err(Fault::Output),
+    let (words, bytes) = match asked(host, words) {
+        Ok(asked) => asked,
+        Err(fault) => return Err(fault),
+    };
+    let committee = match parse_committee(&bytes) {
+        Ok(committee) => committee,
+        Err(fault) => return Err(fault),
+    };
+    let notes = Notes::new(host.rt, host.alloc, notes, words.verbose);
+    let closed = match stand_by(host, &words, &committee, &notes, input, out) {
+        Ok(closed) => closed,
+        Err(fault) => return Err(fault),
+    };
+    match print_count(closed.parts.log.count(), out) {
+        Ok(()) => Ok(Ended::of(&closed)),
+        Err(fault) => Err(fault),
     }
 }
 
-// From the folder's lock to the desk's end. Answers how many entries the log has.
+// What the words ask for, and the bytes of the committee's file.
+fn asked<'a, T: Files<File = File>>(
+    host: &Host<'_, T>,
+    words: &'a [String],
+) -> Result<(Words<'a>, Vec<u8>), Fault<'a>>
+    ensures { IfErr result (λ fault. fault ≢ ProgramFault.Output) }
+{
+    let words = read_words(host.alloc, words)?;
+    let bytes = read_committee(host.rt, host.alloc, words.committee)?;
+    Ok((words, bytes))
+}
+
+fn print_count<'a, W: Sink>(count: usize, out: &mut W) -> Result<(), Fault<'a>>
+    ensures ok { OnOk result (Wrote (W.text out.old) (W.text out.new) (closed_line count)) }
+    ensures err { OnErr result (WrotePart (W.text out.old) (W.text out.new) (closed_line count)) }
+    ensures refused { IfErr result (λ fault. fault ≡ ProgramFault.Output) }
+    ensures counted { CountsWrites result (W.failed out.old) (W.failed out.new) }
+{
+    let mut line = Line::new();
+    line.push(b"closed ");
+    line.push(Buffer::new().format(count).as_bytes());
+    line.push(b"\n");
+    write_out(out, line.as_bytes())
+}
+
+// From the folder's lock to the desk's end.
 fn stand_by<
     'a,
     T: Files<File = File>
@@ -93,52 +192,96 @@ fn stand_by<
         + Net<Listener = TcpListener, Stream = TcpStream>
         + RandomSource
         + Sync,
-    R: Feed + Send,
-    W: Sink + Send,
+    R: Feed,
+    W: Sink,
+    S: Sink + Send,
 >(
-    host: &Host<'a, T>,
+    host: &Host<'_, T>,
     words: &Words<'a>,
-    committee: &CommitteeView,
+    committee: &CommitteeView<'_>,
+    notes: &Notes<'_, T, S>,
     input: &mut R,
     out: &mut W,
-) -> Result<usize, Fault<'a>> {
-    let (path, alloc) = (words.folder, host.alloc);
+) -> Result<Closed<FileDisk>, Fault<'a>>
+    ensures done { IfOk result (IsStay (W.text out.old) (W.text out.new)) }
+    ensures given_up { IfErr result (λ fault. IsGivenUp fault (W.text out.old) (W.text out.new)) }
+    ensures counted { CountsWrites result (W.failed out.old) (W.failed out.new) }
+{
+    let (lock, parts, sockets) = match opened(host, words, committee) {
+        Ok(opened) => opened,
+        Err(fault) => return Err(fault),
+    };
+    let room = Room {
+        rt: host.rt,
+        alloc: host.alloc,
+        sessions: sessions_of(words),
+        while_input: words.while_input,
+        sockets: &sockets,
+        notes,
+    };
+    let closed = match stay_once(&room, committee, words.replica, parts, input, out) {
+        Ok(closed) => closed,
+        Err(fault) => return Err(fault),
+    };
+    drop(lock);
+    Ok(closed)
+}
+
+// The folder's lock, what is stored there, and the sockets.
+fn opened<
+    'a,
+    T: Files<File = File>
+        + Threads
+        + Net<Listener = TcpListener, Stream = TcpStream>
+        + RandomSource
+        + Sync,
+>(
+    host: &Host<'_, T>,
+    words: &Words<'a>,
+    committee: &CommitteeView<'_>,
+) -> Result<(File, Parts<FileDisk>, Sockets), Fault<'a>>
+    ensures { IfErr result (λ fault. fault ≢ ProgramFault.Output) }
+{
+    let path = words.folder;
     if is_open_to_others(host.rt, path) {
         return Err(Fault::File(path));
     }
     let folder = ReplicaFolder {
         files: host.rt,
-        alloc,
+        alloc: host.alloc,
         path,
     };
-    let lock = folder.lock().map_err(|fault| in_folder(path, fault))?;
-    let parts = match folder.open_parts(host.rt, committee, words.replica) {
-        Ok(parts) => parts,
-        Err(fault) => return Err(in_folder(path, fault)),
-    };
-    let place = place_of(alloc, words)?;
-    let sockets = sockets_of(host, words, &place)?;
-    let announcer = Announcer {
-        alloc,
-        place: &place,
-        input: words.while_input.then_some(input),
-        out,
-    };
-    let ended = stay_once(
-        host.rt,
-        alloc,
-        committee,
-        words.replica,
-        parts,
-        sessions_of(words),
-        &sockets,
-        announcer,
-    );
-    drop(lock);
-    match ended {
-        Ok(closed) => Ok(closed.parts.log.count()),
-        Err(StayFault::Replica(fault)) => Err(in_folder(path, fault)),
-        Err(StayFault::Threads) => Err(Fault::Own(SignerFault::Threads)),
+    let lock = locked(&folder, path)?;
+    let parts = parts_of(host.rt, &folder, path, committee, words.replica)?;
+    let sockets = sockets_of(host, words)?;
+    Ok((lock, parts, sockets))
+}
+
+// The lock of the folder.
+fn locked<'a, T: Files<File = File>>(
+    folder: &ReplicaFolder<'_, T>,
+    path: &'a str,
+) -> Result<File, Fault<'a>>
+    ensures { IfErr result (λ fault. fault ≢ ProgramFault.Output) }
+{
+    match folder.lock() {
+        Ok(lock) => Ok(lock),
+        Err(fault) => Err(in_folder(path, fault)),
+    }
+}
+
+fn parts_of<'a, T: Files<File = File> + Threads + Sync>(
+    rt: &T,
+    folder: &ReplicaFolder<'_, T>,
+    path: &'a str,
+    committee: &CommitteeView<'_>,
+    replica: u16,
+) -> Result<Parts<FileDisk>, Fault<'a>>
+    ensures { IfErr result (λ fault. fault ≢ ProgramFault.Output) }
+{
+    match folder.open_parts(rt, committee, replica) {
+        Ok(parts) => Ok(parts),
+        Err(fault) => Err(in_folder(path, fault)),
     }
 }
 
@@ -162,24 +305,17 @@ fn sessions_of(words: &Words<'_>) -> u8
     calls
 }
 
-// The path of the socket for calls, where it is one.
-fn place_of<'a>(alloc: Global, words: &Words<'a>) -> Result<String, Fault<'a>> {
-    let folder = words.folder;
-    match words.listen {
-        Where::Folder => Ok(format!(in alloc; "{folder}/signer.sock")?),
-        Where::Unix(path) => Ok(path.to_string(alloc)?),
-        Where::Tcp(_) => Ok(String::new(alloc)),
-    }
-}
-
+// Where it listens, and what callers are let do there. The sockets are bound in this order.
 fn sockets_of<
     'a,
     T: Files<File = File> + Net<Listener = TcpListener, Stream = TcpStream> + RandomSource,
->(host: &Host<'a, T>, words: &Words<'a>, place: &str) -> Result<Sockets, Fault<'a>> {
-    let calls = calls_at(host, words, place)?;
-    let reads = listener_at(host, words.read)?;
-    let log = listener_at(host, words.serve)?;
-    let over_tcp = calls.is_tcp();
+>(host: &Host<'_, T>, words: &Words<'a>) -> Result<Sockets, Fault<'a>>
+    ensures { IfErr result (λ fault. fault ≢ ProgramFault.Output) }
+{
+    let calls = calls_at(host, words)?;
+    let reads = place_if(host, words.read)?;
+    let log = place_if(host, words.serve)?;
+    let over_tcp = calls.listener.is_tcp();
     let Ok(keys) = RandomState::new(host.rt) else {
         return Err(Fault::Own(SignerFault::Listen));
     };
@@ -194,12 +330,12 @@ fn sockets_of<
 }
 
 // What callers of a socket are let do.
-fn rules_of<'a>(
+fn rules_of(
     alloc: Global,
-    words: &Words<'a>,
+    words: &Words<'_>,
     over_tcp: bool,
     reads_only: bool,
-) -> Result<Rules, Fault<'a>> {
+) -> Result<Rules, AllocError> {
     let mut hosts = Vec::new(alloc);
     for host in &words.hosts {
         hosts.push(host.clone()?)?;
@@ -213,41 +349,76 @@ fn rules_of<'a>(
 }
 
 fn calls_at<'a, T: Files<File = File> + Net<Listener = TcpListener, Stream = TcpStream>>(
-    host: &Host<'a, T>,
+    host: &Host<'_, T>,
     words: &Words<'a>,
-    place: &str,
-) -> Result<Listener, Fault<'a>> {
+) -> Result<Place, Fault<'a>>
+    ensures { IfErr result (λ fault. fault ≢ ProgramFault.Output) }
+{
+    let folder = words.folder;
+    match words.listen {
+        Where::Tcp(address) => heard(listen_at_home(host.rt, host.alloc, "tcp:", address)),
+        Where::Unix(path) => {
+            let path = path.to_string(host.alloc)?;
+            socket_at(host, words, path)
+        }
+        Where::Folder => {
+            let path = format!(in host.alloc; "{folder}/signer.sock")?;
+            socket_at(host, words, path)
+        }
+    }
+}
+
+// A Unix socket at a path, which the words name or which lies in the folder.
+fn socket_at<'a, T: Files<File = File> + Net<Listener = TcpListener, Stream = TcpStream>>(
+    host: &Host<'_, T>,
+    words: &Words<'a>,
+    path: String,
+) -> Result<Place, Fault<'a>>
+    ensures name { IfOk result (λ place. string_bytes place.name
+        ≡ codes "unix:" ++ string_bytes path) }
+    ensures refused { IfErr result (λ fault. fault ≢ ProgramFault.Output) }
+{
     let callers = if words.group {
         Callers::Group
     } else {
         Callers::Owner
     };
-    let taken = match words.listen {
-        Where::Tcp(address) => return heard(listen_at_home(host.rt, address)),
-        Where::Unix(path) => Fault::File(path),
-        Where::Folder => Fault::Own(SignerFault::Socket(words.folder)),
-    };
-    match listen_at(host.rt, host.alloc, place, callers) {
-        Ok(listener) => Ok(listener),
+    let name = format!(in host.alloc; "unix:{path}")?;
+    match listen_at(host.rt, host.alloc, &path, callers) {
+        Ok(listener) => Ok(Place { listener, name }),
         Err(SocketFault::TooLong) => Err(Fault::Own(SignerFault::Listen)),
         Err(SocketFault::Memory) => Err(Fault::Memory),
-        Err(SocketFault::Taken) => Err(taken),
+        Err(SocketFault::Taken) => Err(taken(words)),
     }
 }
 
-fn listener_at<'a, T: Net<Listener = TcpListener, Stream = TcpStream>>(
-    host: &Host<'a, T>,
+// The fault of a socket's path at which something else stands.
+fn taken<'a>(words: &Words<'a>) -> Fault<'a>
+    ensures { result ≢ ProgramFault.Output }
+{
+    match words.listen {
+        Where::Unix(path) => Fault::File(path),
+        _ => Fault::Own(SignerFault::Socket(words.folder)),
+    }
+}
+
+fn place_if<'a, T: Net<Listener = TcpListener, Stream = TcpStream>>(
+    host: &Host<'_, T>,
     address: Option<&'a str>,
-) -> Result<Option<Listener>, Fault<'a>> {
+) -> Result<Option<Place>, Fault<'a>>
+    ensures { IfErr result (λ fault. fault ≢ ProgramFault.Output) }
+{
     match address {
-        Some(address) => Ok(Some(heard(listen(host.rt, address))?)),
+        Some(address) => Ok(Some(heard(listen(host.rt, host.alloc, "", address))?)),
         None => Ok(None),
     }
 }
 
-fn heard<'a>(listener: io::Result<Listener>) -> Result<Listener, Fault<'a>> {
-    match listener {
-        Ok(listener) => Ok(listener),
-        Err(_) => Err(Fault::Own(SignerFault::Listen)),
+fn heard<'a>(place: io::Result<Place>) -> Result<Place, Fault<'a>>
+    ensures { IfErr result (λ fault. fault ≢ ProgramFault.Output) }
+{
+    match place {
+        Ok(place) => Ok(place),
+        Err(error) => Err(Fault::unless_memory(&error, Fault::Own(SignerFault::Listen))),
     }
 }

@@ -1,12 +1,13 @@
 //! A Unix socket at a path that callers know.
 
 use crate::listening::Listener;
+use mio::net::UnixStream;
 use std::alloc::{AllocError, Global};
 use std::fs::{DirBuilder, File, Files, Permissions};
 use std::io::ErrorKind;
 use std::net::Net;
 use std::os::unix::fs::{DirBuilderExt, FileTypeExt, PermissionsExt};
-use std::os::unix::net::{UnixListener, UnixStream};
+use std::os::unix::net::UnixListener;
 use std::{fs, io};
 
 /// The longest path that a Unix socket can be bound or found at, in bytes.
@@ -28,7 +29,7 @@ impl Callers {
     }
 }
 
-//// Why nothing listens at a path.
+/// Why nothing listens at a path.
 #[derive(Clone, Copy, Debug)]
 pub(crate) enum SocketFault {
     /// The path, or the one that the socket is made under, is longer than a socket's may be.
@@ -85,7 +86,8 @@ pub(crate) fn listen_at<F: Files<File = File> + Net>(
     }
 }
 
-// Whether nothing stands at the path, or a socket that nobody answers at.
+// Whether nothing stands at the path, or a socket that nobody answers at. The connect does not wait: somebody is there also where
+// his queue is full.
 fn is_free<F: Files<File = File> + Net>(files: &F, path: &str) -> bool {
     match fs::symlink_metadata(files, path) {
         Ok(found) => {

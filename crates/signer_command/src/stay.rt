@@ -1,13 +1,21 @@
 //! One stay of a replica at its desk, while callers ask.
 
-ghost use Rattle.std.specs.Prelude.{◌≡◌, ◌≤◌, IfOk, length};
+ghost use Rattle.std.specs.Prelude.{◌≡◌, ◌≤◌, ◌⊎◌, ℕ, IfErr, IfOk, OnOk, length};
+ghost use Rattle.streams.specs.Streams.{Wrote};
+ghost use Rattle.program_parts.specs.Writes.{CountsWrites};
 ghost use Rattle.vote_desk.specs.Receipts.{AreReceipts};
+ghost use Rattle.signer_command.specs.Ends.{IsGivenUp};
+ghost use Rattle.signer_command.specs.Lines.{IsAnnounced, listening_text};
+ghost use Rattle.signer_command.specs.Sockets.{places_of};
 
-use crate::announcing::{Announcer, announce};
-use crate::listening::Listener;
+use crate::announcing::{Announced, announce, text_of};
+use crate::fault::{Fault, SignerFault};
+use crate::listening::Place;
+use crate::notes::Notes;
 use crate::pool::{Job, Shop, Start, work_all};
 use blocks::CommitteeView;
-use replica_command::ReplicaFault;
+use good_votes::GoodVotes;
+use program_parts::ProgramFault;
 use signing_service::{Commits, Rules, Tallies};
 use stable_log::{Disk, FileDisk};
 use std::alloc::{AllocError, Global};
@@ -24,9 +32,9 @@ use vote_desk::{Closed, Desk, DeskError, DeskNaming, Parts, Session, StartError}
 /// The sockets of a signer, and what the callers of each are let do.
 #[derive(Drop)]
 pub(crate) struct Sockets {
-    pub calls: Listener,
-    pub reads: Option<Listener>,
-    pub log: Option<Listener>,
+    pub calls: Place,
+    pub reads: Option<Place>,
+    pub log: Option<Place>,
     pub call_rules: Rules,
     pub read_rules: Rules,
     pub keys: RandomState,
@@ -35,114 +43,225 @@ pub(crate) struct Sockets {
 /// How many threads a socket beside that for calls has.
 pub(crate) const THREADS_BESIDE: u8 = 2;
 
-/// Why a stay did not end in order.
-#[derive(Clone, Copy, Debug)]
-pub(crate) enum StayFault {
-    /// As of a replica.
-    Replica(ReplicaFault),
-    /// A thread could not be made.
-    Threads,
+/// What a signer stays with, beside its desk.
+#[derive(Drop)]
+pub(crate) struct Room<'a, T: Wait, S: Sink> {
+    pub rt: &'a T,
+    pub alloc: Global,
+    pub sessions: u8,
+    /// Whether the end of the input ends the stay.
+    pub while_input: bool,
+    pub sockets: &'a Sockets,
+    pub notes: &'a Notes<'a, T, S>,
+    pub ghost least: { 1 ≤ sessions },
+    pub ghost most: { sessions ≤ 64 },
 }
 
-impl From<AllocError> for StayFault {
-    ghost from_gives = { λ _ _. Unit {0} };
-
-    fn from(_refused: AllocError) -> StayFault {
-        StayFault::Replica(ReplicaFault::Memory)
-    }
-}
-
-/// One stay at a desk of its own.
-pub(crate) fn stay_once<T: Threads + Wait + Clock + Sync, R: Feed + Send, W: Sink + Send>(
-    rt: &T,
-    alloc: Global,
-    committee: &CommitteeView,
+/// One stay at a desk of its own. Where calls are taken is said once they are.
+pub(crate) fn stay_once<'a, T: Threads + Wait + Clock + Sync, S: Sink + Send, R: Feed, W: Sink>(
+    room: &Room<'_, T, S>,
+    committee: &CommitteeView<'_>,
     replica: u16,
     parts: Parts<FileDisk>,
-    sessions: u8,
-    sockets: &Sockets,
-    announcer: Announcer<'_, R, W>,
-) -> Result<Closed<FileDisk>, StayFault>
-    requires { (1 ≤ sessions) × (sessions ≤ 64) }
-    ensures { IfOk result (λ closed.
+    input: &mut R,
+    out: &mut W,
+) -> Result<Closed<FileDisk>, Fault<'a>>
+    ensures receipts { IfOk result (λ closed.
         AreReceipts (length parts.log.steps) closed.parts.log.steps closed.receipts.items) }
+    ensures said { OnOk result (Wrote (W.text out.old) (W.text out.new)
+        (listening_text (places_of room.now.sockets.now))) }
+    ensures given_up { IfErr result (λ fault. IsGivenUp fault (W.text out.old) (W.text out.new)) }
+    ensures counted { CountsWrites result (W.failed out.old) (W.failed out.new) }
 {
-    stay::<Brand, T, FileDisk, R, W>(
-        &*rt,
-        alloc,
-        Blank::new(u64::from(sessions)),
+    stay::<Brand, T, S, FileDisk, R, W>(
+        room,
+        Blank::new(u64::from(room.sessions)),
         &*committee,
         replica,
         parts,
-        sessions,
-        sockets,
-        announcer,
+        input,
+        out,
     )
 }
 
 // One stay of the replica at its desk.
 fn stay<
-    'x,
+    'a,
     N: DeskNaming + Send + Sync,
     T: Threads + Wait + Clock + Sync,
+    S: Sink + Send,
     D: Disk + Send,
-    R: Feed + Send,
-    W: Sink + Send,
+    R: Feed,
+    W: Sink,
 >(
-    rt: &'x T,
-    alloc: Global,
+    room: &Room<'_, T, S>,
     blank: Blank,
-    committee: &'x CommitteeView<'x>,
+    committee: &CommitteeView<'_>,
     replica: u16,
     parts: Parts<D>,
-    sessions: u8,
-    sockets: &'x Sockets,
-    announcer: Announcer<'_, R, W>,
-) -> Result<Closed<D>, StayFault>
+    input: &mut R,
+    out: &mut W,
+) -> Result<Closed<D>, Fault<'a>>
     requires name { blank.name ≡ N.name }
-    requires ledger { (blank.parts ≡ N.parts) × (N.parts ≡ sessions) }
-    requires sessions { (1 ≤ sessions) × (sessions ≤ 64) }
+    requires ledger { (blank.parts ≡ N.parts) × (N.parts ≡ room.now.sessions) }
     requires committee { committee.now ≡ N.committee }
     requires replica { replica ≡ N.replica }
     requires opening { parts.log.steps ≡ N.opening }
     ensures receipts { IfOk result (λ closed.
         AreReceipts (length N.opening) closed.parts.log.steps closed.receipts.items) }
+    ensures said { OnOk result (Wrote (W.text out.old) (W.text out.new)
+        (listening_text (places_of room.now.sockets.now))) }
+    ensures given_up { IfErr result (λ fault. IsGivenUp fault (W.text out.old) (W.text out.new)) }
+    ensures counted { CountsWrites result (W.failed out.old) (W.failed out.new) }
 {
-    let (desk, all) = match Desk::<N, D>::start(alloc, blank, committee, replica, parts, sessions) {
+    let (desk, sessions) = match open::<N, T, S, D>(room, blank, committee, replica, parts) {
         Ok(opened) => opened,
-        Err((StartError::Memory, _)) => return Err(StayFault::Replica(ReplicaFault::Memory)),
-        Err((refusal, _)) => {
-            return Err(StayFault::Replica(ReplicaFault::Store(refusal.number())));
-        }
+        Err(fault) => return Err(fault),
     };
-    let jobs = jobs_of(alloc, all, sockets)?;
-    let (commits, tallies) = (Commits::new(), Tallies::new(seconds_now(rt)));
+    match answer_all(room, &desk, committee, replica, sessions, input, out) {
+        Ok(left) => match close(room.alloc, desk, left) {
+            Ok(closed) => Ok(closed),
+            Err(fault) => Err(fault),
+        },
+        Err(fault) => Err(fault),
+    }
+}
+
+// Lets a thread with each session take calls, until they are to end. Answers what they hand back.
+fn answer_all<
+    N: DeskNaming + Send + Sync,
+    T: Threads + Wait + Clock + Sync,
+    S: Sink + Send,
+    D: Disk + Send,
+    R: Feed,
+    W: Sink,
+>(
+    room: &Room<'_, T, S>,
+    desk: &Desk<N, D>,
+    committee: &CommitteeView<'_>,
+    replica: u16,
+    sessions: Vec<Session<N>>,
+    input: &mut R,
+    out: &mut W,
+) -> Result<Vec<Option<Session<N>>>, Fault<'static>>
+    requires committee { committee.now ≡ N.committee }
+    requires replica { replica ≡ N.replica }
+    ensures said { OnOk result (Wrote (W.text out.old) (W.text out.new)
+        (listening_text (places_of room.now.sockets.now))) }
+    ensures given_up { IfErr result (λ fault. IsGivenUp fault (W.text out.old) (W.text out.new)) }
+    ensures counted { CountsWrites result (W.failed out.old) (W.failed out.new) }
+{
+    let Ok((jobs, text)) = prepared(room, sessions) else {
+        return Err(Fault::Memory);
+    };
+    let (commits, tallies) = (Commits::new(), Tallies::new(seconds_now(room.rt)));
+    let good = GoodVotes::new(room.alloc);
     let start = Start::of(u32::try_from(jobs.len()).unwrap_or(u32::MAX));
     let shop = Shop {
-        rt: &*rt,
-        alloc,
-        desk: &desk,
-        committee: &*committee,
+        rt: room.rt,
+        alloc: room.alloc,
+        desk,
+        committee,
         replica,
         commits: &commits,
         tallies: &tallies,
-        sockets,
+        good: &good,
+        sockets: room.sockets,
+        notes: room.notes,
         start: &start,
     };
-    let mut announcer = announcer;
-    let (left, all_begun) = thread::join(
-        rt,
-        || work_all(&shop, jobs),
-        || announce(rt, &start, sockets, &mut announcer),
-    );
-    let left = sessions_in(alloc, left?)?;
-    if !all_begun {
-        return Err(StayFault::Threads);
+    match work_and_announce(&shop, jobs, &text, room.while_input, input, out) {
+        (Announced::Unsaid, _) => Err(Fault::Output),
+        (_, Err(_)) => Err(Fault::Memory),
+        (Announced::NotBegun, Ok(_)) => Err(Fault::Own(SignerFault::Threads)),
+        (Announced::Over, Ok(left)) => Ok(left),
     }
-    match desk.close(alloc, left) {
+}
+
+// What the threads are to do, and what is said once they have begun.
+fn prepared<N: DeskNaming, T: Wait, S: Sink>(
+    room: &Room<'_, T, S>,
+    sessions: Vec<Session<N>>,
+) -> Result<(Vec<Job<N>>, Vec<u8>), AllocError>
+    ensures { IfOk result (λ r.
+        r.1.items ≡ listening_text (places_of room.now.sockets.now)) }
+{
+    let jobs = jobs_of(room.alloc, sessions, room.sockets)?;
+    Ok((jobs, text_of(room.alloc, room.sockets)?))
+}
+
+fn open<N: DeskNaming, T: Wait, S: Sink, D: Disk>(
+    room: &Room<'_, T, S>,
+    blank: Blank,
+    committee: &CommitteeView<'_>,
+    replica: u16,
+    parts: Parts<D>,
+) -> Result<(Desk<N, D>, Vec<Session<N>>), Fault<'static>>
+    requires name { blank.name ≡ N.name }
+    requires ledger { (blank.parts ≡ N.parts) × (N.parts ≡ room.now.sessions) }
+    requires committee { committee.now ≡ N.committee }
+    requires replica { replica ≡ N.replica }
+    requires opening { parts.log.steps ≡ N.opening }
+    ensures refused { IfErr result (λ fault. (fault ≡ ProgramFault.Memory) ⊎ ((number : ℕ) × (fault ≡ ProgramFault.Own (SignerFault.Store number)))) }
+{
+    match Desk::<N, D>::start(room.alloc, blank, committee, replica, parts, room.sessions) {
+        Ok(opened) => Ok(opened),
+        Err((StartError::Memory, _)) => Err(Fault::Memory),
+        Err((refusal, _)) => Err(Fault::Own(SignerFault::Store(refusal.number()))),
+    }
+}
+
+// The threads at work, until they are to end, and beside them what says that calls are taken.
+fn work_and_announce<
+    N: DeskNaming + Send + Sync,
+    T: Threads + Wait + Clock + Sync,
+    S: Sink + Send,
+    D: Disk + Send,
+    R: Feed,
+    W: Sink,
+>(
+    shop: &Shop<'_, N, T, S, D>,
+    jobs: Vec<Job<N>>,
+    text: &[u8],
+    while_input: bool,
+    input: &mut R,
+    out: &mut W,
+) -> (Announced, Result<Vec<Option<Session<N>>>, AllocError>)
+    ensures { IsAnnounced result.0 (W.text out.old) (W.text out.new) (W.failed out.old)
+        (W.failed out.new) text.now }
+{
+    let mut jobs = Some(jobs);
+    let (left, announced) = thread::join_mut(
+        shop.rt,
+        &mut || work_all(shop, jobs.take()),
+        &mut || announce(
+            shop.rt,
+            shop.start,
+            shop.sockets,
+            text,
+            while_input,
+            &mut *input,
+            &mut *out,
+        ),
+    );
+    (announced, left)
+}
+
+// Hands all sessions back to the desk.
+fn close<N: DeskNaming, D: Disk>(
+    alloc: Global,
+    desk: Desk<N, D>,
+    left: Vec<Option<Session<N>>>,
+) -> Result<Closed<D>, Fault<'static>>
+    ensures receipts { IfOk result (λ closed.
+        AreReceipts (length N.opening) closed.parts.log.steps closed.receipts.items) }
+    ensures refused { IfErr result (λ fault. (fault ≡ ProgramFault.Memory) ⊎ (fault ≡ ProgramFault.Own SignerFault.Receipts)) }
+{
+    let sessions = sessions_in(alloc, left)?;
+    match desk.close(alloc, sessions) {
         Ok(closed) => Ok(closed),
-        Err((DeskError::Memory, _)) => Err(StayFault::Replica(ReplicaFault::Memory)),
-        Err(_) => Err(StayFault::Replica(ReplicaFault::Receipts)),
+        Err((DeskError::Memory, _)) => Err(Fault::Memory),
+        Err(_) => Err(Fault::Own(SignerFault::Receipts)),
     }
 }
 

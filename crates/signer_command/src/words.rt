@@ -1,6 +1,6 @@
 //! How a signer is called.
 
-ghost use Rattle.std.specs.Prelude.{◌≡◌, ◌≤◌, MatchOption};
+ghost use Rattle.std.specs.Prelude.{◌≡◌, ◌≢◌, ◌≤◌, IfErr, MatchOption};
 
 use crate::fault::Fault;
 use clap::error::ErrorKind;
@@ -66,10 +66,13 @@ pub(crate) struct Words<'a> {
     pub hosts: Vec<String>,
     pub group: bool,
     pub while_input: bool,
+    pub verbose: bool,
 }
 
 /// Reads the words, without the program's name. Refused as usage where they are not written as docs/hs_signer.md says.
-pub(crate) fn read_words<'a>(alloc: Global, words: &'a [String]) -> Result<Words<'a>, Fault<'a>> {
+pub(crate) fn read_words<'a>(alloc: Global, words: &'a [String]) -> Result<Words<'a>, Fault<'a>>
+    ensures { IfErr result (λ fault. fault ≢ ProgramFault.Output) }
+{
     // `clap` would pass over it.
     if words.iter().any(|word| word.as_str() == "--") {
         return Err(ProgramFault::Usage);
@@ -110,14 +113,17 @@ fn with_values<'a>(alloc: Global, grammar: Grammar<'a>) -> Result<Grammar<'a>, A
 fn with_switches<'a>(alloc: Global, grammar: Grammar<'a>) -> Result<Grammar<'a>, AllocError> {
     grammar
         .arg(switch(alloc, "group"))?
-        .arg(switch(alloc, "while-input"))
+        .arg(switch(alloc, "while-input"))?
+        .arg(switch(alloc, "verbose"))
 }
 
 fn switch<'a>(alloc: Global, name: &'a str) -> Arg<'a> {
     Arg::new(alloc, name).long(name).action(ArgAction::SetTrue)
 }
 
-fn given<'a>(alloc: Global, matches: &ArgMatches<'a>) -> Result<Words<'a>, Fault<'a>> {
+fn given<'a>(alloc: Global, matches: &ArgMatches<'a>) -> Result<Words<'a>, Fault<'a>>
+    ensures { IfErr result (λ fault. fault ≢ ProgramFault.Output) }
+{
     let (Some(committee), Some(replica), Some(folder)) = (
         matches.get_str("COMMITTEE"),
         matches.get_str("R"),
@@ -144,12 +150,15 @@ fn given<'a>(alloc: Global, matches: &ArgMatches<'a>) -> Result<Words<'a>, Fault
         hosts: hosts_in(alloc, matches)?,
         group: is_set(matches, "group"),
         while_input: is_set(matches, "while-input"),
+        verbose: is_set(matches, "verbose"),
     };
     judged(words)
 }
 
 // No place is empty, and the ledger's group is let in at a path that was named alone: the replica's folder is its own.
-fn judged<'a>(words: Words<'a>) -> Result<Words<'a>, Fault<'a>> {
+fn judged<'a>(words: Words<'a>) -> Result<Words<'a>, Fault<'a>>
+    ensures { IfErr result (λ fault. fault ≢ ProgramFault.Output) }
+{
     let is_empty = |place: Option<&str>| place == Some("");
     let has_path = matches!(words.listen, Where::Unix(_));
     if words.committee.is_empty() || words.folder.is_empty() || (words.group && !has_path) {
@@ -176,7 +185,9 @@ fn furthest_in(word: Option<&str>) -> Option<u64> {
     }
 }
 
-fn listen_in<'a>(word: Option<&'a str>) -> Result<Where<'a>, Fault<'a>> {
+fn listen_in<'a>(word: Option<&'a str>) -> Result<Where<'a>, Fault<'a>>
+    ensures { IfErr result (λ fault. fault ≢ ProgramFault.Output) }
+{
     let Some(word) = word else {
         return Ok(Where::Folder);
     };
@@ -189,7 +200,9 @@ fn listen_in<'a>(word: Option<&'a str>) -> Result<Where<'a>, Fault<'a>> {
     }
 }
 
-fn named<'a>(name: &str, place: Where<'a>) -> Result<Where<'a>, Fault<'a>> {
+fn named<'a>(name: &str, place: Where<'a>) -> Result<Where<'a>, Fault<'a>>
+    ensures { IfErr result (λ fault. fault ≢ ProgramFault.Output) }
+{
     if name.is_empty() {
         return Err(ProgramFault::Usage);
     }
@@ -197,7 +210,9 @@ fn named<'a>(name: &str, place: Where<'a>) -> Result<Where<'a>, Fault<'a>> {
 }
 
 // The names, in lower case, as the names in calls are compared.
-fn hosts_in<'a>(alloc: Global, matches: &ArgMatches<'a>) -> Result<Vec<String>, Fault<'a>> {
+fn hosts_in<'a>(alloc: Global, matches: &ArgMatches<'a>) -> Result<Vec<String>, Fault<'a>>
+    ensures { IfErr result (λ fault. fault ≢ ProgramFault.Output) }
+{
     let mut hosts = Vec::new(alloc);
     for name in matches.get_strs("HOST").unwrap_or(&[]) {
         if name.is_empty() {

@@ -13,7 +13,7 @@ use Rattle.replica_lines.specs.declared.outcome.Outcome.{Outcome}
 use Rattle.replica_answers.specs.SessionReceipts.{HasReceipt, ReceiptsGrow}
 use Rattle.replica_answers.proofs.Receipts.{grow_after, grow_none, grow_then, has_receipt_after, has_receipt_among_more, kept_by_growth}
 use Rattle.signing_service.specs.CallAnswers.{IsBacked, IsServed, receipts_told}
-use Rattle.signing_service.specs.declared.rules.Rules.{Rules}
+use Rattle.signer_calls.specs.declared.rules.Rules.{Rules}
 
 -- ---- what was told
 

@@ -9,7 +9,7 @@ use Rattle.vote_desk.specs.Exports.{IsOut}
 use Rattle.vote_desk.specs.declared.desk.TheConstants.{MOST_FRAMES_AT_ONCE}
 use Rattle.signing_service.specs.CallAnswers.{IsPartTold, SomeOne}
 use Rattle.signing_service.specs.Responses.{fields_of_kind}
-use Rattle.signing_service.specs.declared.log_part.LogPart.{LogPart}
+use Rattle.signer_calls.specs.declared.log_part.LogPart.{LogPart}
 use Rattle.signing_service.specs.declared.writing.Kind.TheVariants.{Octets}
 
 -- what was copied behind nothing, and filled in, is the part

@@ -1,7 +1,5 @@
-pub mod Ids
-pub mod Parameters
 pub mod Desks
 pub mod Exports
-pub mod VoteReading
 pub mod Pieces
 pub mod Backing
+pub mod Counted

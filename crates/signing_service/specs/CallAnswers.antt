@@ -1,6 +1,5 @@
 -- What is answered to a call.
 use Rattle.std.specs.Prelude.{◌≡◌, ◌⊎◌, ◌<◌, ◌≤◌, ◌+◌, ◌++◌, [], ℕ, List, Option, Some, None, IfSome, codes, min}
-use Rattle.blocks.specs.Genesis.{genesis_of}
 use Rattle.blocks.specs.Replica.{Stored}
 use Rattle.blocks.specs.declared.ballot.Ballot.{Ballot}
 use Rattle.http.specs.declared.request.Request.{Request}
@@ -29,7 +28,7 @@ use Rattle.replica_lines.specs.declared.request.Request.{Request as Asked}
 use Rattle.replica_lines.specs.declared.request.Request.TheVariants as asks
 use Rattle.replica_answers.specs.Answers.{IsAnswerTo}
 use Rattle.replica_answers.specs.SessionReceipts.{HasReceipt, receipts_after}
-use Rattle.signing_service.specs.Asking.{AsksFor}
+use Rattle.signer_calls.specs.Asking.{AsksFor}
 use Rattle.signing_service.specs.Commits.{IsCommitOf}
 use Rattle.signing_service.specs.Healths.{IsHealthTold}
 use Rattle.signing_service.specs.Judging.{IsJudgementTold}
@@ -38,11 +37,11 @@ use Rattle.signing_service.specs.Refusals.{IsRefusalTold}
 use Rattle.signing_service.specs.Responses.{IsLine, fields_of_kind}
 use Rattle.signing_service.specs.Statuses.{IsStatusTold}
 use Rattle.signing_service.specs.ToldLines.{desk_status, named_desk_line, outcome_status, told_line}
-use Rattle.signing_service.specs.declared.call.Call.{Call}
-use Rattle.signing_service.specs.declared.call.Call.TheVariants as call
-use Rattle.signing_service.specs.declared.call.CallRefusal.TheVariants as refused
-use Rattle.signing_service.specs.declared.log_part.LogPart.{LogPart}
-use Rattle.signing_service.specs.declared.rules.Rules.{Rules}
+use Rattle.signer_calls.specs.declared.call.Call.{Call}
+use Rattle.signer_calls.specs.declared.call.Call.TheVariants as call
+use Rattle.signer_calls.specs.declared.call.CallRefusal.TheVariants as refused
+use Rattle.signer_calls.specs.declared.log_part.LogPart.{LogPart}
+use Rattle.signer_calls.specs.declared.rules.Rules.{Rules}
 use Rattle.signing_service.specs.declared.tallies.Numbers.{Numbers}
 use Rattle.signing_service.specs.declared.writing.Kind.TheVariants.{Octets}
 
@@ -135,17 +134,17 @@ module _ {D : Type 0} (disk : Ghosts D) (committee : List ℕ) (replica : ℕ) (
   abbrev pub IsDeskHealthTold : Response → Type 0
   IsDeskHealthTold response = (status : DeskStatus) × SomeOne (λ d. status ≡ status_of d) × IsHealthTold status response
 
-  -- what a desk is at, and a block that some block commits, or none that is known
+  -- what a desk is at, and a block that some block with a good certificate commits, or none that is known
   abbrev pub IsDeskStatusTold : Response → Type 0
   IsDeskStatusTold response =
       (status : DeskStatus) × (committed : Option Ballot) × SomeOne (λ d. status ≡ status_of d)
-      × IfSome committed (IsCommitOf (genesis_of committee)) × IsStatusTold committee replica status committed response
+      × IfSome committed (IsCommitOf committee) × IsStatusTold committee replica status committed response
 
   -- .. and some numbers of what was told
   abbrev pub IsDeskMetricsTold : Response → Type 0
   IsDeskMetricsTold response =
       (numbers : Numbers) × (status : DeskStatus) × (committed : Option Ballot) × SomeOne (λ d. status ≡ status_of d)
-      × IfSome committed (IsCommitOf (genesis_of committee)) × IsMetricsTold numbers status committed response
+      × IfSome committed (IsCommitOf committee) × IsMetricsTold numbers status committed response
 
   -- ---- a call
 

@@ -1,7 +1,3 @@
-pub mod Places
-pub mod Doors
-pub mod LogParts
-pub mod Asking
 pub mod Names
 pub mod Responses
 pub mod Refusals
@@ -12,4 +8,5 @@ pub mod Commits
 pub mod Statuses
 pub mod Tallies
 pub mod Metrics
+pub mod Witnesses
 pub mod CallAnswers

@@ -24,6 +24,7 @@ name_text chain replica =
 abbrev pub state_name : Option DeskError → List ℕ
 state_name None = codes "voting"
 state_name (Some desk.LogFull) = codes "full"
+state_name (Some (desk.Core refusal)) = codes "full"
 state_name (Some desk.KeySpent) = codes "spent"
 state_name (Some _) = codes "stopped"
 

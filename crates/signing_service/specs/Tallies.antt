@@ -1,13 +1,13 @@
 -- How often each answer was told. A number that has reached 2^64 - 1 stays.
-use Rattle.std.specs.Prelude.{◌+◌, ◌-◌, ◌^◌, ℕ, min}
+use Rattle.std.specs.Prelude.{◌≡◌, ◌≢◌, ◌<◌, ◌+◌, ◌-◌, ◌^◌, ℕ, min}
 use Rattle.streams.specs.Counting.{one_more}
 use Rattle.vote_desk.specs.declared.desk_error.DeskError.TheVariants as desk
 use Rattle.vote_desk.specs.declared.reply.Answer.{Answer}
 use Rattle.vote_desk.specs.declared.reply.Answer.TheVariants.{Voted, Raised, Held}
 use Rattle.replica_lines.specs.declared.outcome.Outcome.{Outcome}
 use Rattle.replica_lines.specs.declared.outcome.Outcome.TheVariants as came
-use Rattle.signing_service.specs.declared.call.CallRefusal.{CallRefusal}
-use Rattle.signing_service.specs.declared.call.CallRefusal.TheVariants as refused
+use Rattle.signer_calls.specs.declared.call.CallRefusal.{CallRefusal}
+use Rattle.signer_calls.specs.declared.call.CallRefusal.TheVariants as refused
 use Rattle.signing_service.specs.declared.tallies.Numbers.{Numbers}
 
 -- nothing was told
@@ -68,3 +68,31 @@ after_refusal n refused.Length = record n { bad_lengths = one_more n.bad_lengths
 
 abbrev pub after_block : Numbers → ℕ → Numbers
 after_block n micros = record n { blocks = one_more n.blocks; block_micros = min (n.block_micros + micros) (2 ^ 64 - 1) }
+
+-- ---- what is counted, is counted once
+
+-- how many answers to blocks and timeouts were counted
+abbrev pub answers_of : Numbers → ℕ
+answers_of n =
+    n.voted + n.raised + n.held + n.timeouts + n.refused_headers + n.refused_certificates + n.refused_blocks + n.refused_by_core
+    + n.refused_by_desk
+
+-- how many refused calls were
+abbrev pub refusals_of : Numbers → ℕ
+refusals_of n =
+    n.no_such_calls + n.wrong_methods + n.bad_numbers + n.bad_hosts + n.origins + n.bad_content_types + n.far + n.no_votes
+    + n.bad_targets + n.not_held + n.bad_lengths
+
+-- one answer more, and no refused call
+abbrev pub CountsAnswer : (old new : Numbers) → Type 0
+CountsAnswer old new = (answers_of new ≡ answers_of old + 1) × (refusals_of new ≡ refusals_of old)
+
+-- one refused call more, and no answer
+abbrev pub CountsRefusal : (old new : Numbers) → Type 0
+CountsRefusal old new = (refusals_of new ≡ refusals_of old + 1) × (answers_of new ≡ answers_of old)
+
+-- a refused call is counted once, and so is each outcome of a block or a timeout, as long as no number has reached its end
+abbrev pub EachIsCountedOnce : Type 0
+EachIsCountedOnce =
+    (n : Numbers) → answers_of n < 2 ^ 64 - 1 → refusals_of n < 2 ^ 64 - 1
+    → ((r : CallRefusal) → CountsRefusal n (after_refusal n r)) × ((o : Outcome) → o ≢ came.BadLine → CountsAnswer n (after_outcome n o))

@@ -1,7 +1,6 @@
 //! The last commit that was told.
 
 ghost use Rattle.std.specs.Prelude.{◌≡◌, IfSome, None};
-ghost use Rattle.blocks.specs.Genesis.{genesis_of};
 ghost use Rattle.signing_service.specs.Commits.{IsCommitOf, later_of};
 
 use blocks::Ballot;
@@ -26,7 +25,7 @@ impl<N: DeskNaming> Commits<N> {
 
     /// What was told last, by views.
     pub fn last<R: Wait>(&self, rt: &R) -> Option<Ballot>
-        ensures { IfSome result (IsCommitOf (genesis_of N.committee)) }
+        ensures { IfSome result (IsCommitOf N.committee) }
     {
         let last = self.last.lock(rt);
         let last = &*last;
@@ -35,7 +34,7 @@ impl<N: DeskNaming> Commits<N> {
 
     // Keeps what is told, if its view is above that of the one before.
     pub(crate) fn note<R: Wait>(&self, rt: &R, ballot: Ballot)
-        requires { IsCommitOf (genesis_of N.committee) ballot }
+        requires { IsCommitOf N.committee ballot }
     {
         let mut last = self.last.lock(rt);
         let last = &mut *last;
@@ -52,7 +51,6 @@ struct LastCommit<N: DeskNaming> {
 
 impl<N: DeskNaming> Model for LastCommit<N> {
     ghost use Rattle.std.specs.Prelude.{Option, IfSome};
-    ghost use Rattle.blocks.specs.Genesis.{genesis_of};
     ghost use Rattle.blocks.specs.declared.ballot.Ballot.{Ballot};
     ghost use Rattle.signing_service.specs.Commits.{IsCommitOf};
 
@@ -60,7 +58,7 @@ impl<N: DeskNaming> Model for LastCommit<N> {
 
     ghost view = { λ l. l.ballot };
 
-    ghost invariant = { λ l. IfSome l.ballot (IsCommitOf (genesis_of N.committee)) };
+    ghost invariant = { λ l. IfSome l.ballot (IsCommitOf N.committee) };
 }
 
 impl<N: DeskNaming> LastCommit<N> {
@@ -75,13 +73,13 @@ impl<N: DeskNaming> LastCommit<N> {
 
     fn ballot(&self) -> Option<Ballot>
         ensures value { result ≡ self.now }
-        ensures told { IfSome result (IsCommitOf (genesis_of N.committee)) }
+        ensures told { IfSome result (IsCommitOf N.committee) }
     {
         self.ballot
     }
 
     fn note(&mut self, ballot: Ballot)
-        requires { IsCommitOf (genesis_of N.committee) ballot }
+        requires { IsCommitOf N.committee ballot }
         ensures { self.new ≡ later_of self.old ballot }
     {
         let is_later = match &self.ballot {

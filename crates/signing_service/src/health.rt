@@ -8,6 +8,7 @@ use crate::telling::{put_desk, tell_text};
 use crate::writing::Kind;
 use http::StatusCode;
 use http_server::Response;
+use replica_core::{CoreRefusal, MOST_HEADERS};
 use vote_desk::{DeskError, DeskStatus};
 
 // Tells whether a block could get a vote of a desk that is at this.
@@ -35,6 +36,9 @@ pub(crate) fn trouble_of(status: &DeskStatus) -> Option<DeskError>
     }
     if status.left.indices == 0 {
         return Some(DeskError::KeySpent);
+    }
+    if status.headers >= MOST_HEADERS {
+        return Some(DeskError::Core(CoreRefusal::TreeFull));
     }
     None
 }

@@ -9,13 +9,15 @@ use crate::telling::{put_named, tell_text};
 use crate::writing::{Kind, make_ready};
 use blocks::CommitteeView;
 use certificates::{SignedVote, check_vote};
+use good_votes::Checker;
 use http::StatusCode;
 use http_server::Response;
 use std::alloc::AllocError;
 
-// Tells whether a vote is good, as a leader asks of each vote that it gathers.
-pub(crate) fn tell_judgement(
+// Tells whether a vote is good, as a leader asks of each vote that it gathers. A good one is remembered.
+pub(crate) fn tell_judgement<V: Checker>(
     committee: &CommitteeView,
+    checker: &V,
     vote: &SignedVote,
     response: &mut Response,
 ) -> Result<(), AllocError>
@@ -24,7 +26,10 @@ pub(crate) fn tell_judgement(
 {
     make_ready(response, Kind::Text)?;
     match check_vote(committee, vote) {
-        Ok(()) => tell_text(response, b"good\n"),
+        Ok(()) => {
+            checker.found(committee, vote);
+            tell_text(response, b"good\n");
+        }
         Err(refusal) => {
             response.status = StatusCode::UNPROCESSABLE_ENTITY;
             put_named(

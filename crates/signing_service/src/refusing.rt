@@ -2,15 +2,15 @@
 
 ghost use Rattle.std.specs.Prelude.{◌≡◌, ◌≢◌, OnOk};
 ghost use Rattle.http_server.specs.Response.{IsBlank, IsResponse};
-ghost use Rattle.signing_service.specs.Refusals.{IsRefusalTold, call_line, call_refusal_status, methods_text, refusal_fields};
+ghost use Rattle.signer_calls.specs.CallRefusals.{call_refusal_status};
+ghost use Rattle.signing_service.specs.Refusals.{IsRefusalTold, call_line, methods_text, refusal_fields};
 ghost use Rattle.signing_service.specs.Responses.{IsReady, fields_of_kind};
 
-use crate::call::CallRefusal;
-use crate::place::Methods;
 use crate::telling::put_named;
 use crate::writing::{Kind, make_ready};
 use http::header::{HeaderName, HeaderValue};
 use http_server::Response;
+use signer_calls::{CallRefusal, Methods};
 use std::alloc::AllocError;
 
 // Refuses a call of which nothing was done.

@@ -8,7 +8,8 @@ ghost use Rattle.replica_answers.specs.SessionReceipts.{ReceiptsGrow};
 ghost use Rattle.signing_service.specs.CallAnswers.{IsBacked};
 
 use crate::signer::Signer;
-use certificates::Verifier;
+use crate::witness::Witness;
+use good_votes::Checker;
 use http_server::{Connection, serve};
 use stable_log::Disk;
 use std::io;
@@ -18,8 +19,17 @@ use std::time::Clock;
 use vote_desk::DeskNaming;
 
 /// Answers the calls of a new connection, until it is done or a read or a write fails.
-pub fn serve_calls<'a, N: DeskNaming, T: Wait + Clock, D: Disk, V: Verifier, R: Read, W: Write>(
-    signer: &mut Signer<'a, N, T, D, V>,
+pub fn serve_calls<
+    'a,
+    N: DeskNaming,
+    T: Wait + Clock,
+    D: Disk,
+    V: Checker,
+    S: Witness,
+    R: Read,
+    W: Write,
+>(
+    signer: &mut Signer<'a, N, T, D, V, S>,
     connection: &mut Connection,
     reader: &mut R,
     writer: &mut W,

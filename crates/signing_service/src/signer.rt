@@ -6,26 +6,24 @@ ghost use Rattle.signing_service.specs.CallAnswers.{IsCallServed, IsDeskHealthTo
 ghost use Rattle.signing_service.specs.Refusals.{IsRefusalTold, refusal_fields};
 ghost use Rattle.signing_service.specs.Responses.{IsLine, IsReady};
 
-use crate::asking::call_of;
-use crate::call::{Call, CallRefusal};
 use crate::commits::Commits;
 use crate::health::tell_health;
 use crate::judging::tell_judgement;
-use crate::log_part::LogPart;
 use crate::metrics::{METRICS_ROOM, tell_metrics};
 use crate::refusing::{refuse, tell_refused};
-use crate::rules::Rules;
 use crate::status::tell_status;
 use crate::tallies::Tallies;
 use crate::telling::{tell_desk, tell_outcome, tell_receipt, tell_text};
+use crate::witness::{Witness, seen_of};
 use crate::writing::{Kind, fill, make_ready, make_room};
 use blocks::{Ballot, CommitteeView, Id};
 use bytes::Bytes;
-use certificates::Verifier;
+use good_votes::{Checker, Known};
 use http::Request;
 use http_server::{Response, Service};
 use replica_answers::answer;
 use replica_lines::{Outcome, Request as Asked};
+use signer_calls::{Call, CallRefusal, LogPart, Rules, call_of};
 use stable_log::Disk;
 use std::alloc::{AllocError, Global};
 use std::io;
@@ -37,7 +35,7 @@ use vote_log::ExportError;
 
 /// A replica's desk as one caller sees it: each call is answered at once, by what the desk answers.
 #[derive(Drop)]
-pub struct Signer<'a, N: DeskNaming, R: Wait + Clock, D: Disk, V: Verifier> {
+pub struct Signer<'a, N: DeskNaming, R: Wait + Clock, D: Disk, V: Checker, W: Witness> {
     rt: &'a R,
     alloc: Global,
     desk: &'a Desk<N, D>,
@@ -47,13 +45,21 @@ pub struct Signer<'a, N: DeskNaming, R: Wait + Clock, D: Disk, V: Verifier> {
     replica: u16,
     commits: &'a Commits<N>,
     tallies: &'a Tallies,
+    witness: &'a W,
     session: Session<N>,
     ghost committee_is: { committee.now ≡ N.committee },
     ghost replica_is: { replica ≡ N.replica },
 }
 
-impl<'a, N: DeskNaming, R: Wait + Clock, D: Disk, V: Verifier> Signer<'a, N, R, D, V> {
-    /// The side of the caller of this session.
+impl<'a, N: DeskNaming, R: Wait + Clock, D: Disk, V: Checker, W: Witness> Signer<
+    'a,
+    N,
+    R,
+    D,
+    V,
+    W,
+> {
+    /// The side of the caller of this session. The witness is shown each call that was answered.
     pub fn new(
         rt: &'a R,
         alloc: Global,
@@ -64,8 +70,9 @@ impl<'a, N: DeskNaming, R: Wait + Clock, D: Disk, V: Verifier> Signer<'a, N, R, 
         rules: &'a Rules,
         commits: &'a Commits<N>,
         tallies: &'a Tallies,
+        witness: &'a W,
         session: Session<N>,
-    ) -> Signer<'a, N, R, D, V>
+    ) -> Signer<'a, N, R, D, V, W>
         requires committee { committee.now ≡ N.committee }
         requires replica { replica ≡ N.replica }
         ensures session { result.session ≡ session }
@@ -81,6 +88,7 @@ impl<'a, N: DeskNaming, R: Wait + Clock, D: Disk, V: Verifier> Signer<'a, N, R, 
             replica,
             commits,
             tallies,
+            witness,
             session,
         }
     }
@@ -117,6 +125,17 @@ impl<'a, N: DeskNaming, R: Wait + Clock, D: Disk, V: Verifier> Signer<'a, N, R, 
         }
     }
 
+    // The votes of a block's certificate that are known to be good, before the desk is called.
+    fn known_of(&self, asked: &Asked) -> Known {
+        match asked {
+            Asked::Block(_, certificate) => {
+                self.verifier
+                    .check_ahead(self.alloc, self.committee, certificate)
+            }
+            _ => Known::new(self.alloc),
+        }
+    }
+
     // What comes of a block or a timeout, unless its view lies too far ahead.
     fn outcome_of(&mut self, asked: Asked) -> Option<Outcome>
         ensures outcome { IsOutcomeOf D.Disk N.committee N.replica N.opening
@@ -128,12 +147,13 @@ impl<'a, N: DeskNaming, R: Wait + Clock, D: Disk, V: Verifier> Signer<'a, N, R, 
         if self.lies_far(&asked) {
             return None;
         }
+        let known = self.known_of(&asked);
         let parent_view = parent_view_of(&asked);
         let outcome = answer(
             self.rt,
             self.desk,
             self.committee,
-            self.verifier,
+            &known,
             &mut self.session,
             asked,
         );
@@ -297,7 +317,7 @@ impl<'a, N: DeskNaming, R: Wait + Clock, D: Disk, V: Verifier> Signer<'a, N, R, 
     {
         match call {
             Call::Replica(asked) => self.ask(asked, response),
-            Call::Judge(vote) => tell_judgement(self.committee, &vote, response),
+            Call::Judge(vote) => { tell_judgement(self.committee, self.verifier, &vote, response) },
             Call::VoteIn(view) => self.tell_vote(view, response),
             Call::Header(id) => self.tell_header(&id, response),
             Call::Log(part) => self.hand_out(part, response),
@@ -310,7 +330,8 @@ impl<'a, N: DeskNaming, R: Wait + Clock, D: Disk, V: Verifier> Signer<'a, N, R, 
     }
 }
 
-impl<'a, N: DeskNaming, R: Wait + Clock, D: Disk, V: Verifier> Service for Signer<'a, N, R, D, V> {
+impl<'a, N: DeskNaming, R: Wait + Clock, D: Disk, V: Checker, W: Witness> Service
+    for Signer<'a, N, R, D, V, W> {
     ghost answers = { λ old request response new.
         IsServed D.Disk N.committee N.replica N.opening old.rules.now
         old.session.receipts.items request response new.session.receipts.items
@@ -322,7 +343,9 @@ impl<'a, N: DeskNaming, R: Wait + Clock, D: Disk, V: Verifier> Service for Signe
         response: &mut Response,
     ) -> Result<(), AllocError> {
         let call = call_of(self.alloc, self.rules, request)?;
-        self.do_call(call, response)
+        self.do_call(call, response)?;
+        self.witness.saw(&seen_of(request, response));
+        Ok(())
     }
 }
 

@@ -81,7 +81,7 @@ fn state_name(trouble: Option<DeskError>) -> &'static [u8]
 {
     match trouble {
         None => b"voting",
-        Some(DeskError::LogFull) => b"full",
+        Some(DeskError::LogFull | DeskError::Core(_)) => b"full",
         Some(DeskError::KeySpent) => b"spent",
         Some(_) => b"stopped",
     }

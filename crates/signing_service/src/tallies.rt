@@ -4,8 +4,8 @@ ghost use Rattle.std.specs.Prelude.{◌≡◌};
 ghost use Rattle.streams.specs.Counting.{one_more};
 ghost use Rattle.signing_service.specs.Tallies.{after_answer, after_block, after_outcome, after_refusal, new_numbers};
 
-use crate::call::CallRefusal;
 use replica_lines::Outcome;
+use signer_calls::CallRefusal;
 use std::sync::{Mutex, Wait};
 use vote_desk::{Answer, DeskError};
 

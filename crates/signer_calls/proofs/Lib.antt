@@ -1,0 +1,4 @@
+pub mod Ids
+pub mod Parameters
+pub mod VoteReading
+pub mod OneReading

@@ -1,0 +1,403 @@
+-- A request has one reading.
+use Rattle.std.proofs.Common.{◌≡◌, ◌≢◌, ◌⊎◌, ◌∙◌, ℕ, List, ◌∷◌, ◌++◌, Option, Some, None, inl, inr, ap, arith, bytes_eq, codes, drop, get_or, if◌then◌else◌, length, refl, subst, sym}
+use Rattle.std.proofs.lemmas.Fmt.{decimal_injective}
+use Rattle.std.proofs.lemmas.List.{append_cancel_left, length-append}
+use Rattle.byteorder.specs.Endian.{big_bytes}
+use Rattle.hex.specs.Hex.{decode_sized}
+use Rattle.hex.proofs.HexLemmas.{decode_sized-encode_lower}
+use Rattle.http.specs.declared.request.Request.{Request}
+use Rattle.http.specs.Request.{body_of}
+use Rattle.wire.specs.Pieces.{number_at, piece}
+use Rattle.wire.proofs.Numbers.{behind, front, number_again}
+use Rattle.certificates.specs.Votes.{vote_text}
+use Rattle.certificates.specs.declared.vote.SignedVote.{SignedVote}
+use Rattle.certificates.specs.declared.vote.TheConstants.{VOTE_LEN}
+use Rattle.replica_lines.specs.Requests.{IsOfBlock}
+use Rattle.replica_lines.specs.declared.request.Request.{Request as Asked}
+use Rattle.replica_lines.specs.declared.request.Request.TheVariants as asks
+use Rattle.signer_calls.specs.Asking.{ARequestHasOneReading, HasContentType, HasGoodTarget, HasNoOrigin, HasRightMethod, IsAdmitted, IsAskedAt, IsRefusedAt, IsThere, LogAsked, NamesHost, PassesDoor, TimeoutAsked, VoteAsked, query_in}
+use Rattle.signer_calls.specs.LogParts.{IsOneParameter, IsPart, IsTwoParameters, part_of_one, part_of_two}
+use Rattle.signer_calls.specs.Places.{HasNoArgument, HasNoName, IsIdOf, IsNamedPlace, IsNumberOf, IsPlace, methods_of}
+use Rattle.signer_calls.specs.SpelledVotes.{IsVote, SpellsVote}
+use Rattle.signer_calls.specs.declared.call.Call.{Call}
+use Rattle.signer_calls.specs.declared.call.Call.TheVariants as call
+use Rattle.signer_calls.specs.declared.call.CallRefusal.{CallRefusal}
+use Rattle.signer_calls.specs.declared.call.CallRefusal.TheVariants as refused
+use Rattle.signer_calls.specs.declared.log_part.LogPart.{LogPart}
+use Rattle.signer_calls.specs.declared.log_part.Parameter.{Parameter}
+use Rattle.signer_calls.specs.declared.place.Place.{Place}
+use Rattle.signer_calls.specs.declared.place.Place.TheVariants as place
+use Rattle.signer_calls.specs.declared.rules.Rules.{Rules}
+use Rattle.signer_calls.proofs.Parameters.{contains_cut, one_cut, one_parameter}
+
+-- ---- a path names one place
+
+-- the place that a name is of
+abbrev named : List ℕ → Place
+named path =
+    if bytes_eq path (codes "/block") then place.Block
+    else if bytes_eq path (codes "/vote") then place.Vote
+    else if bytes_eq path (codes "/log") then place.Log
+    else if bytes_eq path (codes "/status") then place.Status
+    else if bytes_eq path (codes "/live") then place.Live
+    else if bytes_eq path (codes "/health") then place.Health
+    else place.Metrics
+
+-- a place without an argument is that of its name, or there is none of that name
+abbrev IsNamed : List ℕ → Place → Type 0
+IsNamed path p = ((named path ≡ p) × (HasNoName path → ⊥)) ⊎ ((p ≡ place.Nowhere) × HasNoName path)
+
+is_named : (path : List ℕ) (p : Place) → IsNamedPlace path p → IsNamed path p
+is_named path place.Block is = inl (ap named is, λ none. none.block is)
+is_named path place.Vote is = inl (ap named is, λ none. none.vote is)
+is_named path place.Log is = inl (ap named is, λ none. none.log is)
+is_named path place.Status is = inl (ap named is, λ none. none.status is)
+is_named path place.Live is = inl (ap named is, λ none. none.live is)
+is_named path place.Health is = inl (ap named is, λ none. none.health is)
+is_named path place.Metrics is = inl (ap named is, λ none. none.metrics is)
+is_named path place.Nowhere none = inr (refl, none)
+is_named path (place.Timeout view) never = absurd never
+is_named path (place.VoteIn view) never = absurd never
+is_named path (place.Header id) never = absurd never
+
+one_named : (path : List ℕ) (p q : Place) → IsNamed path p → IsNamed path q → p ≡ q
+one_named path p q (inl (is, some)) (inl (is', some')) = sym is ∙ is'
+one_named path p q (inl (is, some)) (inr (is', none')) = absurd (some none')
+one_named path p q (inr (is, none)) (inl (is', some')) = absurd (some' none)
+one_named path p q (inr (is, none)) (inr (is', none')) = is ∙ sym is'
+
+one_number : (digits : List ℕ) (v w : Option ℕ) → IsNumberOf digits v → IsNumberOf digits w → v ≡ w
+one_number digits (Some v) (Some w) (low, is) (low', is') = ap (λ (n : ℕ). Some n) (decimal_injective v w low low' (sym is ∙ is'))
+one_number digits (Some v) None (low, is) none = absurd (none v low is)
+one_number digits None (Some w) none (low, is) = absurd (none w low is)
+one_number digits None None none none' = refl
+
+one_id : (digits : List ℕ) (i j : Option (List ℕ)) → IsIdOf digits i → IsIdOf digits j → i ≡ j
+one_id digits (Some i) (Some j) (is_id, is) (is_id', is') =
+    let read = decode_sized-encode_lower i 32 is_id.0 is_id.1 in
+    let read' = decode_sized-encode_lower j 32 is_id'.0 is_id'.1 in
+    let same = sym read ∙ ap (λ (d : List ℕ). decode_sized d 32) (sym is ∙ is') ∙ read' in
+    cc same
+one_id digits (Some i) None (is_id, is) none = absurd (none i is_id is)
+one_id digits None (Some j) none (is_id, is) = absurd (none j is_id is)
+one_id digits None None none none' = refl
+
+-- how a path names a place: with an argument behind one of three words, or without
+abbrev Names : List ℕ → Place → Type 0
+Names path p =
+    ((view : Option ℕ) × (digits : List ℕ) × (p ≡ place.Timeout view) × (path ≡ codes "/timeout/" ++ digits) × IsNumberOf digits view)
+    ⊎ (((view : Option ℕ) × (digits : List ℕ) × (p ≡ place.VoteIn view) × (path ≡ codes "/vote/" ++ digits) × IsNumberOf digits view)
+    ⊎ (((id : Option (List ℕ)) × (digits : List ℕ) × (p ≡ place.Header id) × (path ≡ codes "/block/" ++ digits) × IsIdOf digits id)
+    ⊎ (HasNoArgument path × IsNamed path p)))
+
+without : (path : List ℕ) (p : Place) → HasNoArgument path × IsNamedPlace path p → Names path p
+without path p (none, is) = inr (inr (inr (none, is_named path p is)))
+
+names : (path : List ℕ) (p : Place) → IsPlace path p → Names path p
+names path (place.Timeout view) (digits, at, is) = inl (view, digits, refl, at, is)
+names path (place.VoteIn view) (digits, at, is) = inr (inl (view, digits, refl, at, is))
+names path (place.Header id) (digits, at, is) = inr (inr (inl (id, digits, refl, at, is)))
+names path place.Block is = without path place.Block is
+names path place.Vote is = without path place.Vote is
+names path place.Log is = without path place.Log is
+names path place.Status is = without path place.Status is
+names path place.Live is = without path place.Live is
+names path place.Health is = without path place.Health is
+names path place.Metrics is = without path place.Metrics is
+names path place.Nowhere is = without path place.Nowhere is
+
+-- the second byte tells the words apart
+timeout_or_vote : (path a b : List ℕ) → path ≡ codes "/timeout/" ++ a → path ≡ codes "/vote/" ++ b → ⊥
+timeout_or_vote path a b at at' = let seconds : 116 ≡ 118 = ap (λ (l : List ℕ). get_or l 1 0) (sym at ∙ at') in omega (arith, seconds)
+
+timeout_or_block : (path a b : List ℕ) → path ≡ codes "/timeout/" ++ a → path ≡ codes "/block/" ++ b → ⊥
+timeout_or_block path a b at at' = let seconds : 116 ≡ 98 = ap (λ (l : List ℕ). get_or l 1 0) (sym at ∙ at') in omega (arith, seconds)
+
+vote_or_block : (path a b : List ℕ) → path ≡ codes "/vote/" ++ a → path ≡ codes "/block/" ++ b → ⊥
+vote_or_block path a b at at' = let seconds : 118 ≡ 98 = ap (λ (l : List ℕ). get_or l 1 0) (sym at ∙ at') in omega (arith, seconds)
+
+one_of_names : (path : List ℕ) (p q : Place) → Names path p → Names path q → p ≡ q
+one_of_names path p q (inl (v, d, is, at, of)) (inl (w, e, is', at', of')) =
+    let same = append_cancel_left (codes "/timeout/") d e (sym at ∙ at') in
+    is ∙ ap (λ (n : Option ℕ). place.Timeout n) (one_number e v w (subst (λ (t : List ℕ). IsNumberOf t v) same of) of') ∙ sym is'
+one_of_names path p q (inl (v, d, is, at, of)) (inr (inl (w, e, is', at', of'))) = absurd (timeout_or_vote path d e at at')
+one_of_names path p q (inl (v, d, is, at, of)) (inr (inr (inl (i, e, is', at', of')))) = absurd (timeout_or_block path d e at at')
+one_of_names path p q (inl (v, d, is, at, of)) (inr (inr (inr (none, of')))) = absurd (none.timeout d at)
+one_of_names path p q (inr (inl (v, d, is, at, of))) (inl (w, e, is', at', of')) = absurd (timeout_or_vote path e d at' at)
+one_of_names path p q (inr (inl (v, d, is, at, of))) (inr (inl (w, e, is', at', of'))) =
+    let same = append_cancel_left (codes "/vote/") d e (sym at ∙ at') in
+    is ∙ ap (λ (n : Option ℕ). place.VoteIn n) (one_number e v w (subst (λ (t : List ℕ). IsNumberOf t v) same of) of') ∙ sym is'
+one_of_names path p q (inr (inl (v, d, is, at, of))) (inr (inr (inl (i, e, is', at', of')))) = absurd (vote_or_block path d e at at')
+one_of_names path p q (inr (inl (v, d, is, at, of))) (inr (inr (inr (none, of')))) = absurd (none.vote d at)
+one_of_names path p q (inr (inr (inl (i, d, is, at, of)))) (inl (w, e, is', at', of')) = absurd (timeout_or_block path e d at' at)
+one_of_names path p q (inr (inr (inl (i, d, is, at, of)))) (inr (inl (w, e, is', at', of'))) = absurd (vote_or_block path e d at' at)
+one_of_names path p q (inr (inr (inl (i, d, is, at, of)))) (inr (inr (inl (j, e, is', at', of')))) =
+    let same = append_cancel_left (codes "/block/") d e (sym at ∙ at') in
+    is ∙ ap (λ (n : Option (List ℕ)). place.Header n) (one_id e i j (subst (λ (t : List ℕ). IsIdOf t i) same of) of') ∙ sym is'
+one_of_names path p q (inr (inr (inl (i, d, is, at, of)))) (inr (inr (inr (none, of')))) = absurd (none.block d at)
+one_of_names path p q (inr (inr (inr (none, of)))) (inl (w, e, is', at', of')) = absurd (none.timeout e at')
+one_of_names path p q (inr (inr (inr (none, of)))) (inr (inl (w, e, is', at', of'))) = absurd (none.vote e at')
+one_of_names path p q (inr (inr (inr (none, of)))) (inr (inr (inl (j, e, is', at', of')))) = absurd (none.block e at')
+one_of_names path p q (inr (inr (inr (none, of)))) (inr (inr (inr (none', of')))) = one_named path p q of of'
+
+one_place : (path : List ℕ) (p q : Place) → IsPlace path p → IsPlace path q → p ≡ q
+one_place path p q is is' = one_of_names path p q (names path p is) (names path q is')
+
+-- ---- a body spells one block
+
+one_block : (bytes : List ℕ) (r s : Asked) → IsOfBlock bytes r → IsOfBlock bytes s → r ≡ s
+one_block bytes (asks.Block h c) (asks.Block h' c') (a, b) (a', b') = cc (sym a ∙ a', sym b ∙ b')
+one_block bytes (asks.Block h c) (asks.RefusedHeader e) (a, b) a' = absurd (cc (sym a ∙ a'))
+one_block bytes (asks.Block h c) (asks.RefusedCertificate e) (a, b) (h', a', b') = absurd (cc (sym b ∙ b'))
+one_block bytes (asks.RefusedHeader e) (asks.Block h c) a (a', b') = absurd (cc (sym a ∙ a'))
+one_block bytes (asks.RefusedHeader e) (asks.RefusedHeader e') a a' = cc (sym a ∙ a')
+one_block bytes (asks.RefusedHeader e) (asks.RefusedCertificate e') a (h', a', b') = absurd (cc (sym a ∙ a'))
+one_block bytes (asks.RefusedCertificate e) (asks.Block h c) (h', a, b) (a', b') = absurd (cc (sym b ∙ b'))
+one_block bytes (asks.RefusedCertificate e) (asks.RefusedHeader e') (h', a, b) a' = absurd (cc (sym a ∙ a'))
+one_block bytes (asks.RefusedCertificate e) (asks.RefusedCertificate e') (h, a, b) (h', a', b') = cc (sym b ∙ b')
+one_block bytes (asks.Block h c) (asks.Timeout w) a b = absurd b
+one_block bytes (asks.RefusedHeader e) (asks.Timeout w) a b = absurd b
+one_block bytes (asks.RefusedCertificate e) (asks.Timeout w) a b = absurd b
+one_block bytes (asks.Block h c) asks.BadLine a b = absurd b
+one_block bytes (asks.RefusedHeader e) asks.BadLine a b = absurd b
+one_block bytes (asks.RefusedCertificate e) asks.BadLine a b = absurd b
+one_block bytes (asks.Timeout v) s a b = absurd a
+one_block bytes asks.BadLine s a b = absurd a
+
+-- ---- a body spells one vote
+
+record HasParts (text : List ℕ) (v : SignedVote) : Type 0 where
+  replica : number_at 2 text 0 ≡ v.replica
+  key : get_or text 2 0 ≡ v.key
+  view : number_at 8 text 3 ≡ v.view
+  id : piece 32 text 11 ≡ v.id
+  signature : drop 43 text ≡ v.signature
+
+has_parts : (v : SignedVote) → IsVote v → HasParts (vote_text v) v
+unfolding vote_text
+has_parts v is =
+    let text = vote_text v in
+    let number = big_bytes 8 v.view in
+    let after_replica : drop 2 text ≡ v.key ∷ (number ++ (v.id ++ v.signature)) = refl in
+    let after_key : drop 3 text ≡ number ++ (v.id ++ v.signature) = refl in
+    let after_view : drop 11 text ≡ v.id ++ v.signature = behind text 3 8 number (v.id ++ v.signature) after_key refl in
+    record {
+      replica = number_again 2 text 0 v.replica is.replica refl;
+      key = refl;
+      view = number_again 8 text 3 v.view is.view (front text 3 8 number (v.id ++ v.signature) after_key refl);
+      id = front text 11 32 v.id v.signature after_view is.id;
+      signature = behind text 11 32 v.id v.signature after_view is.id;
+    }
+
+same_parts : (r r' k k' v v' : ℕ) (i i' s s' : List ℕ) → r ≡ r' → k ≡ k' → v ≡ v' → i ≡ i' → s ≡ s'
+    → record { replica = r; view = v; id = i; key = k; signature = s } ≡ (let w : SignedVote = record { replica = r'; view = v'; id = i'; key = k'; signature = s' } in w)
+same_parts r r' k k' v v' i i' s s' a b c d e = cc
+
+one_vote : (bytes : List ℕ) (v w : SignedVote) → SpellsVote bytes v → SpellsVote bytes w → v ≡ w
+one_vote bytes v w (fits, is) (fits', is') =
+    let a = has_parts v fits in
+    let b = has_parts w fits' in
+    let same = is ∙ sym is' in
+    let replica = sym a.replica ∙ ap (λ (t : List ℕ). number_at 2 t 0) same ∙ b.replica in
+    let key = sym a.key ∙ ap (λ (t : List ℕ). get_or t 2 0) same ∙ b.key in
+    let view = sym a.view ∙ ap (λ (t : List ℕ). number_at 8 t 3) same ∙ b.view in
+    let id = sym a.id ∙ ap (λ (t : List ℕ). piece 32 t 11) same ∙ b.id in
+    let signature = sym a.signature ∙ ap (λ (t : List ℕ). drop 43 t) same ∙ b.signature in
+    same_parts v.replica w.replica v.key w.key v.view w.view v.id w.id v.signature w.signature replica key view id signature
+
+length-vote : (v : SignedVote) → IsVote v → length (vote_text v) ≡ VOTE_LEN
+unfolding vote_text
+length-vote v is =
+    let id = is.id in
+    let signature = is.signature in
+    omega (arith, length-append v.id v.signature)
+
+-- a call that a body asks for at /vote
+abbrev VoteCase : List ℕ → Call → Type 0
+VoteCase body a = ((v : SignedVote) × (a ≡ call.Judge v) × SpellsVote body v) ⊎ ((a ≡ call.Refused refused.Length) × (length body ≢ VOTE_LEN))
+
+vote_case : (body : List ℕ) (a : Call) → VoteAsked body a → VoteCase body a
+vote_case body (call.Judge v) is = inl (v, refl, is)
+vote_case body (call.Replica x) is = inr is
+vote_case body (call.VoteIn x) is = inr is
+vote_case body (call.Header x) is = inr is
+vote_case body (call.Log x) is = inr is
+vote_case body call.Status is = inr is
+vote_case body call.Live is = inr is
+vote_case body call.Health is = inr is
+vote_case body call.Metrics is = inr is
+vote_case body (call.Refused x) is = inr is
+
+long_vote : (body : List ℕ) (v : SignedVote) → SpellsVote body v → length body ≡ VOTE_LEN
+long_vote body v (fits, is) = ap (λ (t : List ℕ). length t) (sym is) ∙ length-vote v fits
+
+one_vote_call : (body : List ℕ) (a b : Call) → VoteCase body a → VoteCase body b → a ≡ b
+one_vote_call body a b (inl (v, is, spells)) (inl (w, is', spells')) =
+    is ∙ ap (λ (x : SignedVote). call.Judge x) (one_vote body v w spells spells') ∙ sym is'
+one_vote_call body a b (inl (v, is, spells)) (inr (is', short)) = absurd (short (long_vote body v spells))
+one_vote_call body a b (inr (is, short)) (inl (w, is', spells')) = absurd (short (long_vote body w spells'))
+one_vote_call body a b (inr (is, short)) (inr (is', short')) = is ∙ sym is'
+
+-- ---- a query asks for one part of the log
+
+one_part_of_one : (query : List ℕ) (p q : LogPart) → IsOneParameter query p → IsOneParameter query q → p ≡ q
+one_part_of_one query p q (x, spells, is) (y, spells', is') =
+    is ∙ ap (λ (z : Parameter). part_of_one z) (one_parameter query x y spells spells') ∙ sym is'
+
+one_part_of_two : (front back : List ℕ) (p q : LogPart) → IsTwoParameters front back p → IsTwoParameters front back q → p ≡ q
+one_part_of_two front back p q (x, y, first, second, is) (x', y', first', second', is') =
+    let one = one_parameter front x x' first first' in
+    let other = one_parameter back y y' second second' in
+    let same = sym is ∙ ap (λ (z : Parameter). part_of_two z y) one ∙ ap (λ (z : Parameter). part_of_two x' z) other ∙ is' in
+    cc same
+
+one_part : (query : Option (List ℕ)) (p q : LogPart) → IsPart query p → IsPart query q → p ≡ q
+one_part None p q is is' = is ∙ sym is'
+one_part (Some query) p q (inl (uncut, one)) (inl (uncut', one')) = one_part_of_one query p q one one'
+one_part (Some query) p q (inl (uncut, one)) (inr (front, back, cut, none, two)) =
+    absurd (uncut (rw cut (contains_cut front back)))
+one_part (Some query) p q (inr (front, back, cut, none, two)) (inl (uncut, one)) =
+    absurd (uncut (rw cut (contains_cut front back)))
+one_part (Some query) p q (inr (front, back, cut, none, two)) (inr (front', back', cut', none', two')) =
+    let same = one_cut front back front' back' none none' (sym cut ∙ cut') in
+    one_part_of_two front' back' p q (subst (λ (t : List ℕ). IsTwoParameters front' t p) same.1 (subst (λ (t : List ℕ). IsTwoParameters t back p) same.0 two)) two'
+
+-- a call that a query asks for at /log
+abbrev LogCase : Option (List ℕ) → Call → Type 0
+LogCase query a =
+    ((part : LogPart) × (a ≡ call.Log part) × IsPart query part)
+    ⊎ ((a ≡ call.Refused refused.Number) × ((part : LogPart) → IsPart query part → ⊥))
+
+log_case : (query : Option (List ℕ)) (a : Call) → LogAsked query a → LogCase query a
+log_case query (call.Log part) is = inl (part, refl, is)
+log_case query (call.Judge x) is = inr is
+log_case query (call.Replica x) is = inr is
+log_case query (call.VoteIn x) is = inr is
+log_case query (call.Header x) is = inr is
+log_case query call.Status is = inr is
+log_case query call.Live is = inr is
+log_case query call.Health is = inr is
+log_case query call.Metrics is = inr is
+log_case query (call.Refused x) is = inr is
+
+one_log_call : (query : Option (List ℕ)) (a b : Call) → LogCase query a → LogCase query b → a ≡ b
+one_log_call query a b (inl (p, is, part)) (inl (q, is', part')) = is ∙ ap (λ (x : LogPart). call.Log x) (one_part query p q part part') ∙ sym is'
+one_log_call query a b (inl (p, is, part)) (inr (is', none)) = absurd (none p part)
+one_log_call query a b (inr (is, none)) (inl (q, is', part')) = absurd (none q part')
+one_log_call query a b (inr (is, none)) (inr (is', none')) = is ∙ sym is'
+
+-- ---- one thing is asked of a place
+
+one_timeout : (view : ℕ) (body : List ℕ) (a b : Call) → TimeoutAsked view body a → TimeoutAsked view body b → a ≡ b
+one_timeout view body a b (inl (empty, is)) (inl (empty', is')) = is ∙ sym is'
+one_timeout view body a b (inl (empty, is)) (inr (some, is')) = absurd (some empty)
+one_timeout view body a b (inr (some, is)) (inl (empty, is')) = absurd (some empty)
+one_timeout view body a b (inr (some, is)) (inr (some', is')) = is ∙ sym is'
+
+one_asked : (r : Request (List ℕ)) (p : Place) (a b : Call) → IsAskedAt r p a → IsAskedAt r p b → a ≡ b
+one_asked r place.Block a b (x, is, of) (y, is', of') = is ∙ ap (λ (z : Asked). call.Replica z) (one_block (body_of r) x y of of') ∙ sym is'
+one_asked r (place.Timeout (Some view)) a b of of' = one_timeout view (body_of r) a b of of'
+one_asked r (place.Timeout None) a b is is' = is ∙ sym is'
+one_asked r place.Vote a b of of' = one_vote_call (body_of r) a b (vote_case (body_of r) a of) (vote_case (body_of r) b of')
+one_asked r (place.VoteIn (Some view)) a b is is' = is ∙ sym is'
+one_asked r (place.VoteIn None) a b is is' = is ∙ sym is'
+one_asked r (place.Header (Some id)) a b is is' = is ∙ sym is'
+one_asked r (place.Header None) a b is is' = is ∙ sym is'
+one_asked r place.Log a b of of' = one_log_call (query_in r) a b (log_case (query_in r) a of) (log_case (query_in r) b of')
+one_asked r place.Status a b is is' = is ∙ sym is'
+one_asked r place.Live a b is is' = is ∙ sym is'
+one_asked r place.Health a b is is' = is ∙ sym is'
+one_asked r place.Metrics a b is is' = is ∙ sym is'
+one_asked r place.Nowhere a b is is' = is ∙ sym is'
+
+-- ---- one test fails first
+
+-- the refusal is that of this test, which fails, or the test holds and one behind it fails
+abbrev FailsFirst : Type 0 → CallRefusal → Type 0 → CallRefusal → Type 0
+FailsFirst Holds of Behind refusal = ((refusal ≡ of) × (Holds → ⊥)) ⊎ (Holds × Behind)
+
+one_first : (Holds Behind Behind' : Type 0) (of a b : CallRefusal) → (Behind → Behind' → a ≡ b)
+    → FailsFirst Holds of Behind a → FailsFirst Holds of Behind' b → a ≡ b
+one_first Holds Behind Behind' of a b last (inl (is, fails)) (inl (is', fails')) = is ∙ sym is'
+one_first Holds Behind Behind' of a b last (inl (is, fails)) (inr (holds, behind)) = absurd (fails holds)
+one_first Holds Behind Behind' of a b last (inr (holds, behind)) (inl (is, fails)) = absurd (fails holds)
+one_first Holds Behind Behind' of a b last (inr (holds, behind)) (inr (holds', behind')) = last behind behind'
+
+module _ (rules : Rules) (r : Request (List ℕ)) (p : Place) where
+  abbrev AtContentType : CallRefusal → Type 0
+  AtContentType x = (x ≡ refused.ContentType) × (HasContentType rules r p → ⊥)
+
+  abbrev AtMethod : CallRefusal → Type 0
+  AtMethod x = FailsFirst (HasRightMethod r p) (refused.Method (methods_of p)) (AtContentType x) x
+
+  abbrev AtThere : CallRefusal → Type 0
+  AtThere x = FailsFirst (IsThere rules r p) refused.NoSuchCall (AtMethod x) x
+
+  abbrev AtOrigin : CallRefusal → Type 0
+  AtOrigin x = FailsFirst (HasNoOrigin rules r) refused.Origin (AtThere x) x
+
+  abbrev AtHost : CallRefusal → Type 0
+  AtHost x = FailsFirst (NamesHost rules r) refused.Host (AtOrigin x) x
+
+  abbrev AtTarget : CallRefusal → Type 0
+  AtTarget x = FailsFirst (HasGoodTarget r p) refused.Target (AtHost x) x
+
+  one_at : (a b : CallRefusal) → AtTarget a → AtTarget b → a ≡ b
+  one_at a b =
+      one_first (HasGoodTarget r p) (AtHost a) (AtHost b) refused.Target a b
+      (one_first (NamesHost rules r) (AtOrigin a) (AtOrigin b) refused.Host a b
+      (one_first (HasNoOrigin rules r) (AtThere a) (AtThere b) refused.Origin a b
+      (one_first (IsThere rules r p) (AtMethod a) (AtMethod b) refused.NoSuchCall a b
+      (one_first (HasRightMethod r p) (AtContentType a) (AtContentType b) (refused.Method (methods_of p)) a b
+      (λ x y. x.0 ∙ sym y.0)))))
+
+  behind_door : (a : CallRefusal) → PassesDoor rules r p → AtThere a → AtTarget a
+  behind_door a door at = inr (door.target, inr (door.host, inr (door.origin, at)))
+
+  at_target : (a : CallRefusal) → IsRefusedAt rules r p a → AtTarget a
+  at_target refused.Target fails = inl (refl, fails)
+  at_target refused.Host (target, fails) = inr (target, inl (refl, fails))
+  at_target refused.Origin (target, host, fails) = inr (target, inr (host, inl (refl, fails)))
+  at_target refused.NoSuchCall (door, fails) = behind_door refused.NoSuchCall door (inl (refl, fails))
+  at_target (refused.Method methods) (door, there, is, fails) =
+      behind_door (refused.Method methods) door (inr (there, inl (cc is, fails)))
+  at_target refused.ContentType (door, there, method, fails) =
+      behind_door refused.ContentType door (inr (there, inr (method, (refl, fails))))
+  at_target refused.Number never = absurd never
+  at_target refused.Far never = absurd never
+  at_target refused.NoVote never = absurd never
+  at_target refused.NotHeld never = absurd never
+  at_target refused.Length never = absurd never
+
+  pub one_refusal : (a b : CallRefusal) → IsRefusedAt rules r p a → IsRefusedAt rules r p b → a ≡ b
+  one_refusal a b is is' = one_at a b (at_target a is) (at_target b is')
+
+  pub not_both : (a : CallRefusal) → IsAdmitted rules r p → IsRefusedAt rules r p a → ⊥
+  not_both refused.Target admitted fails = fails admitted.door.target
+  not_both refused.Host admitted (target, fails) = fails admitted.door.host
+  not_both refused.Origin admitted (target, host, fails) = fails admitted.door.origin
+  not_both refused.NoSuchCall admitted (door, fails) = fails admitted.there
+  not_both (refused.Method methods) admitted (door, there, is, fails) = fails admitted.method
+  not_both refused.ContentType admitted (door, there, method, fails) = fails admitted.content_type
+  not_both refused.Number admitted never = never
+  not_both refused.Far admitted never = never
+  not_both refused.NoVote admitted never = never
+  not_both refused.NotHeld admitted never = never
+  not_both refused.Length admitted never = never
+
+-- ---- the whole
+
+abbrev Reads : Rules → Request (List ℕ) → Place → Call → Type 0
+Reads rules r p a = (IsAdmitted rules r p × IsAskedAt r p a) ⊎ ((refusal : CallRefusal) × (a ≡ call.Refused refusal) × IsRefusedAt rules r p refusal)
+
+one_of_place : (rules : Rules) (r : Request (List ℕ)) (p : Place) (a b : Call) → Reads rules r p a → Reads rules r p b → a ≡ b
+one_of_place rules r p a b (inl (admitted, asked)) (inl (admitted', asked')) = one_asked r p a b asked asked'
+one_of_place rules r p a b (inl (admitted, asked)) (inr (x, is, at)) = absurd (not_both rules r p x admitted at)
+one_of_place rules r p a b (inr (x, is, at)) (inl (admitted, asked)) = absurd (not_both rules r p x admitted at)
+one_of_place rules r p a b (inr (x, is, at)) (inr (y, is', at')) =
+    is ∙ ap (λ (z : CallRefusal). call.Refused z) (one_refusal rules r p x y at at') ∙ sym is'
+
+pub one_reading : ARequestHasOneReading
+one_reading rules r a b x y =
+    let same = one_place _ x.place y.place x.named y.named in
+    one_of_place rules r y.place a b (subst (λ (p : Place). Reads rules r p a) same x.reads) y.reads

@@ -1,0 +1,130 @@
+-- What a request asks for: one call, or the first thing that is wrong with it.
+use Rattle.std.specs.Prelude.{◌≡◌, ◌≢◌, ◌⊎◌, ℕ, true, false, List, [], Option, Some, None, codes, length}
+use Rattle.certificates.specs.declared.vote.TheConstants.{VOTE_LEN}
+use Rattle.http.specs.declared.request.Request.{Request}
+use Rattle.http.specs.Request.{body_of, head_of}
+use Rattle.http_header.specs.HeaderMap.{ContainsKey}
+use Rattle.http_uri.specs.Uri.{uri_authority, uri_path, uri_query, uri_scheme}
+use Rattle.replica_lines.specs.Requests.{IsOfBlock}
+use Rattle.replica_lines.specs.declared.request.Request.{Request as Asked}
+use Rattle.replica_lines.specs.declared.request.Request.TheVariants as asks
+use Rattle.signer_calls.specs.Doors.{HasBytesType, HasGoodHost}
+use Rattle.signer_calls.specs.LogParts.{IsPart}
+use Rattle.signer_calls.specs.Places.{IsPlace, has_no_id, is_nowhere, is_posted, methods_of, takes_query}
+use Rattle.signer_calls.specs.SpelledVotes.{SpellsVote}
+use Rattle.signer_calls.specs.declared.call.Call.{Call}
+use Rattle.signer_calls.specs.declared.call.Call.TheVariants as call
+use Rattle.signer_calls.specs.declared.call.CallRefusal.{CallRefusal}
+use Rattle.signer_calls.specs.declared.call.CallRefusal.TheVariants as refused
+use Rattle.signer_calls.specs.declared.log_part.LogPart.{LogPart}
+use Rattle.signer_calls.specs.declared.place.Methods.{Methods}
+use Rattle.signer_calls.specs.declared.place.Methods.TheVariants.{Post, Get}
+use Rattle.signer_calls.specs.declared.place.Place.{Place}
+use Rattle.signer_calls.specs.declared.place.Place.TheVariants as place
+use Rattle.signer_calls.specs.declared.rules.Rules.{Rules}
+
+-- ---- the tests
+
+abbrev pub query_in : Request (List ℕ) → Option (List ℕ)
+query_in r = uri_query (head_of r).uri
+
+-- the target is a path, with a query only where one is named; where it has an id, that is one
+pub record HasGoodTarget (r : Request (List ℕ)) (p : Place) : Type 0 where
+  pub scheme : uri_scheme (head_of r).uri ≡ None
+  pub authority : uri_authority (head_of r).uri ≡ None
+  pub query : (query_in r ≡ None) ⊎ (takes_query p ≡ true)
+  pub id : has_no_id p ≡ false
+
+-- over TCP the one `Host` names this machine
+abbrev pub NamesHost : Rules → Request (List ℕ) → Type 0
+NamesHost rules r = rules.over_tcp ≡ true → HasGoodHost rules.hosts.items (head_of r).headers
+
+-- over TCP there is no `Origin`
+abbrev pub HasNoOrigin : Rules → Request (List ℕ) → Type 0
+HasNoOrigin rules r = rules.over_tcp ≡ true → ContainsKey (head_of r).headers (codes "origin") → ⊥
+
+pub record PassesDoor (rules : Rules) (r : Request (List ℕ)) (p : Place) : Type 0 where
+  pub target : HasGoodTarget r p
+  pub host : NamesHost rules r
+  pub origin : HasNoOrigin rules r
+
+-- nothing is posted where one can only read
+abbrev pub IsNotPosted : Request (List ℕ) → Place → Type 0
+IsNotPosted r p = (is_posted (methods_of p) ≡ false) × ((head_of r).method ≢ codes "POST")
+
+-- there is such a call here
+abbrev pub IsThere : Rules → Request (List ℕ) → Place → Type 0
+IsThere rules r p = (is_nowhere p ≡ false) × (rules.reads_only ≡ true → IsNotPosted r p)
+
+abbrev pub IsOneOf : Methods → List ℕ → Type 0
+IsOneOf Post method = method ≡ codes "POST"
+IsOneOf Get method = (method ≡ codes "GET") ⊎ (method ≡ codes "HEAD")
+
+abbrev pub HasRightMethod : Request (List ℕ) → Place → Type 0
+HasRightMethod r p = IsOneOf (methods_of p) (head_of r).method
+
+-- over TCP what is posted is bytes
+abbrev pub HasContentType : Rules → Request (List ℕ) → Place → Type 0
+HasContentType rules r p = rules.over_tcp ≡ true → is_posted (methods_of p) ≡ true → HasBytesType (head_of r).headers
+
+-- the request passes the tests that come before its arguments
+pub record IsAdmitted (rules : Rules) (r : Request (List ℕ)) (p : Place) : Type 0 where
+  pub door : PassesDoor rules r p
+  pub there : IsThere rules r p
+  pub method : HasRightMethod r p
+  pub content_type : HasContentType rules r p
+
+-- it fails this test, and passes those before
+abbrev pub IsRefusedAt : Rules → Request (List ℕ) → Place → CallRefusal → Type 0
+IsRefusedAt rules r p refused.Target = HasGoodTarget r p → ⊥
+IsRefusedAt rules r p refused.Host = HasGoodTarget r p × (NamesHost rules r → ⊥)
+IsRefusedAt rules r p refused.Origin = HasGoodTarget r p × NamesHost rules r × (HasNoOrigin rules r → ⊥)
+IsRefusedAt rules r p refused.NoSuchCall = PassesDoor rules r p × (IsThere rules r p → ⊥)
+IsRefusedAt rules r p (refused.Method methods) =
+    PassesDoor rules r p × IsThere rules r p × (methods ≡ methods_of p) × (HasRightMethod r p → ⊥)
+IsRefusedAt rules r p refused.ContentType =
+    PassesDoor rules r p × IsThere rules r p × HasRightMethod r p × (HasContentType rules r p → ⊥)
+IsRefusedAt rules r p _ = ⊥
+
+-- ---- the arguments
+
+-- the body of a timeout is empty
+abbrev pub TimeoutAsked : ℕ → List ℕ → Call → Type 0
+TimeoutAsked view body asked =
+    ((body ≡ []) × (asked ≡ call.Replica (asks.Timeout view))) ⊎ ((body ≢ []) × (asked ≡ call.Refused refused.Length))
+
+abbrev pub LogAsked : Option (List ℕ) → Call → Type 0
+LogAsked query (call.Log part) = IsPart query part
+LogAsked query asked = (asked ≡ call.Refused refused.Number) × ((part : LogPart) → IsPart query part → ⊥)
+
+-- a vote of 1,495 bytes
+abbrev pub VoteAsked : List ℕ → Call → Type 0
+VoteAsked body (call.Judge vote) = SpellsVote body vote
+VoteAsked body asked = (asked ≡ call.Refused refused.Length) × (length body ≢ VOTE_LEN)
+
+-- what is asked of a place by a request that is admitted
+abbrev pub IsAskedAt : Request (List ℕ) → Place → Call → Type 0
+IsAskedAt r place.Block asked = (block : Asked) × (asked ≡ call.Replica block) × IsOfBlock (body_of r) block
+IsAskedAt r (place.Timeout (Some view)) asked = TimeoutAsked view (body_of r) asked
+IsAskedAt r place.Vote asked = VoteAsked (body_of r) asked
+IsAskedAt r (place.VoteIn (Some view)) asked = asked ≡ call.VoteIn view
+IsAskedAt r (place.Header (Some id)) asked = asked ≡ call.Header id
+IsAskedAt r place.Log asked = LogAsked (query_in r) asked
+IsAskedAt r place.Status asked = asked ≡ call.Status
+IsAskedAt r place.Live asked = asked ≡ call.Live
+IsAskedAt r place.Health asked = asked ≡ call.Health
+IsAskedAt r place.Metrics asked = asked ≡ call.Metrics
+IsAskedAt r _ asked = asked ≡ call.Refused refused.Number
+
+-- ---- the whole
+
+-- the request's path names a place, and the request asks for this there, or is refused at the first test that it fails
+pub record AsksFor (rules : Rules) (r : Request (List ℕ)) (asked : Call) : Type 0 where
+  pub place : Place
+  pub named : IsPlace (uri_path (head_of r).uri) place
+  pub reads : (IsAdmitted rules r place × IsAskedAt r place asked)
+      ⊎ ((refusal : CallRefusal) × (asked ≡ call.Refused refusal) × IsRefusedAt rules r place refusal)
+
+-- a request asks for one thing
+abbrev pub ARequestHasOneReading : Type 0
+ARequestHasOneReading = (rules : Rules) (r : Request (List ℕ)) (a b : Call) → AsksFor rules r a → AsksFor rules r b → a ≡ b

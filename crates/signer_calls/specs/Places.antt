@@ -1,0 +1,81 @@
+-- What the path of a call names.
+use Rattle.std.specs.Prelude.{◌≡◌, ◌≢◌, ◌<◌, ◌^◌, ◌++◌, ℕ, Bool, true, false, List, Option, Some, None, codes, decimal, length}
+use Rattle.hex.specs.Hex.{IsBytes, encode_lower}
+use Rattle.signer_calls.specs.declared.place.Place.{Place}
+use Rattle.signer_calls.specs.declared.place.Place.TheVariants.{Block, Timeout, Vote, VoteIn, Header, Log, Status, Live, Health, Metrics, Nowhere}
+use Rattle.signer_calls.specs.declared.place.Methods.{Methods}
+use Rattle.signer_calls.specs.declared.place.Methods.TheVariants.{Post, Get}
+
+-- the digits print this number of 64 bits, or none
+abbrev pub IsNumberOf : List ℕ → Option ℕ → Type 0
+IsNumberOf digits (Some number) = (number < 2 ^ 64) × (digits ≡ decimal number)
+IsNumberOf digits None = (number : ℕ) → number < 2 ^ 64 → digits ≡ decimal number → ⊥
+
+-- 32 bytes
+abbrev pub IsId : List ℕ → Type 0
+IsId id = (length id ≡ 32) × IsBytes id
+
+-- the digits print this id in lower case, or none
+abbrev pub IsIdOf : List ℕ → Option (List ℕ) → Type 0
+IsIdOf digits (Some id) = IsId id × (digits ≡ encode_lower id)
+IsIdOf digits None = (id : List ℕ) → IsId id → digits ≡ encode_lower id → ⊥
+
+-- the path is none of those without an argument
+pub record HasNoName (path : List ℕ) : Type 0 where
+  pub block : path ≢ codes "/block"
+  pub vote : path ≢ codes "/vote"
+  pub log : path ≢ codes "/log"
+  pub status : path ≢ codes "/status"
+  pub live : path ≢ codes "/live"
+  pub health : path ≢ codes "/health"
+  pub metrics : path ≢ codes "/metrics"
+
+-- a place without an argument
+abbrev pub IsNamedPlace : List ℕ → Place → Type 0
+IsNamedPlace path Block = path ≡ codes "/block"
+IsNamedPlace path Vote = path ≡ codes "/vote"
+IsNamedPlace path Log = path ≡ codes "/log"
+IsNamedPlace path Status = path ≡ codes "/status"
+IsNamedPlace path Live = path ≡ codes "/live"
+IsNamedPlace path Health = path ≡ codes "/health"
+IsNamedPlace path Metrics = path ≡ codes "/metrics"
+IsNamedPlace path Nowhere = HasNoName path
+IsNamedPlace path _ = ⊥
+
+-- the path is none of those with an argument
+pub record HasNoArgument (path : List ℕ) : Type 0 where
+  pub timeout : (rest : List ℕ) → path ≢ codes "/timeout/" ++ rest
+  pub vote : (rest : List ℕ) → path ≢ codes "/vote/" ++ rest
+  pub block : (rest : List ℕ) → path ≢ codes "/block/" ++ rest
+
+-- what a path names, with its argument as it is printed
+abbrev pub IsPlace : List ℕ → Place → Type 0
+IsPlace path (Timeout view) = (digits : List ℕ) × (path ≡ codes "/timeout/" ++ digits) × IsNumberOf digits view
+IsPlace path (VoteIn view) = (digits : List ℕ) × (path ≡ codes "/vote/" ++ digits) × IsNumberOf digits view
+IsPlace path (Header id) = (digits : List ℕ) × (path ≡ codes "/block/" ++ digits) × IsIdOf digits id
+IsPlace path place = HasNoArgument path × IsNamedPlace path place
+
+-- by which methods a place is asked
+abbrev pub methods_of : Place → Methods
+methods_of Block = Post
+methods_of (Timeout view) = Post
+methods_of Vote = Post
+methods_of _ = Get
+
+abbrev pub is_posted : Methods → Bool
+is_posted Post = true
+is_posted Get = false
+
+-- whether a query is named for it
+abbrev pub takes_query : Place → Bool
+takes_query Log = true
+takes_query _ = false
+
+-- whether it names a block by what is no id
+abbrev pub has_no_id : Place → Bool
+has_no_id (Header None) = true
+has_no_id _ = false
+
+abbrev pub is_nowhere : Place → Bool
+is_nowhere Nowhere = true
+is_nowhere _ = false

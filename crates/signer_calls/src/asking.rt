@@ -1,0 +1,170 @@
+//! What a request asks for.
+
+ghost use Rattle.std.specs.Prelude.{◌≡◌, ◌↔◌, IfOk, IsTrue, MatchOption};
+ghost use Rattle.http.specs.Request.{head_of};
+ghost use Rattle.signer_calls.specs.Asking.{AsksFor, HasContentType, HasGoodTarget, HasNoOrigin, HasRightMethod, IsAdmitted, IsAskedAt, IsRefusedAt, IsThere, LogAsked, NamesHost, PassesDoor, VoteAsked, query_in};
+
+use crate::call::{Call, CallRefusal};
+use crate::door::{has_bytes_type, has_good_host};
+use crate::log_part::part_in;
+use crate::place::{Methods, Place, is_same, place_of};
+use crate::rules::Rules;
+use crate::vote_reading::vote_in;
+use bytes::Bytes;
+use http::Request;
+use replica_lines::{Request as Asked, block_in};
+use std::alloc::{AllocError, Global};
+
+/// What a request asks for, or the first thing that is wrong with it: `AllocError` where memory was refused.
+pub fn call_of(alloc: Global, rules: &Rules, request: &Request<Bytes>) -> Result<Call, AllocError>
+    ensures { IfOk result (AsksFor rules.now request.now) }
+{
+    let place = place_of(request.uri().path().as_bytes());
+    if let Some(refusal) = refused_at(rules, request, place)? {
+        return Ok(Call::Refused(refusal));
+    }
+    asked_at(alloc, rules, request, place)
+}
+
+// The first thing that is wrong with a request, before its arguments are read.
+fn refused_at(
+    rules: &Rules,
+    request: &Request<Bytes>,
+    place: Place,
+) -> Result<Option<CallRefusal>, AllocError>
+    ensures { IfOk result (λ refused. MatchOption refused (IsAdmitted rules.now request.now place)
+        (IsRefusedAt rules.now request.now place)) }
+{
+    if !has_good_target(request, place) {
+        return Ok(Some(CallRefusal::Target));
+    }
+    if !names_host(rules, request)? {
+        return Ok(Some(CallRefusal::Host));
+    }
+    if !has_no_origin(rules, request) {
+        return Ok(Some(CallRefusal::Origin));
+    }
+    Ok(refused_behind_door(rules, request, place))
+}
+
+fn refused_behind_door(rules: &Rules, request: &Request<Bytes>, place: Place) -> Option<CallRefusal>
+    requires { PassesDoor rules.now request.now place }
+    ensures { MatchOption result (IsAdmitted rules.now request.now place)
+        (IsRefusedAt rules.now request.now place) }
+{
+    if !is_there(rules, request, place) {
+        return Some(CallRefusal::NoSuchCall);
+    }
+    if !has_right_method(request, place) {
+        return Some(CallRefusal::Method(place.methods()));
+    }
+    if !has_content_type(rules, request, place) {
+        return Some(CallRefusal::ContentType);
+    }
+    None
+}
+
+// What is asked of a place by a request that passed the tests before.
+fn asked_at(
+    alloc: Global,
+    rules: &Rules,
+    request: &Request<Bytes>,
+    place: Place,
+) -> Result<Call, AllocError>
+    requires { IsAdmitted rules.now request.now place }
+    ensures { IfOk result (IsAskedAt request.now place) }
+{
+    let body = request.body().as_slice();
+    match place {
+        Place::Block => Ok(Call::Replica(block_in(alloc, body)?)),
+        Place::Timeout(Some(view)) if body.is_empty() => Ok(Call::Replica(Asked::Timeout(view))),
+        Place::Timeout(Some(_)) => Ok(Call::Refused(CallRefusal::Length)),
+        Place::Vote => Ok(vote_asked(body)),
+        Place::VoteIn(Some(view)) => Ok(Call::VoteIn(view)),
+        Place::Header(Some(id)) => Ok(Call::Header(id)),
+        Place::Log => Ok(log_asked(request)),
+        Place::Status => Ok(Call::Status),
+        Place::Live => Ok(Call::Live),
+        Place::Health => Ok(Call::Health),
+        Place::Metrics => Ok(Call::Metrics),
+        _ => Ok(Call::Refused(CallRefusal::Number)),
+    }
+}
+
+fn vote_asked(body: &[u8]) -> Call
+    ensures { VoteAsked body.now result }
+{
+    match vote_in(body) {
+        Some(vote) => Call::Judge(vote),
+        None => Call::Refused(CallRefusal::Length),
+    }
+}
+
+fn log_asked(request: &Request<Bytes>) -> Call
+    ensures { LogAsked (query_in request.now) result }
+{
+    match part_in(request.uri().query()) {
+        Some(part) => Call::Log(part),
+        None => Call::Refused(CallRefusal::Number),
+    }
+}
+
+// ---- the tests
+
+fn has_good_target(request: &Request<Bytes>, place: Place) -> bool
+    ensures { IsTrue result ↔ HasGoodTarget request.now place }
+{
+    let uri = request.uri();
+    if uri.scheme().is_some() || uri.authority().is_some() {
+        return false;
+    }
+    if uri.query().is_some() && !place.takes_query() {
+        return false;
+    }
+    !place.has_no_id()
+}
+
+fn names_host(rules: &Rules, request: &Request<Bytes>) -> Result<bool, AllocError>
+    ensures { IfOk result (λ good. IsTrue good ↔ NamesHost rules.now request.now) }
+{
+    if !rules.over_tcp {
+        return Ok(true);
+    }
+    has_good_host(&rules.hosts, request.headers())
+}
+
+fn has_no_origin(rules: &Rules, request: &Request<Bytes>) -> bool
+    ensures { IsTrue result ↔ HasNoOrigin rules.now request.now }
+{
+    !rules.over_tcp || !request.headers().contains_key("origin")
+}
+
+fn is_there(rules: &Rules, request: &Request<Bytes>, place: Place) -> bool
+    ensures { IsTrue result ↔ IsThere rules.now request.now place }
+{
+    if place.is_nowhere() {
+        return false;
+    }
+    !rules.reads_only || !(place.is_posted() || has_method(request, b"POST"))
+}
+
+fn has_right_method(request: &Request<Bytes>, place: Place) -> bool
+    ensures { IsTrue result ↔ HasRightMethod request.now place }
+{
+    match place.methods() {
+        Methods::Post => has_method(request, b"POST"),
+        Methods::Get => has_method(request, b"GET") || has_method(request, b"HEAD"),
+    }
+}
+
+fn has_method(request: &Request<Bytes>, method: &[u8]) -> bool
+    ensures { IsTrue result ↔ ((head_of request.now).method ≡ method.now) }
+{
+    is_same(request.method().as_str().as_bytes(), method)
+}
+
+fn has_content_type(rules: &Rules, request: &Request<Bytes>, place: Place) -> bool
+    ensures { IsTrue result ↔ HasContentType rules.now request.now place }
+{
+    !rules.over_tcp || !place.is_posted() || has_bytes_type(request.headers())
+}

@@ -1,0 +1,122 @@
+//! What a call asks for.
+
+ghost use Rattle.std.specs.Prelude.{◌≡◌, ◌≤◌, length};
+ghost use Rattle.signer_calls.specs.CallRefusals.{call_refusal_name, call_refusal_number, call_refusal_status};
+
+use crate::log_part::LogPart;
+use crate::place::Methods;
+use blocks::Id;
+use certificates::SignedVote;
+use http::StatusCode;
+use replica_lines::Request;
+
+/// What a call asks for.
+#[derive(Drop)]
+pub enum Call {
+    /// To deliver a block, `POST /block`, or to give up on views, `POST /timeout/V`; or what is refused of a block's bytes.
+    Replica(Request),
+    /// Whether a vote is good: `POST /vote`.
+    Judge(SignedVote),
+    /// The log's vote in this view: `GET /vote/V`.
+    VoteIn(u64),
+    /// Whether the header of this id is held: `GET /block/ID`.
+    Header(Id),
+    /// A part of the log: `GET /log?first=F&most=M`.
+    Log(LogPart),
+    /// What the desk is at: `GET /status`.
+    Status,
+    /// Whether the process answers: `GET /live`.
+    Live,
+    /// Whether a block could get a vote: `GET /health`.
+    Health,
+    /// What was told since the start, and what the desk is at: `GET /metrics`.
+    Metrics,
+    /// Nothing: this is wrong with the call.
+    Refused(CallRefusal),
+}
+
+/// Why a call is refused. The numbers are fixed.
+#[derive(Clone, Copy, Debug, PartialEq, Eq)]
+pub enum CallRefusal {
+    /// 1: there is no such call here.
+    NoSuchCall,
+    /// 2: it is asked by these methods.
+    Method(Methods),
+    /// 3: a number is not as it is printed or out of range, or a parameter is unknown or doubled.
+    Number,
+    /// 4: over TCP, `Host` is missing or doubled, or names another machine.
+    Host,
+    /// 5: over TCP, there is an `Origin`.
+    Origin,
+    /// 6: over TCP, what is posted is not `application/octet-stream`.
+    ContentType,
+    /// 7: the view lies too far above the desk's vote view.
+    Far,
+    /// 8: the log has no vote in this view.
+    NoVote,
+    /// 9: the target is not in origin form (what stands behind a `#` is not looked at), has a query where none is named, or an id that is not 64 digits in lower case.
+    Target,
+    /// 10: no header of this id is held.
+    NotHeld,
+    /// 11: the body has not the length that is wanted.
+    Length,
+}
+
+impl CallRefusal {
+    /// The number of the refusal, which never changes.
+    pub fn number(self) -> u8
+        ensures { result ≡ call_refusal_number self }
+    {
+        match self {
+            CallRefusal::NoSuchCall => 1,
+            CallRefusal::Method(_) => 2,
+            CallRefusal::Number => 3,
+            CallRefusal::Host => 4,
+            CallRefusal::Origin => 5,
+            CallRefusal::ContentType => 6,
+            CallRefusal::Far => 7,
+            CallRefusal::NoVote => 8,
+            CallRefusal::Target => 9,
+            CallRefusal::NotHeld => 10,
+            CallRefusal::Length => 11,
+        }
+    }
+
+    /// The name of the refusal in docs/REFUSALS.md.
+    pub fn name(self) -> &'static [u8]
+        ensures name { result.now ≡ call_refusal_name self }
+        ensures short { length result.now ≤ 20 }
+    {
+        match self {
+            CallRefusal::NoSuchCall => b"NoSuchCall",
+            CallRefusal::Method(_) => b"Method",
+            CallRefusal::Number => b"Number",
+            CallRefusal::Host => b"Host",
+            CallRefusal::Origin => b"Origin",
+            CallRefusal::ContentType => b"ContentType",
+            CallRefusal::Far => b"Far",
+            CallRefusal::NoVote => b"NoVote",
+            CallRefusal::Target => b"Target",
+            CallRefusal::NotHeld => b"NotHeld",
+            CallRefusal::Length => b"Length",
+        }
+    }
+
+    /// The status of its response.
+    pub fn status(self) -> StatusCode
+        ensures { result ≡ call_refusal_status self }
+    {
+        match self {
+            CallRefusal::NoSuchCall | CallRefusal::NoVote | CallRefusal::NotHeld => {
+                StatusCode::NOT_FOUND
+            }
+            CallRefusal::Method(_) => StatusCode::METHOD_NOT_ALLOWED,
+            CallRefusal::Number | CallRefusal::Target | CallRefusal::Length => {
+                StatusCode::BAD_REQUEST
+            }
+            CallRefusal::Host | CallRefusal::Origin => StatusCode::FORBIDDEN,
+            CallRefusal::ContentType => StatusCode::UNSUPPORTED_MEDIA_TYPE,
+            CallRefusal::Far => StatusCode::CONFLICT,
+        }
+    }
+}

@@ -1,0 +1,18 @@
+//! What a call over HTTP asks of a replica, or why it is refused. Needs no threads, files or network.
+#![tactic(auto)]
+
+mod asking;
+mod call;
+mod door;
+mod laws;
+mod log_part;
+mod place;
+mod rules;
+mod vote_reading;
+
+pub use asking::call_of;
+pub use call::{Call, CallRefusal};
+pub use laws::a_request_has_one_reading;
+pub use log_part::{LogPart, MOST_ENTRIES_AT_ONCE};
+pub use place::{Methods, Place};
+pub use rules::Rules;

@@ -1,0 +1,164 @@
+//! What the path of a call names.
+
+ghost use Rattle.std.specs.Prelude.{◌≡◌, ◌≢◌, ◌↔◌, ◌++◌, ℕ, List, IsTrue, MatchOption};
+ghost use Rattle.signer_calls.specs.Places.{IsIdOf, IsNamedPlace, IsPlace, has_no_id, is_nowhere, is_posted, methods_of, takes_query};
+
+use blocks::Id;
+use printed_lines::{id_digits, number_in};
+
+/// What the path of a call names.
+#[derive(Clone, Copy, Debug, PartialEq, Eq)]
+pub enum Place {
+    /// `/block`
+    Block,
+    /// `/timeout/V`, if V is a number of 64 bits as it is printed.
+    Timeout(Option<u64>),
+    /// `/vote`
+    Vote,
+    /// `/vote/V`, if V is a number of 64 bits as it is printed.
+    VoteIn(Option<u64>),
+    /// `/block/ID`, if ID is 64 hex digits in lower case.
+    Header(Option<Id>),
+    /// `/log`
+    Log,
+    /// `/status`
+    Status,
+    /// `/live`
+    Live,
+    /// `/health`
+    Health,
+    /// `/metrics`
+    Metrics,
+    /// Any other path.
+    Nowhere,
+}
+
+/// By which methods a place is asked.
+#[derive(Clone, Copy, Debug, PartialEq, Eq)]
+pub enum Methods {
+    /// POST alone.
+    Post,
+    /// GET and HEAD.
+    Get,
+}
+
+impl Place {
+    pub(crate) fn methods(self) -> Methods
+        ensures { result ≡ methods_of self }
+    {
+        match self {
+            Place::Block | Place::Timeout(_) | Place::Vote => Methods::Post,
+            _ => Methods::Get,
+        }
+    }
+
+    pub(crate) fn is_posted(self) -> bool
+        ensures { result ≡ is_posted (methods_of self) }
+    {
+        match self.methods() {
+            Methods::Post => true,
+            Methods::Get => false,
+        }
+    }
+
+    // Whether a query is named for it.
+    pub(crate) fn takes_query(self) -> bool
+        ensures { result ≡ takes_query self }
+    {
+        match self {
+            Place::Log => true,
+            _ => false,
+        }
+    }
+
+    // Whether it names a block by what is no id.
+    pub(crate) fn has_no_id(self) -> bool
+        ensures { result ≡ has_no_id self }
+    {
+        match self {
+            Place::Header(None) => true,
+            _ => false,
+        }
+    }
+
+    pub(crate) fn is_nowhere(self) -> bool
+        ensures { result ≡ is_nowhere self }
+    {
+        match self {
+            Place::Nowhere => true,
+            _ => false,
+        }
+    }
+}
+
+// What the path names.
+pub(crate) fn place_of(path: &[u8]) -> Place
+    ensures { IsPlace path.now result }
+{
+    if let Some(digits) = behind(path, b"/timeout/") {
+        return Place::Timeout(number_in(digits));
+    }
+    if let Some(digits) = behind(path, b"/vote/") {
+        return Place::VoteIn(number_in(digits));
+    }
+    if let Some(digits) = behind(path, b"/block/") {
+        return Place::Header(id_in(digits));
+    }
+    named_place(path)
+}
+
+// What a path names that has no argument.
+fn named_place(path: &[u8]) -> Place
+    ensures { IsNamedPlace path.now result }
+{
+    if is_same(path, b"/block") {
+        return Place::Block;
+    }
+    if is_same(path, b"/vote") {
+        return Place::Vote;
+    }
+    if is_same(path, b"/log") {
+        return Place::Log;
+    }
+    if is_same(path, b"/status") {
+        return Place::Status;
+    }
+    if is_same(path, b"/live") {
+        return Place::Live;
+    }
+    if is_same(path, b"/health") {
+        return Place::Health;
+    }
+    if is_same(path, b"/metrics") {
+        return Place::Metrics;
+    }
+    Place::Nowhere
+}
+
+// The id that is printed so.
+fn id_in(digits: &[u8]) -> Option<Id>
+    ensures { IsIdOf digits.now result }
+{
+    let mut id = [0; 32];
+    if hex::decode_to_slice(digits, &mut id).is_err() {
+        return None;
+    }
+    if !is_same(&id_digits(&id), digits) {
+        return None;
+    }
+    Some(id)
+}
+
+// What stands behind the word that the text begins with.
+pub(crate) fn behind<'a>(text: &'a [u8], word: &[u8]) -> Option<&'a [u8]>
+    ensures { MatchOption result ((rest : List ℕ) → text.now ≢ word.now ++ rest) (λ rest.
+        text.now ≡ word.now ++ rest.now) }
+{
+    text.strip_prefix(word)
+}
+
+pub(crate) fn is_same(a: &[u8], b: &[u8]) -> bool
+    ensures { IsTrue result ↔ (a.now ≡ b.now) }
+{
+    a == b
+}

@@ -1,0 +1,79 @@
+-- What was printed where a signer gives up.
+use Rattle.std.proofs.Common.{◌≡◌, ℕ, List, [], ◌++◌, Option, Some, None, refl, sym, ap, subst, ◌∙◌, ◌⊎◌, inl, inr, length, arith}
+use Rattle.streams.specs.Streams.{Wrote, WrotePart}
+use Rattle.streams.proofs.Writing.{wrote_both, wrote_nothing, wrote_part}
+use Rattle.printed_lines.proofs.Pieces.{part_of_front, part_behind}
+use Rattle.std.proofs.lemmas.List.{take_all}
+use Rattle.program_parts.specs.declared.program_fault.ProgramFault.TheVariants as program
+use Rattle.signer_command.specs.Ends.{Fault, IsGivenUp, IsPart}
+use Rattle.signer_command.specs.Lines.{IsAnnounced, Places, closed_line, listening_text}
+use Rattle.signer_command.specs.declared.announcing.Announced.{Announced}
+use Rattle.signer_command.specs.declared.announcing.Announced.TheVariants.{NotBegun, Unsaid, Over}
+use Rattle.signer_command.specs.declared.fault.SignerFault.TheVariants.{FileIn, Store, Receipts, Socket, Listen, Threads}
+
+-- a part of where calls are taken
+pub part_printed : (before after : Option (List ℕ)) (places : Places) → WrotePart before after (listening_text places) → IsPart before after
+part_printed before after places part = record {
+  places = places;
+  count = 0;
+  wrote = part_of_front before after (listening_text places) (closed_line 0) part;
+}
+
+-- all of it
+pub whole_part : (before after : Option (List ℕ)) (text : List ℕ) → Wrote before after text → WrotePart before after text
+whole_part None after text wrote = tt
+whole_part (Some front) after text wrote = (length text, wrote ∙ ap (λ (t : List ℕ). Some (front ++ t)) (sym (take_all (length text) text (omega arith))))
+
+pub whole_printed : (before after : Option (List ℕ)) (places : Places) → Wrote before after (listening_text places) → IsPart before after
+whole_printed before after places wrote = part_printed before after places (whole_part before after (listening_text places) wrote)
+
+-- all of it, and a part of the last line
+pub part_of_last : (before mid after : Option (List ℕ)) (places : Places) (count : ℕ) → Wrote before mid (listening_text places) → WrotePart mid after (closed_line count) → IsPart before after
+part_of_last before mid after places count wrote part = record {
+  places = places;
+  count = count;
+  wrote = part_behind before mid after (listening_text places) (closed_line count) wrote part;
+}
+
+-- nothing
+pub nothing_printed : (before : Option (List ℕ)) → IsPart before before
+nothing_printed before = part_printed before before (record { calls = []; reads = None; log = None }) (wrote_part before before _ 0 (wrote_nothing before))
+
+pub nothing_given_up : (fault : Fault) (before : Option (List ℕ)) → IsGivenUp fault before before
+nothing_given_up program.Usage before = refl
+nothing_given_up program.Memory before = nothing_printed before
+nothing_given_up (program.File path) before = refl
+nothing_given_up (program.Committee refusal) before = refl
+nothing_given_up program.Output before = nothing_printed before
+nothing_given_up (program.Own (FileIn folder file)) before = refl
+nothing_given_up (program.Own (Store number)) before = refl
+nothing_given_up (program.Own Receipts) before = nothing_printed before
+nothing_given_up (program.Own (Socket folder)) before = refl
+nothing_given_up (program.Own Listen) before = refl
+nothing_given_up (program.Own Threads) before = refl
+
+-- whatever came of announcing, a part of it was printed
+pub announced_part : (announced : Announced) (before after : Option (List ℕ)) (failures failures' : ℕ) (places : Places) (text : List ℕ)
+    → text ≡ listening_text places → IsAnnounced announced before after failures failures' text → IsPart before after
+announced_part NotBegun before after failures failures' places text is said =
+    subst (λ (t : Option (List ℕ)). IsPart before t) (sym said.0) (nothing_printed before)
+announced_part Unsaid before after failures failures' places text is said =
+    part_printed before after places (subst (λ (t : List ℕ). WrotePart before after t) is said.0)
+announced_part Over before after failures failures' places text is said =
+    whole_printed before after places (subst (λ (t : List ℕ). Wrote before after t) is said.0)
+
+-- behind the lines, for want of memory or of a receipt
+pub given_up_behind : (fault : Fault) (before after : Option (List ℕ)) → (fault ≡ program.Memory) ⊎ (fault ≡ program.Own Receipts) → IsPart before after → IsGivenUp fault before after
+given_up_behind fault before after (inl is) part = subst (λ (f : Fault). IsGivenUp f before after) (sym is) part
+given_up_behind fault before after (inr is) part = subst (λ (f : Fault). IsGivenUp f before after) (sym is) part
+
+-- and behind the output's failure
+pub given_up_writing : (fault : Fault) (before after : Option (List ℕ)) → fault ≡ program.Output → IsPart before after → IsGivenUp fault before after
+given_up_writing fault before after is part = subst (λ (f : Fault). IsGivenUp f before after) (sym is) part
+
+-- all lines
+pub all_printed : (before mid after : Option (List ℕ)) (places : Places) (count entries : ℕ) → Wrote before mid (listening_text places) → Wrote mid after (closed_line count) → count ≡ entries
+    → Wrote before after (listening_text places ++ closed_line entries)
+all_printed before mid after places count entries listening closed is =
+    subst (λ (n : ℕ). Wrote before after (listening_text places ++ closed_line n)) is
+    (wrote_both before mid after (listening_text places) (closed_line count) listening closed)

@@ -1,0 +1,18 @@
+use Rattle.std.proofs.Common.{rules}
+use Rattle.signer_command.specs.Sockets.{places_of}
+use Rattle.signer_command.proofs.Printing.{nothing_printed, announced_part}
+use Rattle.signer_command.proofs.stay.answer_all.Goals as goal
+
+-- src/stay.rt:151:9
+pub returns-in_default-clause-given_up : goal.returns-in_default-clause-given_up
+returns-in_default-clause-given_up g c = nothing_printed _
+
+-- src/stay.rt:149:1
+pub returns-in-Unsaid-default-clause-given_up : goal.returns-in-Unsaid-default-clause-given_up
+returns-in-Unsaid-default-clause-given_up g c =
+    announced_part _ _ _ _ _ (places_of c.args.room.now.sockets.now) c.deref.result.now (search rules) c.work_and_announce.ensures
+
+-- src/stay.rt:149:1
+pub returns-in_default-Err-clause-given_up : goal.returns-in_default-Err-clause-given_up
+returns-in_default-Err-clause-given_up g c =
+    announced_part _ _ _ _ _ (places_of c.args.room.now.sockets.now) c.deref.result.now (search rules) c.work_and_announce.ensures

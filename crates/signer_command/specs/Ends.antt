@@ -1,0 +1,58 @@
+-- How a signer ends, and what it has printed by then.
+use Rattle.std.specs.Prelude.{◌≡◌, ℕ, List, ◌++◌, Option, length, if◌then◌else◌, ◌||◌}
+use Rattle.stable_log.specs.declared.disk.Disk.{Ghosts}
+use Rattle.streams.specs.Streams.{Wrote, WrotePart}
+use Rattle.program_parts.specs.declared.program_fault.ProgramFault.{ProgramFault}
+use Rattle.program_parts.specs.declared.program_fault.ProgramFault.TheVariants as program
+use Rattle.vote_desk.specs.Receipts.{AreReceipts}
+use Rattle.vote_desk.specs.declared.parts.Closed.{Closed}
+use Rattle.signer_command.specs.Lines.{Places, closed_line, listening_text}
+use Rattle.signer_command.specs.declared.fault.SignerFault.{SignerFault}
+use Rattle.signer_command.specs.declared.fault.SignerFault.TheVariants.{Receipts}
+use Rattle.signer_command.specs.declared.program.Ended.{Ended}
+use Rattle.signer_command.specs.declared.program.Ended.TheVariants.{Done, Stopped}
+
+abbrev pub Fault : Type 0
+Fault = ProgramFault SignerFault
+
+-- ---- faults
+
+-- some first part of a signer's lines was printed
+pub record IsPart (before after : Option (List ℕ)) : Type 0 where
+  pub places : Places
+  pub count : ℕ
+  pub wrote : WrotePart before after (listening_text places ++ closed_line count)
+
+-- what was printed by then: nothing, but where memory, the desk's receipts or the output are why
+abbrev pub IsGivenUp : Fault → Option (List ℕ) → Option (List ℕ) → Type 0
+IsGivenUp program.Memory before after = IsPart before after
+IsGivenUp program.Output before after = IsPart before after
+IsGivenUp (program.Own Receipts) before after = IsPart before after
+IsGivenUp fault before after = after ≡ before
+
+-- ---- ends in order
+
+-- a disk stopped the desk, or none did
+abbrev pub ended_of : {D : Type 0} → Closed D → Ended
+ended_of closed = if closed.parts.log.stopped || closed.parts.index.stopped then Stopped else Done
+
+abbrev pub status_of : Ended → ℕ
+status_of Done = 0
+status_of Stopped = 2
+
+-- where calls are taken was printed, and the desk that took them was closed so: each vote behind the list that it was opened
+-- with has its receipt
+pub record IsStay {D : Type 0} (before after : Option (List ℕ)) (closed : Closed D) : Type 0 where
+  pub places : Places
+  pub opened : ℕ
+  pub backed : AreReceipts opened closed.parts.log.steps closed.receipts.items
+  pub wrote : Wrote before after (listening_text places)
+
+-- .. and behind it how many entries the log has
+pub record IsRun {D : Type 0} (disk : Ghosts D) (before after : Option (List ℕ)) (ended : Ended) : Type 0 where
+  pub places : Places
+  pub opened : ℕ
+  pub closed : Closed D
+  pub backed : AreReceipts opened closed.parts.log.steps closed.receipts.items
+  pub ends : ended ≡ ended_of closed
+  pub wrote : Wrote before after (listening_text places ++ closed_line (length closed.parts.log.steps))
