@@ -1,7 +1,0 @@
-use Rattle.fork_demo.proofs.replica.run.Given as goal
-
-abbrev pub ghosts-stay-N-DeskNaming : goal.ghosts-stay-N-DeskNaming
-ghosts-stay-N-DeskNaming g a = record { committee = a.committee.now; replica = a.replica.number; opening = a.replica.parts.log.steps }
-
-abbrev pub ghosts-stay-N-Ledger : goal.ghosts-stay-N-Ledger
-ghosts-stay-N-Ledger g a = record { name = a.blank.name; parts = a.blank.parts }

@@ -1,0 +1,73 @@
+"""What a client does: it asks all replicas, and believes what more than a third of the weight say."""
+import json
+import queue
+import threading
+import time
+
+from links import CLIENT, connect, line_of, socket_of
+
+
+def ask(folder, number, message, patience):
+    """The answer of one replica, or None."""
+    try:
+        with connect(socket_of(folder, number), patience) as link:
+            link.sendall(line_of({"from": CLIENT}) + line_of(message))
+            return json.loads(link.makefile("rb").readline())
+    except (OSError, ValueError):
+        return None
+
+
+def ask_all(folder, committee, message, patience):
+    """The answers of all replicas, as they come: a number and an answer, or None."""
+    answers, count = queue.Queue(), len(committee.weights)
+
+    def ask_one(number):
+        answers.put((number, ask(folder, number, message, patience)))
+
+    for number in range(count):
+        threading.Thread(target=ask_one, args=(number,), daemon=True).start()
+    return (answers.get() for _ in range(count))
+
+
+def agreed(folder, committee, message, patience):
+    """The answer that replicas of more than a third of the weight gave, of which one follows the rules; or None."""
+    weights = {}
+    for number, answer in ask_all(folder, committee, message, patience):
+        if answer is not None:
+            said = json.dumps(answer)
+            weights[said] = weights.get(said, 0) + committee.weights[number]
+            if weights[said] >= committee.third:
+                return answer
+    return None
+
+
+def set_key(folder, committee, name, key, value, retry=10):
+    """Says it again under the same name until enough replicas applied it: so it is applied once."""
+    while agreed(folder, committee, {"say": "set", "command": [name, key, value]}, retry) is None:
+        pass
+
+
+def get_key(folder, committee, key):
+    """The value, or None where the key is not set."""
+    while (answer := agreed(folder, committee, {"say": "get", "key": key}, 10)) is None:
+        time.sleep(0.1)  # the replicas are not all at the same block
+    return answer["value"]
+
+
+HEAD = ["replica", "view", "vote view", "lock", "entries left", "keys left", "committed", "applied", "store"]
+
+
+def row_of(number, answer):
+    if answer is None:
+        return [number, "does not answer"]
+    signer = answer["signer"]
+    at_signer = ["signer away", "", "", ""]
+    if signer:
+        at_signer = [signer["vote_view"], signer["lock"]["view"], signer["entries_left"], signer["indices_left"]]
+    return [number, answer["view"], *at_signer, answer["committed"], answer["applied"], answer["store"][:8]]
+
+
+def print_status(folder, committee):
+    answers = sorted(ask_all(folder, committee, {"say": "status"}, 10), key=lambda each: each[0])
+    for row in [HEAD] + [row_of(*each) for each in answers]:
+        print("".join(f"{cell!s:<14}" for cell in row).rstrip())
