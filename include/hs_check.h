@@ -1,11 +1,12 @@
 /*
  * hs_check.h: judges whether a verdict proves that a replica of a committee broke a voting rule of chained HotStuff.
  *
- * It is what the program hs_check does (docs/hs_check.md), for programs that have both texts in memory. The formats are
+ * Version 0.9.0. It is what the program hs_check does (docs/hs_check.md), for programs that have both texts in memory. The formats are
  * those of docs/FORMATS.md, the numbers those of docs/REFUSALS.md, which never change. What an accepted verdict means
  * is said in docs/PROMISES.md, and that the call keeps it is proved.
  *
- * Link with the archive, and the C library: cc program.c -lhs_check. For a language that loads libraries:
+ * Link with it, as ./install puts it: cc program.c $(pkg-config --cflags --libs hs_check). The archive that lies in the repository is
+ * called libhs_check_c.a: cc program.c -lhs_check_c. For a language that loads libraries ./install makes libhs_check.so.0, or
  *
  *     cc -shared -o libhs_check.so -Wl,--whole-archive libhs_check.a -Wl,--no-whole-archive
  *
@@ -29,6 +30,9 @@ enum {
     HS_COMMITTEE_MIN_LEN = 232,   /* a committee of 4 replicas that count once: 8, and 56 for each */
     HS_COMMITTEE_MAX_LEN = 7200   /* one of 31 replicas that may have several keys: 8, and 232 for each */
 };
+
+/* As much room as each name of an answer needs, in bytes. */
+enum { HS_NAME_LEN = 14 };
 
 /* The rules that may be broken. */
 enum {
@@ -109,6 +113,16 @@ int hs_check(const uint8_t *committee, size_t committee_len, const uint8_t *verd
 __attribute__((nonnull(3)))
 #endif
 int hs_committee(const uint8_t *committee, size_t committee_len, struct hs_shown_committee *shown);
+
+/*
+ * Writes the name of what hs_check or hs_committee answered, as "SignatureE", to the front of name: letters alone, with no NUL behind
+ * them. Answers how many bytes it wrote, HS_NAME_LEN at the most; or 0, and then name is left as it was, where the answer is a number
+ * that they never answer, or len is too little. The pointer may be NULL where len is 0.
+ */
+size_t hs_check_name(int answer, uint8_t *name, size_t len);
+
+/* Writes the version of the library, as "0.9.0", in the same way. */
+size_t hs_check_version(uint8_t *version, size_t len);
 
 #ifdef __cplusplus
 }

@@ -2,6 +2,7 @@
  * check COMMITTEE VERDICT: judges a verdict by the library, and prints what the program hs_check prints.
  *
  *     cc -I../../include check.c -L../../crates/hs_check_c/out -lhs_check_c -o check
+ *     cc check.c $(pkg-config --cflags --libs hs_check) -o check        with the library that ./install put in its place
  *
  * Ends with status 0 where the verdict is accepted, 1 where it is refused, and 2 where there is nothing to judge.
  */
@@ -18,30 +19,6 @@ struct text {
     uint8_t bytes[MOST];
 };
 
-static const char *const refusals[] = {
-    [HS_REFUSED_SHORT] = "Short",
-    [HS_REFUSED_MAGIC] = "Magic",
-    [HS_REFUSED_KIND] = "Kind",
-    [HS_REFUSED_LENGTH] = "Length",
-    [HS_REFUSED_CHAIN] = "Chain",
-    [HS_REFUSED_REPLICA] = "Replica",
-    [HS_REFUSED_KEY_NUMBER] = "KeyNumber",
-    [HS_REFUSED_HEADER_MISMATCH] = "HeaderMismatch",
-    [HS_REFUSED_NO_RULE_BROKEN] = "NoRuleBroken",
-    [HS_REFUSED_SIGNATURE_E] = "SignatureE",
-    [HS_REFUSED_SIGNATURE_W] = "SignatureW",
-};
-
-static const char *const committee_refusals[] = {
-    [-HS_COMMITTEE_LENGTH] = "Length",
-    [-HS_COMMITTEE_MAGIC] = "Magic",
-    [-HS_COMMITTEE_SIZE] = "Size",
-    [-HS_COMMITTEE_KEY] = "Key",
-    [-HS_COMMITTEE_SAME_KEY] = "SameKey",
-    [-HS_COMMITTEE_WEIGHT] = "Weight",
-    [-HS_COMMITTEE_KEY_COUNT] = "KeyCount",
-};
-
 static bool read_text(const char *path, struct text *text)
 {
     FILE *file = fopen(path, "rb");
@@ -55,12 +32,15 @@ static bool read_text(const char *path, struct text *text)
 /* Prints what hs_check answered, and gives the status that says so. */
 static int tell(int answer, const struct hs_finding *finding)
 {
+    uint8_t name[HS_NAME_LEN];
+    int len = (int)hs_check_name(answer, name, sizeof name);
+
     if (answer < 0) {
-        fprintf(stderr, "fault committee %d %s\n", -answer, committee_refusals[-answer]);
+        fprintf(stderr, "fault committee %d %.*s\n", -answer, len, (const char *)name);
         return 2;
     }
     if (answer != HS_ACCEPTED) {
-        printf("refused %d %s\n", answer, refusals[answer]);
+        printf("refused %d %.*s\n", answer, len, (const char *)name);
         return 1;
     }
     printf("accepted replica %" PRIu32 " rule %" PRIu32 " view %" PRIu64 "\n", finding->replica, finding->rule,

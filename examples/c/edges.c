@@ -1,9 +1,11 @@
 /*
  * edges COMMITTEE VERDICT: what include/hs_check.h promises beside the answers, of a verdict that is accepted. Prints a
- * line for each promise, and ends with status 1 where one is not kept.
+ * line for each promise, and ends with status 1 where one is not kept. It is built with WEZHGULA_VERSION, the text of the file
+ * VERSION.
  */
 #define _GNU_SOURCE
 #include <hs_check.h>
+#include <limits.h>
 #include <pthread.h>
 #include <stdbool.h>
 #include <stdio.h>
@@ -139,6 +141,55 @@ static bool shows_the_committee(void)
         && memcmp(shown.chain, verdict.bytes + 4, 32) == 0;
 }
 
+/* Whether a text of this length was written to the front of the room, and nothing behind it. */
+static bool is_written(const uint8_t room[HS_NAME_LEN + 2], size_t told, const char *text)
+{
+    for (size_t i = told; i < HS_NAME_LEN + 2; i++)
+        if (room[i] != 0xa5)
+            return false;
+    return told == strlen(text) && memcmp(room, text, told) == 0;
+}
+
+/* Answers have the names of docs/REFUSALS.md, other numbers none; a name that does not fit is not written. */
+static bool names_its_answers(void)
+{
+    static const struct {
+        int answer;
+        const char *name;
+    } answers[] = {
+        {HS_ACCEPTED, "Accepted"},
+        {HS_REFUSED_SHORT, "Short"},
+        {HS_REFUSED_HEADER_MISMATCH, "HeaderMismatch"},
+        {HS_REFUSED_KEY_NUMBER, "KeyNumber"},
+        {HS_COMMITTEE_LENGTH, "Length"},
+        {HS_COMMITTEE_KEY_COUNT, "KeyCount"},
+        {12, ""},
+        {-8, ""},
+        {INT_MIN, ""},
+        {INT_MAX, ""},
+    };
+    for (size_t i = 0; i < sizeof answers / sizeof answers[0]; i++) {
+        uint8_t room[HS_NAME_LEN + 2];
+        size_t len = strlen(answers[i].name);
+        memset(room, 0xa5, sizeof room);
+        if (hs_check_name(answers[i].answer, NULL, 0) != 0)
+            return false;
+        if (len > 0 && (hs_check_name(answers[i].answer, room, len - 1) != 0 || !is_written(room, 0, "")))
+            return false;
+        if (!is_written(room, hs_check_name(answers[i].answer, room, HS_NAME_LEN), answers[i].name))
+            return false;
+    }
+    return true;
+}
+
+static bool tells_its_version(void)
+{
+    uint8_t room[HS_NAME_LEN + 2];
+    memset(room, 0xa5, sizeof room);
+    return hs_check_version(room, 1) == 0 && is_written(room, 0, "") &&
+           is_written(room, hs_check_version(room, HS_NAME_LEN), WEZHGULA_VERSION);
+}
+
 int main(int argc, char **argv)
 {
     static const struct {
@@ -151,6 +202,8 @@ int main(int argc, char **argv)
         {"both texts may be one", takes_one_text_twice},
         {"threads may share the texts, on stacks of 96 KB", runs_in_threads},
         {"a committee is said as it stands", shows_the_committee},
+        {"an answer has its name", names_its_answers},
+        {"the version is that of the file VERSION", tells_its_version},
     };
     bool all = true;
 

@@ -5,7 +5,8 @@ The library has to be a shared object, which is made of the archive by
 
     cc -shared -o libhs_check.so -Wl,--whole-archive libhs_check.a -Wl,--no-whole-archive
 
-and is found by the path in HS_CHECK_LIBRARY, or else by the name libhs_check.so, as the system finds libraries.
+where ./install has not made it, and is found by the path in HS_CHECK_LIBRARY, or else by the name libhs_check.so, as the system
+finds libraries.
 
 As a program it prints what hs_check prints, and ends with status 0 where the verdict is accepted, 1 where it is
 refused, and 2 where there is nothing to judge. As a module:
@@ -25,48 +26,20 @@ class Rule(IntEnum):
     LOCK_VIOLATION = 2
 
 
-class Refusal(IntEnum):
-    """Why a verdict is refused."""
-
-    Short = 1
-    Magic = 2
-    Kind = 3
-    Length = 4
-    Chain = 5
-    Replica = 6
-    HeaderMismatch = 7
-    NoRuleBroken = 8
-    SignatureE = 9
-    SignatureW = 10
-    KeyNumber = 11
-
-
-class CommitteeRefusal(IntEnum):
-    """Why a committee is refused."""
-
-    Length = 1
-    Magic = 2
-    Size = 3
-    Key = 4
-    SameKey = 5
-    Weight = 6
-    KeyCount = 7
-
-
 class Refused(Exception):
-    """The verdict is refused."""
+    """The verdict is refused, by this number and name of docs/REFUSALS.md."""
 
-    def __init__(self, refusal):
-        super().__init__(f"refused {refusal.value} {refusal.name}")
-        self.refusal = refusal
+    def __init__(self, number, name):
+        super().__init__(f"refused {number} {name}")
+        self.number, self.name = number, name
 
 
 class CommitteeRefused(ValueError):
     """The committee's bytes are no committee, so nothing was judged."""
 
-    def __init__(self, refusal):
-        super().__init__(f"fault committee {refusal.value} {refusal.name}")
-        self.refusal = refusal
+    def __init__(self, number, name):
+        super().__init__(f"fault committee {number} {name}")
+        self.number, self.name = number, name
 
 
 @dataclass(frozen=True)
@@ -81,6 +54,10 @@ class Finding:
         return f"accepted replica {self.replica} rule {self.rule.value} view {self.view}"
 
 
+# As many bytes as each name and version needs.
+_ROOM = 64
+
+
 class _Finding(ctypes.Structure):
     """struct hs_finding"""
 
@@ -91,10 +68,27 @@ class Checker:
     """The checker of a shared object. It may be used by several threads at once."""
 
     def __init__(self, library="libhs_check.so"):
-        self._call = ctypes.CDLL(library).hs_check
-        text = [ctypes.c_char_p, ctypes.c_size_t]
-        self._call.argtypes = [*text, *text, ctypes.POINTER(_Finding)]
-        self._call.restype = ctypes.c_int
+        loaded = ctypes.CDLL(library)
+        text, room = [ctypes.c_char_p, ctypes.c_size_t], [ctypes.POINTER(ctypes.c_uint8), ctypes.c_size_t]
+        self._call = loaded.hs_check
+        self._call.argtypes, self._call.restype = [*text, *text, ctypes.POINTER(_Finding)], ctypes.c_int
+        self._write_name = loaded.hs_check_name
+        self._write_name.argtypes, self._write_name.restype = [ctypes.c_int, *room], ctypes.c_size_t
+        self._write_version = loaded.hs_check_version
+        self._write_version.argtypes, self._write_version.restype = room, ctypes.c_size_t
+
+    def name(self, answer):
+        """The name of what hs_check answered."""
+        return self._written(self._write_name, answer)
+
+    def version(self):
+        """The library's version."""
+        return self._written(self._write_version)
+
+    @staticmethod
+    def _written(call, *words):
+        room = (ctypes.c_uint8 * _ROOM)()
+        return bytes(room[: call(*words, room, len(room))]).decode()
 
     def check(self, committee, verdict):
         """Gives the Finding of a verdict that is accepted; raises Refused, or CommitteeRefused. Both texts are bytes.
@@ -108,9 +102,9 @@ class Checker:
         written = _Finding()
         answer = self._call(committee, len(committee), verdict, len(verdict), ctypes.byref(written))
         if answer < 0:
-            raise CommitteeRefused(CommitteeRefusal(-answer))
+            raise CommitteeRefused(-answer, self.name(answer))
         if answer > 0:
-            raise Refused(Refusal(answer))
+            raise Refused(answer, self.name(answer))
         return Finding(written.replica, Rule(written.rule), written.view)
 
 

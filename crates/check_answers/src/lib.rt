@@ -4,9 +4,11 @@
 #![tactic(auto)]
 
 mod judging;
+mod naming;
 mod showing;
 
 pub use judging::{HsFinding, judge};
+pub use naming::{refusals_have_their_names, write_name, write_version};
 pub use showing::{
     HsCommittee, HsHeader, HsHeaders, HsKey, HsVerdict, HsVote, show_committee, show_headers,
     show_key, show_verdict,

@@ -1,9 +1,10 @@
 //! The exported calls.
 
 ghost use Rattle.check_answers.specs.Judging.{IsJudged, ShowsGuilt};
+ghost use Rattle.check_answers.specs.Naming.{IsNamed, IsWritten, version_text};
 ghost use Rattle.check_answers.specs.Showing.{IsCommitteeShown};
 
-use check_answers::{HsCommittee, HsFinding, judge, show_committee};
+use check_answers::{HsCommittee, HsFinding, judge, show_committee, write_name, write_version};
 
 /// Judges the bytes of a verdict under the bytes of a committee. Answers 0 where the verdict is accepted, and then `finding`
 /// says what it proves; the number of `Refusal` where it is refused; and minus the number of `CommitteeRefusal` where the
@@ -24,4 +25,23 @@ pub extern "C" fn hs_committee(committee: &[u8], shown: &mut HsCommittee) -> i32
     ensures { IsCommitteeShown committee.now shown.old shown.new result }
 {
     show_committee(committee, shown)
+}
+
+/// Writes the name of what `hs_check` or `hs_committee` answered to the front of `name`, as docs/REFUSALS.md has it, and answers
+/// its length, 14 at the most. Answers 0, and then `name` is left as it was, for a number that has no name, and where there is no
+/// room. It takes no memory.
+#[unsafe(no_mangle)]
+pub extern "C" fn hs_check_name(answer: i32, name: &mut [u8]) -> usize
+    ensures { IsNamed answer name.old name.new result }
+{
+    write_name(answer, name)
+}
+
+/// Writes the version of the library to the front of `version`, and answers its length. Answers 0, and then `version` is left as it
+/// was, where there is no room. It takes no memory.
+#[unsafe(no_mangle)]
+pub extern "C" fn hs_check_version(version: &mut [u8]) -> usize
+    ensures { IsWritten version_text version.old version.new result }
+{
+    write_version(version)
 }

@@ -4,4 +4,4 @@
 
 mod exported;
 
-pub use exported::{hs_check, hs_committee};
+pub use exported::{hs_check, hs_check_name, hs_check_version, hs_committee};

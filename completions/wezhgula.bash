@@ -1,0 +1,30 @@
+# bash completion for Wezhgula's programs. trials/pages compares its words with those of the manual pages.
+
+# The options of a program, or of a command of hs_tool.
+_wezhgula_options() {
+    case $1 in
+        hs_check | 'hs_tool ') echo --help --version ;;
+        hs_show) echo --committee ;;
+        hs_signer) echo --listen --read --serve --sessions --furthest --host --group --while-input --verbose --help --version ;;
+        'hs_tool keygen') echo --key ;;
+        'hs_tool replica') echo --workers --serve --requests ;;
+        'hs_tool audit') echo --tries ;;
+    esac
+}
+
+# The commands of hs_tool.
+_wezhgula_commands() { echo keygen committee replica audit weighted migrate; }
+
+_wezhgula() {
+    local program=${COMP_WORDS[0]##*/} word=${COMP_WORDS[COMP_CWORD]} words
+    if [ "$program" = hs_tool ] && [ "$COMP_CWORD" = 1 ]; then
+        words="$(_wezhgula_commands) $(_wezhgula_options 'hs_tool ')"
+    elif [ "$program" = hs_tool ]; then
+        words=$(_wezhgula_options "hs_tool ${COMP_WORDS[1]}")
+    else
+        words=$(_wezhgula_options "$program")
+    fi
+    # Where no word fits bash goes on with names of files.
+    mapfile -t COMPREPLY < <(compgen -W "$words" -- "$word")
+}
+complete -o default -F _wezhgula hs_check hs_draw hs_show hs_signer hs_tool
