@@ -4,7 +4,7 @@
 _wezhgula_options() {
     case $1 in
         hs_check | 'hs_tool ') echo --help --version ;;
-        hs_show) echo --committee ;;
+        hs_show) echo --committee --statement --explain --help --version ;;
         hs_signer) echo --listen --read --serve --sessions --furthest --host --group --while-input --verbose --help --version ;;
         'hs_tool keygen') echo --key ;;
         'hs_tool replica') echo --workers --serve --requests ;;

@@ -1,6 +1,8 @@
-//! Says what files are and what stands in them: `hs_show FILE.. [--committee C]`. docs/hs_show.md is its manual page.
+//! Says what files are and what stands in them: `hs_show FILE.. [--committee C]`; a verdict as a sheet to read, and what a printed
+//! line means. docs/hs_show.md is its manual page.
 #![tactic(auto)]
 
+use about_command::{asks_about, run_about};
 use program_parts::run_main;
 use show_command::run_show;
 use std::io::{Stderr, Stdout};
@@ -13,7 +15,11 @@ fn main(rt: HostRuntime) -> ExitCode {
         rt.stdout(),
         rt.stderr(),
         &|words: &[String], out: &mut StdSink<Stdout>, faults: &mut StdSink<Stderr>| {
-            run_show(&rt, rt.alloc(), words, out, faults)
+            if asks_about(words) {
+                run_about(&rt, rt.alloc(), words, out, faults)
+            } else {
+                run_show(&rt, rt.alloc(), words, out, faults)
+            }
         },
     )
 }

@@ -1,9 +1,10 @@
 -- What a line says of a path and of a refused committee, and what came of writing a line.
-use Rattle.std.specs.Prelude.{◌≡◌, ◌==◌, ◌&&◌, ◌⊎◌, ◌++◌, ◌∷◌, [], ℕ, Bool, not, nat_le, List, Option, codes, decimal, if◌then◌else◌}
+use Rattle.std.specs.Prelude.{◌≡◌, ◌==◌, ◌&&◌, ◌⊎◌, ◌*◌, ◌++◌, ◌∷◌, [], ℕ, zero, suc, Bool, not, nat_le, List, Option, codes, decimal, if◌then◌else◌}
 use Rattle.std.specs.List.{flat_map}
 use Rattle.hex.specs.Hex.{encode_lower}
 use Rattle.streams.specs.Counting.{one_more}
 use Rattle.streams.specs.Streams.{Wrote, WrotePart}
+use Rattle.wire.specs.Pieces.{piece}
 use Rattle.blocks.specs.declared.committee.CommitteeRefusal.{CommitteeRefusal}
 use Rattle.blocks.specs.declared.committee.CommitteeRefusal.TheVariants.{Length, Magic, Size, KeyCount, Key, SameKey, Weight}
 
@@ -25,6 +26,11 @@ printed text = flat_map printed_byte text
 -- "fault file PATH", where the path may go on behind the printed part
 abbrev pub file_line : List ℕ → List ℕ → List ℕ
 file_line path rest = codes "fault file " ++ (printed path ++ (rest ++ codes "\n"))
+
+-- " DDDD" for each two of the first bytes, so many times two
+unfoldable pub spoken : List ℕ → ℕ → List ℕ
+spoken id zero = []
+spoken id (suc k) = spoken id k ++ codes " " ++ encode_lower (piece 2 id (2 * k))
 
 -- the number of a refusal, its name, and the replicas or keys that it names
 abbrev pub refusal_text : CommitteeRefusal → List ℕ

@@ -2,12 +2,13 @@
 
 ghost use Rattle.std.specs.Prelude.{◌≡◌, ◌<◌, ◌^◌, ◌++◌, ℕ, IfNone, IfSome, OnErr, OnOk, decimal};
 ghost use Rattle.hex.specs.Hex.{encode_lower};
+ghost use Rattle.printed_lines.specs.Printed.{spoken};
 
 use blocks::Id;
 use itoa::{Buffer, Integer};
 use std::alloc::AllocError;
 use std::str::from_utf8;
-use wire::append;
+use wire::{append, array_at};
 
 /// Adds a number in decimal. Where memory is refused the text is as it was.
 pub fn put_number<I: Integer>(text: &mut Vec<u8>, number: I) -> Result<(), AllocError>
@@ -23,6 +24,27 @@ pub fn put_id(text: &mut Vec<u8>, id: &Id) -> Result<(), AllocError>
     ensures err { OnErr result (text.new.items ≡ text.old.items) }
 {
     append(text, &id_digits(id))
+}
+
+/// Adds the digits of an id in sixteen groups of four, each behind a blank, to be read aloud. Where memory is refused a first part
+/// was added.
+#[tactic(auto, unfolding(crate::specs::Printed::spoken))]
+pub fn put_spoken(text: &mut Vec<u8>, id: &Id) -> Result<(), AllocError>
+    ensures { OnOk result (text.new.items ≡ text.old.items ++ spoken id.now 16) }
+{
+    for k in 0..id.len() / 2 {
+        append(text, b" ")?;
+        put_group(text, &array_at(&id[..], 2 * k))?;
+    }
+    Ok(())
+}
+
+fn put_group(text: &mut Vec<u8>, bytes: &[u8; 2]) -> Result<(), AllocError>
+    ensures { OnOk result (text.new.items ≡ text.old.items ++ encode_lower bytes.now) }
+{
+    let mut digits = [0; 4];
+    let _ = hex::encode_to_slice(&bytes[..], &mut digits);
+    append(text, &digits)
 }
 
 /// The 64 hex digits of an id.

@@ -10,6 +10,6 @@ mod path;
 
 pub use committee::{committee_fault, refusal_text};
 pub use cutting::cut;
-pub use digits::{id_digits, number_in, put_id, put_number};
+pub use digits::{id_digits, number_in, put_id, put_number, put_spoken};
 pub use line::Line;
 pub use path::{write_file_fault, write_printed};

@@ -3,3 +3,4 @@ pub mod Blame
 pub mod StayAnswers
 pub mod Dealing
 pub mod StayText
+pub mod Outrunning

@@ -5,22 +5,27 @@ ghost use Rattle.blocks.specs.Headers.{IsGenesis};
 ghost use Rattle.wire.specs.declared.limits.TheConstants.{MOST_KEYS};
 
 use crate::fault::{ReplicaFault, ReplicaFile};
+use crate::outrunning::log_outruns;
 use blocks::{CommitteeView, Header};
 use key_files::KeyFile;
-use key_index_store::{IndexError, IndexStore};
+use key_index_store::{INDICES, IndexError, IndexStore};
 use lmots::{PRIVATE_SEED_LEN, PrivateSeed};
 use lms_tree::SigningTree;
 use parallel_keys::generate_parallel;
 use program_parts::{InputFault, read_at_most};
 use stable_log::FileDisk;
 use std::alloc::Global;
-use std::fs::{File, Files, OpenOptions};
+use std::fs::{File, Files, OpenOptions, Permissions};
 use std::io;
 use std::io::ErrorKind;
+use std::os::unix::fs::{OpenOptionsExt, PermissionsExt};
 use std::thread::Threads;
 use vote_desk::Parts;
 use vote_log::{LogError, VoteLog};
 use wire::KeyNumber;
+
+/// The mode of a file that its owner alone may read and write.
+const OWNER_ALONE: u32 = 0o600;
 
 /// A replica's folder: the files of its keys, its index store, its log, and a file that who runs it holds a lock on.
 #[derive(Drop)]
@@ -31,14 +36,16 @@ pub struct ReplicaFolder<'a, F: Files<File = File>> {
 }
 
 impl<F: Files<File = File>> ReplicaFolder<'_, F> {
-    /// Asks for the folder's lock, and makes its file where there is none. The lock is given up when the file that is
-    /// answered is dropped, or the process ends.
+    /// Asks for the folder's lock, and makes its file where there is none, for its owner alone. The lock is given up when the
+    /// file that is answered is dropped, or the process ends.
     pub fn lock(&self) -> Result<File, ReplicaFault>
         ensures { IfErr result (λ fault. fault ≢ ReplicaFault.Output) }
     {
         let mut how = OpenOptions::new();
-        how.read(true).write(true).create(true);
+        how.read(true).write(true).create(true).mode(OWNER_ALONE);
         let file = self.open(&how, ReplicaFile::Lock)?;
+        // Who else could open it could hold its lock. Where this may not be set it stays as it is.
+        let _ = file.set_permissions(Permissions::from_mode(OWNER_ALONE));
         match file.try_lock() {
             Ok(()) => Ok(file),
             Err(_) => Err(ReplicaFault::File(ReplicaFile::Lock)),
@@ -48,7 +55,8 @@ impl<F: Files<File = File>> ReplicaFolder<'_, F> {
     /// Opens what replica `replica` of the committee is run on: the seeds of its keys first, in the order of their numbers,
     /// then the index store and the log, each recovered as soon as it is opened. The keys are computed last, in as many
     /// threads as there are processors, which takes some seconds of theirs each. Where the committee has no such replica it is
-    /// one key, and the desk refuses.
+    /// one key, and the desk refuses. An index store that is older than the log is refused as `IndexError::BadEntry`: it would
+    /// give out one-time keys that signed already.
     pub fn open_parts<T: Threads + Sync>(
         &self,
         rt: &T,
@@ -64,7 +72,8 @@ impl<F: Files<File = File>> ReplicaFolder<'_, F> {
         };
         let seeds = self.read_seeds(keys)?;
         let index = self.recover_indices(keys)?;
-        let log = self.recover_log(committee.genesis())?;
+        let mut log = self.recover_log(committee.genesis())?;
+        refuse_older(&index, &mut log, committee, replica)?;
         Ok(Parts {
             trees: self.grow(rt, &seeds)?,
             index,
@@ -163,5 +172,23 @@ impl<F: Files<File = File>> ReplicaFolder<'_, F> {
         let name = file.name();
         let path = format!(in self.alloc; "{folder}/{name}")?;
         how.open(self.files, &path)
+    }
+}
+
+// Refuses an index store that has not reserved the index of each good vote of the log.
+fn refuse_older(
+    index: &IndexStore<FileDisk>,
+    log: &mut VoteLog<FileDisk>,
+    committee: &CommitteeView,
+    replica: u16,
+) -> Result<(), ReplicaFault>
+    ensures { IfErr result (λ fault. fault ≢ ReplicaFault.Output) }
+{
+    let boundary = INDICES * u32::from(index.keys()) - index.left();
+    match log_outruns(log, committee, replica, boundary) {
+        Ok(false) => Ok(()),
+        Ok(true) => Err(ReplicaFault::Store(IndexError::BadEntry.number())),
+        Err(LogError::Memory) => Err(ReplicaFault::Memory),
+        Err(refusal) => Err(ReplicaFault::Store(refusal.number())),
     }
 }

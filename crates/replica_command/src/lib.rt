@@ -5,6 +5,7 @@
 mod dealing;
 mod fault;
 mod folder;
+mod outrunning;
 mod program;
 mod staying;
 mod worker;

@@ -3,11 +3,11 @@ use Rattle.std.proofs.Common.{◌≡◌, ◌≤◌, ℕ, suc, Result, Ok, Err, O
 use Rattle.std.proofs.Math.Seq.{take-suc}
 use Rattle.std.proofs.lemmas.List.{append-nil, length-take-le, take-take}
 use Rattle.hex.specs.Hex.{encode_lower}
-use Rattle.show_command.specs.Lines.{member_line, replica_lines, seed_line}
+use Rattle.show_command.specs.Lines.{lines_of_replica, replica_lines, seed_line}
 use Rattle.show_command.specs.Series.{AddsText, AreOf}
 use Rattle.show_command.specs.declared.mark.Mark.{Mark}
 
-pub replicas_more : (committee : List ℕ) (r : ℕ) → replica_lines committee (r + 1) ≡ replica_lines committee r ++ member_line committee r
+pub replicas_more : (committee : List ℕ) (r : ℕ) → replica_lines committee (r + 1) ≡ replica_lines committee r ++ lines_of_replica committee r
 replicas_more committee r = rw add-one refl
 
 -- one item more behind those of a list

@@ -9,7 +9,7 @@ use Rattle.blocks.specs.Genesis.{chain_id_of}
 use Rattle.blocks.specs.Weights.{total_of, quorum_of}
 use Rattle.blocks.specs.declared.committee.CommitteeRefusal.{CommitteeRefusal}
 use Rattle.verdict_format.specs.Verdicts.{VotedHeaders, chain_in, earlier_in, earlier_key_in, headers_in, verdict_kind_in, later_in, later_key_in, replica_in}
-use Rattle.printed_lines.specs.Printed.{printed, refusal_text}
+use Rattle.printed_lines.specs.Printed.{printed, refusal_text, spoken}
 use Rattle.log_format.specs.Readings.{status_name}
 use Rattle.log_format.specs.declared.status.Status.{Status}
 use Rattle.key_index_store.specs.Indices.{limit_of}
@@ -39,6 +39,10 @@ shown_key_line id root = codes "key " ++ encode_lower id ++ codes " root " ++ en
 -- "chain ID"
 unfoldable pub chain_line : List ℕ → List ℕ
 chain_line chain = codes "chain " ++ encode_lower chain ++ codes "\n"
+
+-- "say DDDD DDDD ..": the digits of a chain's id in sixteen groups of four, to be read aloud
+unfoldable pub say_line : List ℕ → List ℕ
+say_line chain = codes "say" ++ spoken chain 16 ++ codes "\n"
 
 -- "committee f F n N"
 unfoldable pub size_line : ℕ → ℕ → List ℕ
@@ -88,14 +92,23 @@ member_line committee r =
     then weighted_replica_line r (weight_at committee r) (key_id_at committee r 0)
     else replica_line r (key_id_at committee r 0))
 
+-- "votes R N": what the keys of replica r sign in all
+unfoldable pub votes_line : ℕ → ℕ → List ℕ
+votes_line r votes = codes "votes " ++ decimal r ++ codes " " ++ decimal votes ++ codes "\n"
+
+-- what is said of a replica
+abbrev pub lines_of_replica : List ℕ → ℕ → List ℕ
+lines_of_replica committee r = member_line committee r ++ votes_line r (limit_of (keys_of committee r))
+
 -- of the first replicas, so many
 abbrev pub replica_lines : List ℕ → ℕ → List ℕ
 replica_lines committee zero = []
-replica_lines committee (suc r) = replica_lines committee r ++ member_line committee r
+replica_lines committee (suc r) = replica_lines committee r ++ lines_of_replica committee r
 
 abbrev pub committee_lines : List ℕ → List ℕ
 committee_lines committee =
-    first_line committee ++ chain_line (chain_id_of committee) ++ replica_lines committee (n_of committee)
+    first_line committee ++ chain_line (chain_id_of committee) ++ say_line (chain_id_of committee)
+    ++ replica_lines committee (n_of committee)
 
 -- "refused committee WHY"
 unfoldable pub refused_committee_line : List ℕ → List ℕ

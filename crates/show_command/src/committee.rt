@@ -3,12 +3,13 @@
 ghost use Rattle.std.specs.Prelude.{◌≡◌, ◌<◌, ◌++◌, OnOk, decimal, length};
 ghost use Rattle.hex.specs.Hex.{encode_lower};
 ghost use Rattle.blocks.specs.Committees.{has_many_keys, keys_of, n_of};
-ghost use Rattle.show_command.specs.Lines.{chain_line, committee_lines, first_line, key_ids, member_line, multikey_replica_front, multikey_replica_line, shown_key_line, refused_committee_line, replica_line, replica_lines, seed_line, size_line, weighted_replica_line, weighted_size_line};
+ghost use Rattle.show_command.specs.Lines.{chain_line, committee_lines, first_line, key_ids, lines_of_replica, member_line, multikey_replica_front, multikey_replica_line, shown_key_line, refused_committee_line, replica_line, replica_lines, say_line, seed_line, size_line, votes_line, weighted_replica_line, weighted_size_line};
 
 use crate::digits::put_key_id;
 use blocks::{CommitteeView, Id};
+use key_index_store::INDICES;
 use lms_tree::PublicKey;
-use printed_lines::{put_id, put_number};
+use printed_lines::{put_id, put_number, put_spoken};
 use std::alloc::AllocError;
 use wire::{append, array_at};
 
@@ -17,7 +18,9 @@ pub(crate) fn put_committee(text: &mut Vec<u8>, committee: &CommitteeView) -> Re
     ensures { OnOk result (text.new.items ≡ text.old.items ++ committee_lines committee.now) }
 {
     put_first_line(text, committee)?;
-    put_chain(text, &committee.chain())?;
+    let chain = committee.chain();
+    put_chain(text, &chain)?;
+    put_say(text, &chain)?;
     put_replicas(text, committee)
 }
 
@@ -73,6 +76,26 @@ pub(crate) fn put_chain(text: &mut Vec<u8>, chain: &Id) -> Result<(), AllocError
 {
     append(text, b"chain ")?;
     put_id(text, chain)?;
+    append(text, b"\n")
+}
+
+#[tactic(auto, unfolding(crate::specs::Lines::say_line))]
+fn put_say(text: &mut Vec<u8>, chain: &Id) -> Result<(), AllocError>
+    ensures { OnOk result (text.new.items ≡ text.old.items ++ say_line chain.now) }
+{
+    append(text, b"say")?;
+    put_spoken(text, chain)?;
+    append(text, b"\n")
+}
+
+#[tactic(auto, unfolding(crate::specs::Lines::votes_line))]
+fn put_votes(text: &mut Vec<u8>, r: u16, votes: u32) -> Result<(), AllocError>
+    ensures { OnOk result (text.new.items ≡ text.old.items ++ votes_line r votes) }
+{
+    append(text, b"votes ")?;
+    put_number(text, r)?;
+    append(text, b" ")?;
+    put_number(text, votes)?;
     append(text, b"\n")
 }
 
@@ -169,12 +192,24 @@ fn put_member(text: &mut Vec<u8>, committee: &CommitteeView, r: u16) -> Result<(
     }
 }
 
+fn put_lines_of_replica(
+    text: &mut Vec<u8>,
+    committee: &CommitteeView,
+    r: u16,
+) -> Result<(), AllocError>
+    requires { r < n_of committee.now }
+    ensures { OnOk result (text.new.items ≡ text.old.items ++ lines_of_replica committee.now r) }
+{
+    put_member(text, committee, r)?;
+    put_votes(text, r, INDICES * u32::from(committee.keys(r)))
+}
+
 fn put_replicas(text: &mut Vec<u8>, committee: &CommitteeView) -> Result<(), AllocError>
     ensures { OnOk result (text.new.items ≡ text.old.items
         ++ replica_lines committee.now (n_of committee.now)) }
 {
     for r in 0..committee.n() {
-        put_member(text, committee, r)?;
+        put_lines_of_replica(text, committee, r)?;
     }
     Ok(())
 }

@@ -1,0 +1,4 @@
+pub mod About
+pub mod Explaining
+pub mod Sheets
+pub mod Versions

@@ -1,0 +1,77 @@
+-- A verdict as a sheet to read.
+use Rattle.std.specs.Prelude.{ℕ, ◌≡◌, ◌⊎◌, ◌==◌, ◌++◌, List, codes, decimal, if◌then◌else◌}
+use Rattle.hex.specs.Hex.{encode_lower}
+use Rattle.sha2.specs.Sha256.{sha256}
+use Rattle.wire.specs.Pieces.{number_at}
+use Rattle.blocks.specs.Committees.{key_id_at}
+use Rattle.blocks.specs.Genesis.{chain_id_of}
+use Rattle.blocks.specs.declared.ballot.Ballot.{Ballot}
+use Rattle.printed_lines.specs.Printed.{spoken}
+use Rattle.verdict_format.specs.Proofs.{IsProof}
+use Rattle.verdict_format.specs.Verdicts.{earlier_in, earlier_key_in, later_in, later_key_in, replica_in, verdict_kind_in}
+use Rattle.verdict_format.specs.declared.verdict.TheConstants.{EARLIER_SIGNATURE_AT, LATER_SIGNATURE_AT}
+use Rattle.verdict_checker.specs.Checks.{IsRefused, refusal_name, refusal_number}
+use Rattle.verdict_checker.specs.declared.refusal.Refusal.{Refusal}
+use Rattle.about_command.specs.Versions.{version_text}
+
+-- who is accused
+unfoldable pub accused_part : ℕ → List ℕ → List ℕ
+accused_part replica chain =
+    codes "STATEMENT ON A VERDICT\n\nReplica " ++ decimal replica ++ codes " of the committee whose chain id is\n\n"
+    ++ spoken chain 16 ++ codes "\n\nbroke a voting rule that no correct replica breaks.\n\n"
+
+-- of what
+unfoldable pub double_vote_text : List ℕ
+double_vote_text = codes "Rule 1, double vote: it signed votes for two different blocks in one view.\n\n"
+
+unfoldable pub lock_violation_text : List ℕ
+lock_violation_text =
+    codes "Rule 2, lock violation: its first vote locked it on the grandparent of that vote's\nblock. It then signed a vote for a block that does not build on the lock, and whose\nparent is in no later view than the lock.\n\n"
+
+abbrev pub rule_part : ℕ → List ℕ
+rule_part rule = if rule == 1 then double_vote_text else lock_violation_text
+
+-- of a vote its view, its block, and the key and the one-time key that signed it
+unfoldable pub vote_part : List ℕ → Ballot → ℕ → List ℕ → ℕ → List ℕ
+vote_part place vote key key_id index =
+    place ++ codes " vote: view " ++ decimal vote.view ++ codes "\n  block " ++ encode_lower vote.id
+    ++ codes "\n  key " ++ decimal key ++ codes ", id " ++ encode_lower key_id ++ codes ", one-time key " ++ decimal index ++ codes "\n\n"
+
+-- .. of the first vote of a verdict
+abbrev pub earlier_part : List ℕ → List ℕ → List ℕ
+earlier_part committee verdict =
+    vote_part (codes "First") (earlier_in verdict) (earlier_key_in verdict)
+    (key_id_at committee (replica_in verdict) (earlier_key_in verdict)) (number_at 4 verdict EARLIER_SIGNATURE_AT)
+
+-- .. of the second
+abbrev pub later_part : List ℕ → List ℕ → List ℕ
+later_part committee verdict =
+    vote_part (codes "Second") (later_in verdict) (later_key_in verdict)
+    (key_id_at committee (replica_in verdict) (later_key_in verdict)) (number_at 4 verdict LATER_SIGNATURE_AT)
+
+-- which files were judged, and by what
+unfoldable pub files_part : List ℕ → List ℕ → List ℕ
+files_part committee verdict =
+    codes "Both signatures verify under these keys of the replica.\n\nSHA-256 of the verdict\n  " ++ encode_lower (sha256 verdict)
+    ++ codes "\nSHA-256 of the committee's file\n  " ++ encode_lower (sha256 committee)
+    ++ codes "\nJudged by Wezhgula " ++ version_text ++ codes ".\n\n"
+
+-- what it does not say
+unfoldable pub limits_part : List ℕ
+limits_part =
+    codes "It says nothing of intent, and nothing of when. A key that was stolen, a backup that was\nput back and a faulty program look the same. It holds under this committee's file alone:\ncompare the chain id with the one that you were told by another way.\n"
+
+abbrev pub sheet_text : List ℕ → List ℕ → List ℕ
+sheet_text committee verdict =
+    accused_part (replica_in verdict) (chain_id_of committee) ++ rule_part (verdict_kind_in verdict)
+    ++ earlier_part committee verdict ++ later_part committee verdict ++ files_part committee verdict ++ limits_part
+
+-- "refused N NAME"
+unfoldable pub refused_text : Refusal → List ℕ
+refused_text refusal = codes "refused " ++ decimal (refusal_number refusal) ++ codes " " ++ refusal_name refusal ++ codes "\n"
+
+-- the sheet where the verdict is a proof under the committee, with status 0, else the first refusal, with status 1
+abbrev pub IsSheet : List ℕ → List ℕ → ℕ → List ℕ → Type 0
+IsSheet committee verdict status text =
+    ((status ≡ 0) × IsProof committee verdict × (text ≡ sheet_text committee verdict))
+    ⊎ ((status ≡ 1) × (IsProof committee verdict → ⊥) × ((r : Refusal) × IsRefused committee verdict r × (text ≡ refused_text r)))

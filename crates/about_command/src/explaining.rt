@@ -1,0 +1,82 @@
+//! What a printed line means.
+
+ghost use Rattle.std.specs.Prelude.{◌≡◌, ◌++◌, IfOk, OnOk};
+ghost use Rattle.about_command.specs.Explaining.{AreSaid, IsSaid, said};
+
+use crate::table::table;
+use std::alloc::AllocError;
+use wire::append;
+
+/// Adds what the table says of a line: for each row that fits it which programs print it, what it means and what to do. Answers whether
+/// there is such a row. Memory is all that can fail, and then a first part was added.
+pub(crate) fn put_explanations(text: &mut Vec<u8>, line: &str) -> Result<bool, AllocError>
+    ensures { IfOk result (λ is_known. AreSaid text.old.items text.new.items is_known) }
+{
+    let mut is_known = false;
+    for row in table().split('\n') {
+        if put_row(text, row, line)? {
+            is_known = true;
+        }
+    }
+    Ok(is_known)
+}
+
+// Adds what a row says, if it fits the line, and answers whether it does.
+fn put_row(text: &mut Vec<u8>, row: &str, line: &str) -> Result<bool, AllocError>
+    ensures { IfOk result (λ is_said. IsSaid text.old.items text.new.items is_said) }
+{
+    let Some((programs, rest)) = row.split_once(" | ") else {
+        return Ok(false);
+    };
+    let Some((form, rest)) = rest.split_once(" | ") else {
+        return Ok(false);
+    };
+    let Some((meaning, advice)) = rest.split_once(" | ") else {
+        return Ok(false);
+    };
+    if !fits(form, line) {
+        return Ok(false);
+    }
+    put_said(text, programs, meaning, advice)?;
+    Ok(true)
+}
+
+#[tactic(auto, unfolding(crate::specs::Explaining::said))]
+fn put_said(
+    text: &mut Vec<u8>,
+    programs: &str,
+    meaning: &str,
+    advice: &str,
+) -> Result<(), AllocError>
+    ensures { OnOk result (text.new.items ≡ text.old.items
+        ++ said programs.now meaning.now advice.now) }
+{
+    append(text, programs.as_bytes())?;
+    append(text, b": ")?;
+    append(text, meaning.as_bytes())?;
+    append(text, b"\n  ")?;
+    append(text, advice.as_bytes())?;
+    append(text, b"\n")
+}
+
+// Whether a line has the form: word by word, and behind a word that ends in `..` any words.
+fn fits(form: &str, line: &str) -> bool {
+    let mut words = line.split(' ');
+    for place in form.split(' ') {
+        let Some(word) = words.next() else {
+            return false;
+        };
+        if place.ends_with("..") {
+            return true;
+        }
+        if !stands_for_any(place) && place != word {
+            return false;
+        }
+    }
+    words.next().is_none()
+}
+
+// Whether a word of a form stands for any word.
+fn stands_for_any(place: &str) -> bool {
+    place.bytes().all(|byte| byte.is_ascii_uppercase())
+}

@@ -1,0 +1,11 @@
+//! What `hs_show` says beside files: a verdict as a sheet to read, what a printed line means, its help and its version. Needs no
+//! threads or network; files and streams are handed in.
+#![tactic(auto)]
+
+mod about;
+mod explaining;
+mod program;
+mod sheet;
+mod table;
+
+pub use program::{asks_about, run_about};

@@ -1,0 +1,125 @@
+//! What the programs' lines mean.
+
+/// A row for each line that a program prints, behind it a line feed but for the last: which programs print it, the line, what it
+/// means, and what to do, with ` | ` between. Of the line a word in capitals stands for any word, and one that ends in `..` for one
+/// or more.
+pub(crate) fn table() -> &'static str {
+    "hs_check | accepted replica R rule K view V | The verdict proves that replica R broke rule K (1, a double vote; 2, a lock violation); V is the view of its later vote. | Send the verdict to everyone who must agree to the removal; each judges it under a committee's file of their own.\n\
+hs_check | refused 1 Short | The verdict has fewer than 39 bytes. | It is no verdict: get the file anew.\n\
+hs_check | refused 2 Magic | The file does not begin with HSX2. | It is no verdict, or one from before votes named their keys (HSX1), which the programs from before judge.\n\
+hs_check | refused 3 Kind | Its kind is neither 1 nor 2. | It is no verdict: get the file anew.\n\
+hs_check | refused 4 Length | It has not as many bytes as its kind asks for. | The file was cut or lengthened: get it anew.\n\
+hs_check | refused 5 Chain | Its chain id is not the one of this committee. | See that both files are of one committee. A verdict says nothing under another committee.\n\
+hs_check | refused 6 Replica | The committee has no such replica. | The verdict proves nothing.\n\
+hs_check | refused 7 HeaderMismatch | A header of a lock violation can't be read, or is not the one that the votes ask for. | The verdict proves nothing.\n\
+hs_check | refused 8 NoRuleBroken | Its votes do not break the rule of its kind: a correct replica may cast both. | The verdict proves nothing.\n\
+hs_check | refused 9 SignatureE | The first vote's signature does not verify under the key that it names. | The verdict proves nothing.\n\
+hs_check | refused 10 SignatureW | The second vote's signature does not verify under the key that it names. | The verdict proves nothing.\n\
+hs_check | refused 11 KeyNumber | A vote names a key that the replica has not. | The verdict proves nothing.\n\
+hs_check, hs_tool, hs_show, hs_draw, hs_signer | fault usage | The words are not those of the manual page. | Put the words right.\n\
+hs_check | fault hex | Standard input is not two lines of hex digits. | Give committee and verdict as two lines of hex digits, or name two files.\n\
+hs_tool keygen | fault hex | SEED is not 96 hex digits. | Put SEED right.\n\
+hs_check, hs_tool, hs_show, hs_draw, hs_signer | fault file PATH.. | The file can't be opened, read, made or written, or is there and must not be; of a replica's folder its lock may be held. | Look at the path, its mode and the disk. Never remove a replica's lock, and never write over a file in a replica's folder: the manual page says what was left.\n\
+hs_check, hs_tool, hs_show, hs_draw, hs_signer | fault memory | Memory was refused. | Free memory, and look at the manual page for what was left.\n\
+hs_check, hs_tool, hs_show, hs_draw, hs_signer | fault output | The lines could not be written, or not all. | Look at where standard output goes: a disk that is full, a pipe that was closed.\n\
+hs_check, hs_tool, hs_show, hs_draw, hs_signer | fault committee 1 Length | The committee's file has not as many bytes as its replicas ask for. | Get the file from an operator you trust, and compare its chain id.\n\
+hs_check, hs_tool, hs_show, hs_draw, hs_signer | fault committee 2 Magic | The file does not begin as a committee. | Name the committee's file, first.\n\
+hs_check, hs_tool, hs_show, hs_draw, hs_signer | fault committee 3 Size | It has a number of replicas that is not allowed. | Get the file from an operator you trust, and compare its chain id.\n\
+hs_check, hs_tool, hs_show, hs_draw, hs_signer | fault committee 4 Key K | Key K is no public key. | Get that replica's key.pub anew; of a committee's file get the file anew.\n\
+hs_check, hs_tool, hs_show, hs_draw, hs_signer | fault committee 5 SameKey J K | Key K is the same as key J. | Two replicas handed in one key: get both anew from their operators.\n\
+hs_check, hs_tool, hs_show, hs_draw, hs_signer | fault committee 6 Weight R | Replica R has the weight 0. | Give it a weight, or leave it out.\n\
+hs_check, hs_tool, hs_show, hs_draw, hs_signer | fault committee 7 KeyCount R | Replica R has no key, more than four, or bytes behind its keys. | Get the file from an operator you trust, and compare its chain id.\n\
+hs_tool audit, hs_draw | fault source I | The word of source I, counted from 0, is not R=file:PATH or R=tcp:ADDRESS. | Put that word right.\n\
+hs_tool audit, hs_draw | fault collision | Two different headers have one id: SHA-256 is broken, and no audit of these sources holds. | Keep all sources.\n\
+hs_tool replica, hs_signer | fault store 2 | The committee has no replica R, or a disk failed while a store was recovered. | Compare R and COMMITTEE, and look at the disk: nothing is spent by trying again.\n\
+hs_tool migrate | fault store 2 | The disk failed. | Look at the disk.\n\
+hs_tool replica, hs_signer | fault store 3 | The keys of the folder are not those of replica R in their order, or log.hsj is no journal. | Compare R, COMMITTEE and DIR. Never rename seeds to make them fit.\n\
+hs_tool migrate | fault store 3 | OLD is no journal. | Name the replica's log.hsj.\n\
+hs_tool replica, hs_signer, hs_tool migrate | fault store 4 | The log is damaged. | It can't be mended, and must not be replaced: see Backups in hs_tool(1).\n\
+hs_tool replica, hs_signer | fault store 5 | index.hsj is no index journal, or does not go with the keys or the log. | It can't be mended, and must not be replaced: see Backups in hs_tool(1).\n\
+hs_tool replica, hs_signer, hs_tool migrate | fault store 9 | An entry of the log is none, or has the form from before votes named their keys. | Look at the log with hs_show; a log of the old form is migrated by hs_tool migrate.\n\
+hs_tool replica, hs_signer, hs_tool migrate | fault store 10 | The log's entries are not in a legal order, or are of another committee. | Compare COMMITTEE and DIR.\n\
+hs_tool replica, hs_signer | fault receipts | The votes that were given out are not those of the log. It can't come: it is a bug. | Stop the replica, keep its folder as it is, and report it.\n\
+hs_tool replica, hs_signer | fault listen | The address can't be listened on. | Put it right, or see which program listens there.\n\
+hs_signer | fault threads | A thread can't be made. | Look at the limits of processes and of memory.\n\
+hs_tool replica, hs_signer | voted N HEX | The replica voted for the block: entry N of its log, synced before this was told. | Send the vote on. Its bytes stay the replica's only vote in that view.\n\
+hs_tool replica, hs_signer | voted N HEX committed ID | As voted; and by what this process was told the block ID is committed. | Send the vote on, and apply what ID's chain has.\n\
+hs_tool replica, hs_signer | raised | The replica raised its lock without a vote, and stored that. | Nothing: it has voted in a later view, or its lock forbids this vote.\n\
+hs_tool replica, hs_signer | raised committed ID | As raised; and by what this process was told the block ID is committed. | Apply what ID's chain has.\n\
+hs_tool replica, hs_signer | held | The block is held, and nothing more was done. | Nothing: it has voted in this view or a later one.\n\
+hs_tool replica, hs_signer | held committed ID | As held; and by what this process was told the block ID is committed. | Apply what ID's chain has.\n\
+hs_tool replica, hs_signer | timeout V | Until it ends the replica gives no vote in a view up to V. | Send it again after a start: it is not stored.\n\
+hs_tool replica, hs_signer | refused header 1 Length | There are not 84 bytes. | Send the header's 84 bytes, and behind them the certificate of its parent.\n\
+hs_tool replica, hs_signer | refused header 2 Magic | The header does not begin with HSB1. | Build the header as FORMATS.md says.\n\
+hs_tool replica, hs_signer | refused header 3 ViewOrder | The parent's view is not below the block's. | Build the header as FORMATS.md says.\n\
+hs_tool replica, hs_signer | refused header N | The first 84 bytes are no header: 1 Length, 2 Magic, 3 ViewOrder. | Build the header as FORMATS.md says.\n\
+hs_tool replica, hs_signer | refused certificate N | The rest is no certificate: 1 Memory, 2 Length, 3 Order, 4 Count. | Build the certificate as FORMATS.md says.\n\
+hs_signer | refused certificate 1 Memory | Memory was refused. | Send the block again.\n\
+hs_signer | refused certificate 2 Length | The rest has not as many bytes as its votes ask for. | Build the certificate as FORMATS.md says.\n\
+hs_signer | refused certificate 3 Order | The numbers of the replicas do not rise. | Put the votes in the order of their replicas.\n\
+hs_signer | refused certificate 4 Count | It has more than 31 votes, or none with a view above 0, or some with view 0. | Build the certificate as FORMATS.md says.\n\
+hs_tool replica, hs_signer | refused block N | The certificate does not fit the block, or is not good: 1 WrongBlock, 2 Count, 3 UnknownReplica, 4 Signature, 5 UnknownKey. | Drop the block: its leader is faulty, or is of another committee.\n\
+hs_signer | refused block 1 WrongBlock | The certificate is not on the parent's id and view that the header names. | Drop the block.\n\
+hs_signer | refused block 2 Count | The votes are no quorum, or are more than there are replicas. | Drop the block.\n\
+hs_signer | refused block 3 UnknownReplica | A vote is of a replica that the committee lacks. | Drop the block.\n\
+hs_signer | refused block 4 Signature | A vote does not verify. | Drop the block, and look which vote it is.\n\
+hs_signer | refused block 5 UnknownKey | A vote names a key that its replica has not. | Drop the block.\n\
+hs_tool replica, hs_signer | refused core N | The replica can't take the block: 1 Memory, 2 UnknownParent, 3 ParentView, 4 TreeFull, 5 SameId. | With 2 deliver the parent first, and then the block again.\n\
+hs_signer | refused core 1 Memory | Memory for one more header was refused. | Send the block again.\n\
+hs_signer | refused core 2 UnknownParent | No block of the parent's id is held. | Deliver the parent first, and then the block again.\n\
+hs_signer | refused core 3 ParentView | The parent has another view than the header says. | Drop the block.\n\
+hs_signer | refused core 4 TreeFull | 65,536 headers are held. | Pass on only what came from the leader of its view; the process holds fewer after a start.\n\
+hs_signer | refused core 5 SameId | Another header has this id: SHA-256 is broken. | Keep both headers.\n\
+hs_signer | refused vote 1 UnknownReplica | The committee has no such replica. | Drop the vote.\n\
+hs_signer | refused vote 2 Signature | The vote does not verify under the key that it names. | Drop the vote.\n\
+hs_signer | refused vote 3 UnknownKey | The replica has no key of that number. | Drop the vote.\n\
+hs_signer | good | The vote verifies under the replica's key. | Count it.\n\
+hs_signer | ok | The process answers; at /health also that log, keys, disks and places for headers allow a vote. | Nothing.\n\
+hs_tool replica, hs_signer | desk 1 | Memory was refused; nothing was stored. | Send the block again.\n\
+hs_tool replica, hs_signer | desk 3 | The replica's keys are spent. | A new committee, of new keys, is due.\n\
+hs_tool replica, hs_signer | desk 4 | The log is full: it has 4,096 entries. | A new committee is due.\n\
+hs_tool replica, hs_signer | desk 5 | A disk failed in this call: whether the vote was stored is open, and the replica does nothing more. | See to the disk, and start the replica again.\n\
+hs_tool replica, hs_signer | desk 6 | A disk failed in an earlier call. | See to the disk, and start the replica again.\n\
+hs_signer | desk 1 Memory | Memory was refused; nothing was stored. | Send the block again.\n\
+hs_signer | desk 3 KeySpent | The replica's keys are spent. | A new committee, of new keys, is due.\n\
+hs_signer | desk 4 LogFull | The log is full: it has 4,096 entries. | A new committee is due.\n\
+hs_signer | desk 5 Device | A disk failed in this call: whether the vote was stored is open, and the replica does nothing more. | See to the disk, and start the signer again.\n\
+hs_signer | desk 6 Stopped | A disk failed in an earlier call, and nothing was done. | See to the disk, and start the signer again.\n\
+hs_signer | stopped desk 5 | A disk failed under a block; the process goes on answering, and gives no vote more. | See to the disk, and start the signer again.\n\
+hs_tool replica | bad line | The line is neither a block nor a timeout in its one spelling; a line that ends in CRLF is none. | Put the line right.\n\
+hs_tool replica, hs_signer | closed N | The input ended; the log has N entries. | Nothing.\n\
+hs_tool replica | served FRAMES | A request for the log was answered with so many entries. | Nothing: that they arrived is not known.\n\
+hs_tool replica | serve fault 1 | Memory was refused, and nothing was sent. | Free memory.\n\
+hs_tool replica | serve fault 2 | The disk failed while the log was sent. | Look at the disk.\n\
+hs_tool replica | serve fault 3 | The client went away, took nothing for 30 seconds, or was too slow. | Let the auditor ask again.\n\
+hs_tool replica | serve fault 4 | No connection could be had, or no request came in time. | Let the auditor ask again; look at the limit of open files.\n\
+hs_tool replica | serve fault 5 | What came is no request. | See who connects there.\n\
+hs_tool replica | serve fault 6 | A disk failed before, and nothing was sent. | See to the disk.\n\
+hs_signer | refused call 1 NoSuchCall | There is no call of this path. | See the table of calls in hs_signer(1).\n\
+hs_signer | refused call 2 Method | The path has other methods, which allow names. | Use one of these.\n\
+hs_signer | refused call 3 Number | A number is not in its one spelling or out of range, or a parameter is not known or there twice. | Write it without sign and leading zeros.\n\
+hs_signer | refused call 4 Host | Over TCP: Host is missing, there twice, or a name that is not allowed. | Call by localhost or an IP address, or allow the name by --host.\n\
+hs_signer | refused call 5 Origin | Over TCP: a page in a browser called. | Call from a program.\n\
+hs_signer | refused call 6 ContentType | Over TCP: what is posted is not application/octet-stream. | Send that header.\n\
+hs_signer | refused call 7 Far | The view lies further above the vote view than is allowed; nothing was delivered. | Deliver the blocks between, or start with a greater --furthest once you know why.\n\
+hs_signer | refused call 8 NoVote | The log has no vote in this view. | Nothing: the replica did not vote there.\n\
+hs_signer | refused call 9 Target | The path is not one of the table, or has a query where none is named, or an id that is not 64 digits in lower case. | Put it right.\n\
+hs_signer | refused call 10 NotHeld | No block of this id is held. | Deliver it, its parents first.\n\
+hs_signer | refused call 11 Length | A vote has not 1,495 bytes, or a timeout has a body. | Put it right.\n\
+hs_signer | listening calls PLACE | It takes calls there. | Nothing.\n\
+hs_signer | listening read ADDRESS | It answers calls that only read there. | Nothing.\n\
+hs_signer | listening log ADDRESS | It hands out its log there. | Nothing.\n\
+hs_tool keygen | key HEX | The public key, in 112 digits. | Tell the others its key.pub, and compare it by another way.\n\
+hs_tool committee, hs_tool weighted | chain HEX | The chain id of the committee that was written. | Compare it with the other operators by telephone.\n\
+hs_tool migrate | migrated N | The log was carried over; it has N entries. | Put NEW in the place of log.hsj, as hs_tool(1) says.\n\
+hs_tool audit | source I replica R Whole frames F entries E | The log of source I came whole: F frames, of which E are log entries. | Nothing.\n\
+hs_tool audit | source I replica R Cut frames F entries E | The log of source I ended early: what came was judged. | Get it again before you conclude anything.\n\
+hs_tool audit | source I replica R Broken frames F entries E | What source I gave is no export, or does not end as one: what came before was judged. | Get it again.\n\
+hs_tool audit | source I replica R TooLong frames F entries E | Source I gave more entries than a log has: the first 4,096 were judged. | Ask who serves it.\n\
+hs_tool audit | source I replica R Failed frames F entries E | Source I could not be reached or read to its end. | See that its path or address is right, and get it again.\n\
+hs_tool audit | commit V ID | It is proved that the block ID of view V was committed. | Nothing.\n\
+hs_tool audit | conflict ID ID | Two conflicting blocks were committed: the chain forked. | Remove the culprits that are named, by verdicts that everyone judges.\n\
+hs_tool audit | culprit R rule K views V V | Replica R broke rule K by its votes in these views; its verdict is in OUTDIR. | Send OUTDIR/verdict-R.hsx to everyone who must agree.\n\
+hs_tool audit | culprits N | So many replicas broke a rule in what was read. With 0 none was found in it: a log that was withheld may hold more. | Read the lines of the sources.\n\
+hs_tool audit | culprits N weight S of W | So many replicas broke a rule, and weigh so much of the whole weight. | A conflict has more than a third of it. Read the lines of the sources."
+}
