@@ -15,10 +15,14 @@ use Rattle.verdict_checker.specs.declared.refusal.Refusal.{Refusal}
 use Rattle.about_command.specs.Versions.{version_text}
 
 -- who is accused
-unfoldable pub accused_part : ℕ → List ℕ → List ℕ
-accused_part replica chain =
-    codes "STATEMENT ON A VERDICT\n\nReplica " ++ decimal replica ++ codes " of the committee whose chain id is\n\n"
-    ++ spoken chain 16 ++ codes "\n\nbroke a voting rule that no correct replica breaks.\n\n"
+unfoldable pub accused_line : ℕ → List ℕ
+accused_line replica = codes "STATEMENT ON A VERDICT\n\nReplica " ++ decimal replica ++ codes " of the committee whose chain id is\n\n"
+
+unfoldable pub breach_line : List ℕ
+breach_line = codes "\n\nbroke a voting rule that no correct replica breaks.\n\n"
+
+abbrev pub accused_part : ℕ → List ℕ → List ℕ
+accused_part replica chain = accused_line replica ++ spoken chain 16 ++ breach_line
 
 -- of what
 unfoldable pub double_vote_text : List ℕ
@@ -31,11 +35,19 @@ lock_violation_text =
 abbrev pub rule_part : ℕ → List ℕ
 rule_part rule = if rule == 1 then double_vote_text else lock_violation_text
 
--- of a vote its view, its block, and the key and the one-time key that signed it
-unfoldable pub vote_part : List ℕ → Ballot → ℕ → List ℕ → ℕ → List ℕ
-vote_part place vote key key_id index =
-    place ++ codes " vote: view " ++ decimal vote.view ++ codes "\n  block " ++ encode_lower vote.id
-    ++ codes "\n  key " ++ decimal key ++ codes ", id " ++ encode_lower key_id ++ codes ", one-time key " ++ decimal index ++ codes "\n\n"
+-- of a vote its view and its block
+unfoldable pub ballot_lines : List ℕ → Ballot → List ℕ
+ballot_lines place vote = place ++ codes " vote: view " ++ decimal vote.view ++ codes "\n  block " ++ encode_lower vote.id
+
+-- the key that signed it, and the one-time key
+unfoldable pub signer_line : ℕ → List ℕ → List ℕ
+signer_line key key_id = codes "\n  key " ++ decimal key ++ codes ", id " ++ encode_lower key_id
+
+unfoldable pub one_time_part : ℕ → List ℕ
+one_time_part index = codes ", one-time key " ++ decimal index ++ codes "\n\n"
+
+abbrev pub vote_part : List ℕ → Ballot → ℕ → List ℕ → ℕ → List ℕ
+vote_part place vote key key_id index = ballot_lines place vote ++ signer_line key key_id ++ one_time_part index
 
 -- .. of the first vote of a verdict
 abbrev pub earlier_part : List ℕ → List ℕ → List ℕ
@@ -49,12 +61,18 @@ later_part committee verdict =
     vote_part (codes "Second") (later_in verdict) (later_key_in verdict)
     (key_id_at committee (replica_in verdict) (later_key_in verdict)) (number_at 4 verdict LATER_SIGNATURE_AT)
 
--- which files were judged, and by what
-unfoldable pub files_part : List ℕ → List ℕ → List ℕ
-files_part committee verdict =
-    codes "Both signatures verify under these keys of the replica.\n\nSHA-256 of the verdict\n  " ++ encode_lower (sha256 verdict)
-    ++ codes "\nSHA-256 of the committee's file\n  " ++ encode_lower (sha256 committee)
-    ++ codes "\nJudged by Wezhgula " ++ version_text ++ codes ".\n\n"
+-- which files were judged, by their digests
+unfoldable pub digest_lines : List ℕ → List ℕ → List ℕ
+digest_lines committee verdict =
+    codes "Both signatures verify under these keys of the replica.\n\nSHA-256 of the verdict\n  " ++ encode_lower verdict
+    ++ codes "\nSHA-256 of the committee's file\n  " ++ encode_lower committee
+
+-- .. and by what
+unfoldable pub judge_line : List ℕ
+judge_line = codes "\nJudged by Wezhgula " ++ version_text ++ codes ".\n\n"
+
+abbrev pub files_part : List ℕ → List ℕ → List ℕ
+files_part committee verdict = digest_lines (sha256 committee) (sha256 verdict) ++ judge_line
 
 -- what it does not say
 unfoldable pub limits_part : List ℕ

@@ -9,7 +9,7 @@ ghost use Rattle.verdict_format.specs.VerdictReading.{IsReadableVerdict};
 ghost use Rattle.verdict_format.specs.RuleNumbers.{rule_number};
 ghost use Rattle.verdict_format.specs.declared.verdict.TheConstants.{EARLIER_SIGNATURE_AT, LATER_SIGNATURE_AT};
 ghost use Rattle.about_command.specs.Versions.{version_text};
-ghost use Rattle.about_command.specs.Sheets.{accused_part, double_vote_text, earlier_part, files_part, IsSheet, later_part, limits_part, lock_violation_text, refused_text, rule_part, sheet_text, vote_part};
+ghost use Rattle.about_command.specs.Sheets.{accused_line, accused_part, ballot_lines, breach_line, digest_lines, double_vote_text, earlier_part, files_part, IsSheet, judge_line, later_part, limits_part, lock_violation_text, one_time_part, refused_text, rule_part, sheet_text, signer_line, vote_part};
 
 use crate::about::VERSION;
 use blocks::{Ballot, Id};
@@ -92,14 +92,27 @@ fn put_sheet(
     put_limits(text)
 }
 
-#[tactic(auto, unfolding(crate::specs::Sheets::accused_part))]
 fn put_accused(text: &mut Vec<u8>, replica: u16, chain: &Id) -> Result<(), AllocError>
     ensures { OnOk result (text.new.items ≡ text.old.items ++ accused_part replica chain.now) }
 {
+    put_accused_line(text, replica)?;
+    put_spoken(text, chain)?;
+    put_breach_line(text)
+}
+
+#[tactic(auto, unfolding(crate::specs::Sheets::accused_line))]
+fn put_accused_line(text: &mut Vec<u8>, replica: u16) -> Result<(), AllocError>
+    ensures { OnOk result (text.new.items ≡ text.old.items ++ accused_line replica) }
+{
     append(text, b"STATEMENT ON A VERDICT\n\nReplica ")?;
     put_number(text, replica)?;
-    append(text, b" of the committee whose chain id is\n\n")?;
-    put_spoken(text, chain)?;
+    append(text, b" of the committee whose chain id is\n\n")
+}
+
+#[tactic(auto, unfolding(crate::specs::Sheets::breach_line))]
+fn put_breach_line(text: &mut Vec<u8>) -> Result<(), AllocError>
+    ensures { OnOk result (text.new.items ≡ text.old.items ++ breach_line) }
+{
     append(
         text,
         b"\n\nbroke a voting rule that no correct replica breaks.\n\n",
@@ -161,7 +174,6 @@ fn put_votes(
     )
 }
 
-#[tactic(auto, unfolding(crate::specs::Sheets::vote_part))]
 fn put_vote(
     text: &mut Vec<u8>,
     place: &[u8],
@@ -173,15 +185,36 @@ fn put_vote(
     ensures { OnOk result (text.new.items ≡ text.old.items
         ++ vote_part place.now vote.now key key_id.now index) }
 {
+    put_ballot(text, place, vote)?;
+    put_signer(text, key, key_id)?;
+    put_one_time(text, index)
+}
+
+#[tactic(auto, unfolding(crate::specs::Sheets::ballot_lines))]
+fn put_ballot(text: &mut Vec<u8>, place: &[u8], vote: &Ballot) -> Result<(), AllocError>
+    ensures { OnOk result (text.new.items ≡ text.old.items ++ ballot_lines place.now vote.now) }
+{
     append(text, place)?;
     append(text, b" vote: view ")?;
     put_number(text, vote.view)?;
     append(text, b"\n  block ")?;
-    put_id(text, &vote.id)?;
+    put_id(text, &vote.id)
+}
+
+#[tactic(auto, unfolding(crate::specs::Sheets::signer_line))]
+fn put_signer(text: &mut Vec<u8>, key: u8, key_id: &[u8; 16]) -> Result<(), AllocError>
+    ensures { OnOk result (text.new.items ≡ text.old.items ++ signer_line key key_id.now) }
+{
     append(text, b"\n  key ")?;
     put_number(text, key)?;
     append(text, b", id ")?;
-    put_key_id(text, key_id)?;
+    put_key_id(text, key_id)
+}
+
+#[tactic(auto, unfolding(crate::specs::Sheets::one_time_part))]
+fn put_one_time(text: &mut Vec<u8>, index: u32) -> Result<(), AllocError>
+    ensures { OnOk result (text.new.items ≡ text.old.items ++ one_time_part index) }
+{
     append(text, b", one-time key ")?;
     put_number(text, index)?;
     append(text, b"\n\n")
@@ -195,17 +228,35 @@ fn put_key_id(text: &mut Vec<u8>, id: &[u8; 16]) -> Result<(), AllocError>
     append(text, &digits)
 }
 
-#[tactic(auto, unfolding(crate::specs::Sheets::files_part))]
 fn put_files(text: &mut Vec<u8>, committee: &[u8], verdict: &[u8]) -> Result<(), AllocError>
     ensures { OnOk result (text.new.items ≡ text.old.items ++ files_part committee.now verdict.now) }
+{
+    put_digests(text, &digest_of(committee), &digest_of(verdict))?;
+    put_judge(text)
+}
+
+#[tactic(auto, unfolding(crate::specs::Sheets::digest_lines))]
+fn put_digests(
+    text: &mut Vec<u8>,
+    committee: &[u8; 32],
+    verdict: &[u8; 32],
+) -> Result<(), AllocError>
+    ensures { OnOk result (text.new.items ≡ text.old.items
+        ++ digest_lines committee.now verdict.now) }
 {
     append(
         text,
         b"Both signatures verify under these keys of the replica.\n\nSHA-256 of the verdict\n  ",
     )?;
-    put_id(text, &digest_of(verdict))?;
+    put_id(text, verdict)?;
     append(text, b"\nSHA-256 of the committee's file\n  ")?;
-    put_id(text, &digest_of(committee))?;
+    put_id(text, committee)
+}
+
+#[tactic(auto, unfolding(crate::specs::Sheets::judge_line))]
+fn put_judge(text: &mut Vec<u8>) -> Result<(), AllocError>
+    ensures { OnOk result (text.new.items ≡ text.old.items ++ judge_line) }
+{
     append(text, b"\nJudged by Wezhgula ")?;
     append(text, VERSION)?;
     append(text, b".\n\n")
