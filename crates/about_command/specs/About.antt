@@ -1,35 +1,22 @@
--- What words ask for beside files, and what is told then.
-use Rattle.std.specs.Prelude.{◌≡◌, ◌⊎◌, ◌++◌, ◌∷◌, [], ℕ, Bool, true, false, List, String, codes, if◌then◌else◌, map, string_bytes}
-use Rattle.std.specs.declared.alloc.Global.{Global}
+-- What is told beside files.
+use Rattle.std.specs.Prelude.{◌≡◌, ◌≢◌, ◌⊎◌, [], ℕ, true, List, codes}
 use Rattle.blocks.specs.Committees.{IsCommittee}
 use Rattle.about_command.specs.Explaining.{AreSaid}
 use Rattle.about_command.specs.Sheets.{IsSheet}
 use Rattle.about_command.specs.Versions.{help_text, version_line}
 
--- the words are --version alone
-abbrev pub TellsVersion : List (List ℕ) → ℕ → List ℕ → Type 0
-TellsVersion words status text = (words ≡ codes "--version" ∷ []) × (status ≡ 0) × (text ≡ version_line)
+-- the version, or how the program is called
+abbrev pub TellsOfProgram : ℕ → List ℕ → Type 0
+TellsOfProgram status text = (status ≡ 0) × ((text ≡ version_line) ⊎ (text ≡ help_text))
 
--- .. --help alone
-abbrev pub TellsHelp : List (List ℕ) → ℕ → List ℕ → Type 0
-TellsHelp words status text = (words ≡ codes "--help" ∷ []) × (status ≡ 0) × (text ≡ help_text)
+-- what is said of a line, or that it is not known
+abbrev pub Explains : ℕ → List ℕ → Type 0
+Explains status text = ((status ≡ 0) × AreSaid [] text true) ⊎ ((status ≡ 1) × (text ≡ codes "unknown\n"))
 
--- .. --explain and a line: what is said of it, or that it is not known
-abbrev pub Explains : List (List ℕ) → ℕ → List ℕ → Type 0
-Explains words status text =
-    (line : List (List ℕ)) × (words ≡ codes "--explain" ∷ line)
-    × (((status ≡ 0) × AreSaid [] text true) ⊎ ((status ≡ 1) × (text ≡ codes "unknown\n")))
+-- the sheet of what two files had
+abbrev pub TellsSheet : ℕ → List ℕ → Type 0
+TellsSheet status text = (committee : List ℕ) × (verdict : List ℕ) × IsCommittee committee × IsSheet committee verdict status text
 
--- .. those that name a verdict and a committee: the sheet of what two files had
-abbrev pub TellsSheet : List (List ℕ) → ℕ → List ℕ → Type 0
-TellsSheet words status text =
-    (verdict_path : List ℕ) × (path : List ℕ) × (words ≡ codes "--statement" ∷ verdict_path ∷ codes "--committee" ∷ path ∷ [])
-    × ((committee : List ℕ) × (verdict : List ℕ) × IsCommittee committee × IsSheet committee verdict status text)
-
-abbrev pub texts : List (String Global) → List (List ℕ)
-texts words = map (λ w. string_bytes w) words
-
--- what these words come to
-abbrev pub Tells : List (String Global) → ℕ → List ℕ → Type 0
-Tells words status text =
-    TellsVersion (texts words) status text ⊎ (TellsHelp (texts words) status text ⊎ (Explains (texts words) status text ⊎ TellsSheet (texts words) status text))
+-- one of these
+abbrev pub Tells : ℕ → List ℕ → Type 0
+Tells status text = (status ≢ 2) × (TellsOfProgram status text ⊎ (Explains status text ⊎ TellsSheet status text))

@@ -61,6 +61,10 @@ later_part committee verdict =
     vote_part (codes "Second") (later_in verdict) (later_key_in verdict)
     (key_id_at committee (replica_in verdict) (later_key_in verdict)) (number_at 4 verdict LATER_SIGNATURE_AT)
 
+-- .. of both
+abbrev pub votes_part : List ℕ → List ℕ → List ℕ
+votes_part committee verdict = earlier_part committee verdict ++ later_part committee verdict
+
 -- which files were judged, by their digests
 unfoldable pub digest_lines : List ℕ → List ℕ → List ℕ
 digest_lines committee verdict =
@@ -82,7 +86,7 @@ limits_part =
 abbrev pub sheet_text : List ℕ → List ℕ → List ℕ
 sheet_text committee verdict =
     accused_part (replica_in verdict) (chain_id_of committee) ++ rule_part (verdict_kind_in verdict)
-    ++ earlier_part committee verdict ++ later_part committee verdict ++ files_part committee verdict ++ limits_part
+    ++ votes_part committee verdict ++ files_part committee verdict ++ limits_part
 
 -- "refused N NAME"
 unfoldable pub refused_text : Refusal → List ℕ

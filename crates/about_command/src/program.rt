@@ -1,16 +1,12 @@
 //! What words ask for beside files, over handed-in words and streams.
 
-ghost use Rattle.std.specs.Prelude.{◌≡◌, ◌≢◌, ◌⊎◌, [], List, ℕ, true, IfOk, codes};
+ghost use Rattle.std.specs.Prelude.{◌≡◌, ◌≢◌, List, ℕ, IfOk};
 ghost use Rattle.streams.specs.Streams.{Wrote};
-ghost use Rattle.blocks.specs.Committees.{IsCommittee};
 ghost use Rattle.printed_lines.specs.Printed.{Told};
 ghost use Rattle.program_parts.specs.FaultLines.{fault_line, no_fault_line};
 ghost use Rattle.program_parts.specs.declared.no_fault.NoFault.{NoFault as OwnFaultValue};
 ghost use Rattle.program_parts.specs.declared.program_fault.ProgramFault.{ProgramFault as FaultValue};
 ghost use Rattle.about_command.specs.About.{Tells};
-ghost use Rattle.about_command.specs.Explaining.{AreSaid};
-ghost use Rattle.about_command.specs.Sheets.{IsSheet};
-ghost use Rattle.about_command.specs.Versions.{help_text, version_line};
 
 use crate::about::{put_help, put_version};
 use crate::explaining::put_explanations;
@@ -48,7 +44,7 @@ pub fn run_about<F: Files<File = File>, W: Sink, E: Sink>(
     faults: &mut E,
 ) -> u8
     ensures told { result ≢ 2 → (text : List ℕ)
-        × Tells words.now result text × Wrote (W.text out.old) (W.text out.new) text }
+        × Tells result text × Wrote (W.text out.old) (W.text out.new) text }
     ensures silent { result ≢ 2 → faults.new ≡ faults.old }
     ensures given_up { result ≡ 2 → (fault : FaultValue OwnFaultValue)
         × Told (E.text faults.old) (E.text faults.new) (E.failed faults.old) (E.failed faults.new)
@@ -63,8 +59,8 @@ fn tell<'a, F: Files<File = File>, W: Sink>(
     words: &'a [String],
     out: &mut W,
 ) -> Result<u8, ProgramFault<'a, NoFault>>
-    ensures { IfOk result (λ status. (status ≢ 2) × ((text : List ℕ)
-        × Tells words.now status text × Wrote (W.text out.old) (W.text out.new) text)) }
+    ensures { IfOk result (λ status. (text : List ℕ)
+        × Tells status text × Wrote (W.text out.old) (W.text out.new) text) }
 {
     let sheet = answer(rt, alloc, words)?;
     write_out(out, &sheet.text)?;
@@ -76,7 +72,7 @@ fn answer<'a, F: Files<File = File>>(
     alloc: Global,
     words: &'a [String],
 ) -> Result<Sheet, ProgramFault<'a, NoFault>>
-    ensures { IfOk result (λ s. (s.status ≢ 2) × Tells words.now s.status s.text.items) }
+    ensures { IfOk result (λ s. Tells s.status s.text.items) }
 {
     match words {
         [option] if option.as_str() == "--version" => Ok(version(alloc)?),
@@ -94,7 +90,7 @@ fn answer<'a, F: Files<File = File>>(
 }
 
 fn version(alloc: Global) -> Result<Sheet, AllocError>
-    ensures { IfOk result (λ s. (s.status ≡ 0) × (s.text.items ≡ version_line)) }
+    ensures { IfOk result (λ s. Tells s.status s.text.items) }
 {
     let mut text = Vec::new(alloc);
     put_version(&mut text)?;
@@ -102,7 +98,7 @@ fn version(alloc: Global) -> Result<Sheet, AllocError>
 }
 
 fn help(alloc: Global) -> Result<Sheet, AllocError>
-    ensures { IfOk result (λ s. (s.status ≡ 0) × (s.text.items ≡ help_text)) }
+    ensures { IfOk result (λ s. Tells s.status s.text.items) }
 {
     let mut text = Vec::new(alloc);
     put_help(&mut text)?;
@@ -116,8 +112,7 @@ fn read_sheet<'a, F: Files<File = File>>(
     verdict: &'a str,
     committee: &'a str,
 ) -> Result<Sheet, ProgramFault<'a, NoFault>>
-    ensures { IfOk result (λ s. (c : List ℕ) × (v : List ℕ)
-        × IsCommittee c × IsSheet c v s.status s.text.items) }
+    ensures { IfOk result (λ s. Tells s.status s.text.items) }
 {
     let committee = read_committee(rt, alloc, committee)?;
     let verdict = read_named(rt, alloc, verdict, MOST_OF_A_SHORT_FILE)?;
@@ -127,8 +122,7 @@ fn read_sheet<'a, F: Files<File = File>>(
 
 // What is said of a line, whose words stand one by one or in one of these words.
 fn explanation(alloc: Global, words: &[String]) -> Result<Sheet, AllocError>
-    ensures { IfOk result (λ s. ((s.status ≡ 0) × AreSaid [] s.text.items true)
-        ⊎ ((s.status ≡ 1) × (s.text.items ≡ codes "unknown\n"))) }
+    ensures { IfOk result (λ s. Tells s.status s.text.items) }
 {
     let mut line = String::new(alloc);
     for word in words {

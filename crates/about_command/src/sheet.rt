@@ -9,7 +9,7 @@ ghost use Rattle.verdict_format.specs.VerdictReading.{IsReadableVerdict};
 ghost use Rattle.verdict_format.specs.RuleNumbers.{rule_number};
 ghost use Rattle.verdict_format.specs.declared.verdict.TheConstants.{EARLIER_SIGNATURE_AT, LATER_SIGNATURE_AT};
 ghost use Rattle.about_command.specs.Versions.{version_text};
-ghost use Rattle.about_command.specs.Sheets.{accused_line, accused_part, ballot_lines, breach_line, digest_lines, double_vote_text, earlier_part, files_part, IsSheet, judge_line, later_part, limits_part, lock_violation_text, one_time_part, refused_text, rule_part, sheet_text, signer_line, vote_part};
+ghost use Rattle.about_command.specs.Sheets.{accused_line, accused_part, ballot_lines, breach_line, digest_lines, double_vote_text, files_part, IsSheet, judge_line, limits_part, lock_violation_text, one_time_part, refused_text, rule_part, sheet_text, signer_line, vote_part, votes_part};
 
 use crate::about::VERSION;
 use blocks::{Ballot, Id};
@@ -152,7 +152,7 @@ fn put_votes(
     requires same { verdict.now ≡ bytes.now }
     requires proof { IsProof committee.now bytes.now }
     ensures { OnOk result (text.new.items ≡ text.old.items
-        ++ earlier_part committee.now bytes.now ++ later_part committee.now bytes.now) }
+        ++ votes_part committee.now bytes.now) }
 {
     let replica = verdict.replica();
     let (earlier, later) = (verdict.earlier(), verdict.later());
