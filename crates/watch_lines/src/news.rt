@@ -37,11 +37,7 @@ pub fn put_commit(text: &mut Vec<u8>, stamp: &[u8], commit: &Commit) -> Result<(
 
 /// Adds the line of the conflict.
 #[tactic(auto, unfolding(crate::specs::WatchLines::conflict_news))]
-pub fn put_conflict(
-    text: &mut Vec<u8>,
-    stamp: &[u8],
-    conflict: &Conflict,
-) -> Result<(), AllocError>
+pub fn put_conflict(text: &mut Vec<u8>, stamp: &[u8], conflict: &Conflict) -> Result<(), AllocError>
     ensures { OnOk result (text.new.items
         ≡ text.old.items ++ conflict_news stamp.now conflict.now) }
 {
