@@ -69,6 +69,13 @@ impl<'a> Collector<'a> {
         self.reports.len()
     }
 
+    /// How each log did, in the order of their numbers.
+    pub fn reports(&self) -> &[SourceReport]
+        ensures { result.now ≡ self.now.reports }
+    {
+        &self.reports
+    }
+
     /// Whether there is such a log, and this may be added to it: it is of the same replica, and both together are no more
     /// than a log has.
     pub fn takes(&self, log: usize, part: &Part) -> bool

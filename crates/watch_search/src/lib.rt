@@ -1,6 +1,9 @@
-//! What becomes of that which evidence proves, as evidence grows. Needs no threads, files or network.
+//! What becomes of that which evidence proves, as evidence grows, and the audit of what came so far. Needs no threads, files or
+//! network.
 #![tactic(auto)]
 
+mod auditing;
 mod laws;
 
+pub use auditing::audit_so_far;
 pub use laws::{longer_logs_show_more, what_is_named_falls, what_is_proved_stays};
