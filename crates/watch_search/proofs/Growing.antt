@@ -1,17 +1,17 @@
 -- What evidence proves stays as it grows.
-use Rattle.std.proofs.Common.{◌≡◌, ◌∙◌, ℕ, ◌<◌, ◌≤◌, List, [], ◌∷◌, Bool, true, false, ◌||◌, refl, sym, subst, inl, inr, arith}
+use Rattle.std.proofs.Common.{◌≡◌, ◌∙◌, ℕ, List, [], ◌∷◌, Bool, true, false, ◌||◌, refl, sym, subst, inl, inr, arith}
 use Rattle.std.specs.List.{Contains, list_any}
 use Rattle.blocks.specs.Headers.{Header}
 use Rattle.blocks.specs.Chains.{Conflict, IsAncestor, IsChainIn, IsLinked, NoCollision}
-use Rattle.blocks.specs.Weights.{Committee, weight_of, is_among}
+use Rattle.blocks.specs.Weights.{Committee, is_among}
 use Rattle.blocks.proofs.Chains.{one_chain}
 use Rattle.blocks.proofs.Members.{Has, Contains-from_Has, Has-from_Contains}
 use Rattle.certificates.specs.declared.vote.SignedVote.{SignedVote}
-use Rattle.evidence.specs.Evidence.{Evidence, IsEvidence, IsHeaderInEvidence, IsVoteInEvidence}
+use Rattle.evidence.specs.Evidence.{Evidence, IsHeaderInEvidence, IsVoteInEvidence}
 use Rattle.evidence.specs.Logs.{ReceivedLog, FrameHasVote}
 use Rattle.ancestry.proofs.Ids.{apart_in}
-use Rattle.commit_search.specs.Commits.{AreConflicting, IsCertified, IsProvedCommit, Stands, has_vote, is_vote_on}
-use Rattle.commit_search.specs.Culprits.{BreakARule, Shows}
+use Rattle.commit_search.specs.Commits.{IsCertified, Stands, has_vote, is_vote_on}
+use Rattle.commit_search.specs.Culprits.{Shows}
 use Rattle.watch_search.specs.Growth.{AreLonger, IsWithin, LongerLogsShowMore, ACollisionStays, OffencesStay, CulpritsStay, CommitsStay, ConflictsStay, AccusedWeightGrows, NamedPairsFall, FirstConflictsFall}
 use Rattle.commit_search.proofs.Weights.{list_any-Has, weight_more, weight_within}
 use Rattle.verdict_format.specs.declared.parts.Shown.{Shown}

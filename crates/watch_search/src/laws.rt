@@ -1,6 +1,7 @@
 //! Laws on evidence that grows.
 
 ghost use Rattle.watch_search.specs.Growth.{ACollisionStays, AccusedWeightGrows, CommitsStay, ConflictsStay, CulpritsStay, FirstConflictsFall, LongerLogsShowMore, NamedPairsFall, OffencesStay};
+ghost use Rattle.watch_search.specs.Untouched.{TheLeastOfOldAndFreshIsNamed, UntouchedReplicasKeepTheirOffences, UntouchedReplicasKeepTheirPair};
 
 /// What longer logs show has all that the shorter ones showed, whatever else comes, from whom, and when; and where two
 /// headers of one id came, they have come for good.
@@ -23,4 +24,13 @@ pub fn what_is_proved_stays()
 pub fn what_is_named_falls()
     ensures pairs { NamedPairsFall }
     ensures conflicts { FirstConflictsFall }
+{}
+
+/// Of whom no vote is new, nor the block of one of its votes, nor that block's parent, has the offences that it had, and the
+/// same named pair: an audit need not search it again. Headers that come later count too, since a lock violation wants three. Of
+/// others the named pair is the least of those that they had and of those with a vote of which something is new.
+pub fn what_is_settled_need_not_be_searched()
+    ensures offences { UntouchedReplicasKeepTheirOffences }
+    ensures pair { UntouchedReplicasKeepTheirPair }
+    ensures least { TheLeastOfOldAndFreshIsNamed }
 {}

@@ -6,4 +6,7 @@ mod auditing;
 mod laws;
 
 pub use auditing::audit_so_far;
-pub use laws::{longer_logs_show_more, what_is_named_falls, what_is_proved_stays};
+pub use laws::{
+    longer_logs_show_more, what_is_named_falls, what_is_proved_stays,
+    what_is_settled_need_not_be_searched,
+};

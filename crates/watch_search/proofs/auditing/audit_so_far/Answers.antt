@@ -1,6 +1,3 @@
-use Rattle.std.proofs.Common.{subst}
-use Rattle.evidence.specs.Evidence.{Evidence}
-use Rattle.culprit_search.specs.Reports.{IsAudit}
 use Rattle.watch_search.proofs.auditing.audit_so_far.Goals as goal
 
 pub returns-clause-audit : goal.returns-clause-audit
