@@ -12,8 +12,7 @@ shows_before : (e f : Evidence) (v w : SignedVote) (s : Shown) → IsSettled e f
 shows_before e f v w DoubleVote first second shown = shown
 shows_before e f v w (LockViolation h) first second shown =
     let known = shown.0 in
-    let broken = shown.1 in
-    (
+    let broken = shown.1 in (
       record {
         earlier = first.block h.earlier known.earlier broken.e_id;
         parent = first.parent h.earlier h.parent known.earlier broken.e_id known.parent broken.parent;
