@@ -175,7 +175,7 @@ where
     let (worked, printed) = thread::join_mut(
         host.rt,
         &mut || work_all(&shop, jobs.take()),
-        &mut || queue.print_all(host.rt, host.alloc, &mut *out),
+        &mut || print_all(&shop, &mut *out),
     );
     if printed.is_err() {
         return Err(Fault::Output);
@@ -193,6 +193,18 @@ fn jobs_of(alloc: Global, sources: usize) -> Result<Vec<Job>, AllocError> {
         jobs.push(Job::Follow(source))?;
     }
     Ok(jobs)
+}
+
+// Prints lines until no more come. Where one can't be printed the watch ends.
+fn print_all<T: Wait + Clock, W: Sink>(
+    shop: &Shop<'_, '_, '_, T>,
+    out: &mut W,
+) -> Result<(), streams::Fault> {
+    let printed = shop.queue.print_all(shop.rt, shop.alloc, out);
+    if printed.is_err() {
+        shop.end();
+    }
+    printed
 }
 
 // A thread for each job. Answers whether there are culprits, once all have ended.
