@@ -11,13 +11,13 @@ use Rattle.evidence.specs.declared.refusal.EvidenceRefusal.{EvidenceRefusal}
 use Rattle.evidence.proofs.Gatherings.{only, fault_later, grown_as, grown_both, grown_none, none_of}
 
 -- one more
-contains_more : {A : Type 0} (xs : List A) (x h : A) → IsEither (Contains xs) (λ y. y ≡ x) h ↔ Contains (xs ++ x ∷ []) h
+pub contains_more : {A : Type 0} (xs : List A) (x h : A) → IsEither (Contains xs) (λ y. y ≡ x) h ↔ Contains (xs ++ x ∷ []) h
 contains_more xs x h = (
   λ w. elim w [ inl c ↦ Contains-append_left xs (x ∷ []) h c | inr e ↦ Contains-append_right xs (x ∷ []) h (0, omega arith, sym e) ],
   λ c. elim (Contains-append_cases xs (x ∷ []) h c) [ inl i ↦ inl i | inr o ↦ inr (sym (only x h o)) ],
 )
 
-contains_take : {A : Type 0} (xs : List A) (i : ℕ) (x h : A) → i < length xs → x ≡ get_or xs i x → IsEither (Contains (take i xs)) (λ y. y ≡ x) h ↔ Contains (take (i + 1) xs) h
+pub contains_take : {A : Type 0} (xs : List A) (i : ℕ) (x h : A) → i < length xs → x ≡ get_or xs i x → IsEither (Contains (take i xs)) (λ y. y ≡ x) h ↔ Contains (take (i + 1) xs) h
 contains_take {A} xs i x h l is =
     subst (λ (ys : List A). IsEither (Contains (take i xs)) (λ y. y ≡ x) h ↔ Contains ys h)
     (ap (λ (y : A). take i xs ++ y ∷ []) is ∙ sym (take_more xs i x l)) (contains_more (take i xs) x h)

@@ -1,4 +1,5 @@
 pub mod Lists
+pub mod Taking
 pub mod VoteSets
 pub mod HeaderOrder
 pub mod Gatherings

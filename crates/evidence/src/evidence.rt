@@ -23,7 +23,7 @@ use std::marker::Model;
 
 /// What the logs of replicas show together under a committee: headers by rising id, so that no two have one
 /// id, genesis among them; votes that rise by replica, view, id, key and signature, each of them good; and a
-/// report of each source. Made by `Evidence::of` alone.
+/// report of each source. Made by `Evidence::of` and `Evidence::of_known` alone.
 #[derive(Drop)]
 pub struct Evidence<'a> {
     committee: CommitteeView<'a>,
@@ -83,6 +83,34 @@ impl<'a> Evidence<'a> {
             votes,
             sources,
         })
+    }
+
+    /// Evidence of headers and good votes that were gathered and checked before.
+    pub fn of_known(
+        committee: CommitteeView<'a>,
+        headers: Vec<NamedHeader>,
+        votes: Vec<Shared<SignedVote>>,
+        sources: Vec<SourceReport>,
+    ) -> Evidence<'a>
+        requires { IsEvidence (record {
+          committee = committee;
+          headers = headers.items;
+          votes = votes.items;
+          sources = sources.items;
+        }) }
+        ensures { result ≡ record {
+          committee = committee.entry;
+          headers = headers.items;
+          votes = votes.items;
+          sources = sources.items;
+        } }
+    {
+        Evidence {
+            committee,
+            headers,
+            votes,
+            sources,
+        }
     }
 
     /// The committee under which the votes are good.

@@ -62,6 +62,19 @@ impl HeaderSet {
         Ok(())
     }
 
+    /// The headers themselves, by rising id.
+    pub fn copies(&self, alloc: Global) -> Result<Vec<NamedHeader>, AllocError>
+        ensures headers { IfOk result (λ headers. headers.items ≡ self.now) }
+        ensures rising { OnOk result (AllPairs HasLowerId self.now) }
+        ensures falling { OnOk result (All IsNotBelowParent self.now) }
+    {
+        let mut copies = Vec::new(alloc);
+        for header in self.headers.values() {
+            copies.push(*header.get())?;
+        }
+        Ok(copies)
+    }
+
     /// The headers by rising id.
     pub fn into_vec(self, alloc: Global) -> Result<Vec<Shared<NamedHeader>>, AllocError>
         ensures headers { IfOk result (λ headers. headers.items ≡ self) }

@@ -37,6 +37,13 @@ impl<'a> Model for Listing<'a> {
 }
 
 impl<'a> Listing<'a> {
+    /// The headers by rising id.
+    pub fn headers(&self) -> &[NamedHeader]
+        ensures { result.now ≡ self.now.headers }
+    {
+        &self.headers
+    }
+
     /// The votes by rising replica, view, id, key and signature.
     pub fn votes(&self) -> &[Shared<SignedVote>]
         ensures value { result.now ≡ self.now.votes }

@@ -1,7 +1,7 @@
 //! Votes in order, each once.
 
-ghost use Rattle.std.specs.Prelude.{◌≡◌, [], IfOk, OnOk, OnErr};
-ghost use Rattle.std.specs.List.{AllPairs};
+ghost use Rattle.std.specs.Prelude.{◌≡◌, ◌↔◌, [], IfOk, IsTrue, OnOk, OnErr};
+ghost use Rattle.std.specs.List.{AllPairs, Contains};
 ghost use Rattle.evidence.specs.Gathering.{Gains};
 ghost use Rattle.certificates.specs.VoteOrder.{IsLowerVote};
 
@@ -44,6 +44,25 @@ impl VoteSet {
     {
         let _ = self.votes.insert(vote)?;
         Ok(())
+    }
+
+    /// Whether the vote is there.
+    pub fn contains(&self, vote: &Shared<SignedVote>) -> bool
+        ensures { IsTrue result ↔ Contains self.now vote.now }
+    {
+        self.votes.contains(vote)
+    }
+
+    /// The votes, rising, each with one more owner.
+    pub fn to_vec(&self, alloc: Global) -> Result<Vec<Shared<SignedVote>>, AllocError>
+        ensures votes { IfOk result (λ votes. votes.items ≡ self.now) }
+        ensures rising { OnOk result (AllPairs IsLowerVote self.now) }
+    {
+        let mut votes = Vec::new(alloc);
+        for vote in self.votes.iter() {
+            votes.push(vote.again()?)?;
+        }
+        Ok(votes)
     }
 
     /// The votes, rising.

@@ -1,0 +1,3 @@
+pub use Rattle.log_transfer.specs.Connections
+pub mod Answers
+pub mod Following

@@ -1,0 +1,4 @@
+mod Lists
+mod MadeParts
+mod Judging
+mod KnownSoFar

@@ -1,0 +1,20 @@
+use Rattle.std.proofs.Common.{◌≡◌, ◌++◌, ℕ, List, ap, sym, subst}
+use Rattle.certificates.specs.declared.vote.SignedVote.{SignedVote}
+use Rattle.evidence.specs.Gathering.{Gains, Gathered}
+use Rattle.evidence.proofs.Gatherings.{grown_vote}
+use Rattle.certificates.specs.Votes.{IsGoodVote}
+use Rattle.watch_collector.proofs.Judging.{gained_first, judged_good}
+use Rattle.watch_collector.proofs.growing.Growing.add_good.Goals as goal
+
+pub invariant_of-self-2 : goal.invariant_of-self-2
+invariant_of-self-2 c =
+    let under = ap (λ (g : Gathered). g.committee) c.self.view_is in
+    judged_good c.self.inside.committee c.self.inside.headers c.self.inside.good c.insert.new.self c.self.inside.bad c.args.vote.now c.self.invariant
+    (subst (λ (v : SignedVote). Gains c.self.inside.good c.insert.new.self (λ x. x ≡ v)) c.in_ok-again.ensures c.in_ok-insert.ensures.ok)
+    (subst (λ (k : List ℕ). IsGoodVote k c.args.vote.now) (sym under) c.requires)
+
+pub returns : goal.returns
+returns c =
+    grown_vote c.self.inside.committee c.self.inside.headers (c.self.inside.good ++ c.self.inside.bad) (c.insert.new.self ++ c.self.inside.bad) c.args.self.now c.args.vote.now c.self.view_is
+    (gained_first c.self.inside.good c.insert.new.self c.self.inside.bad (λ x. x ≡ c.args.vote.now)
+    (subst (λ (v : SignedVote). Gains c.self.inside.good c.insert.new.self (λ x. x ≡ v)) c.in_ok-again.ensures c.in_ok-insert.ensures.ok))

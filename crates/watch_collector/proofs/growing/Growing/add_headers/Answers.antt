@@ -1,0 +1,17 @@
+use Rattle.std.specs.List.{Contains}
+use Rattle.evidence.specs.Gathering.{IsGatheringRefusal}
+use Rattle.evidence.proofs.Absorbing.{headers_fault, headers_more}
+use Rattle.evidence.proofs.Gatherings.{handed_on}
+use Rattle.watch_collector.proofs.growing.Growing.add_headers.Goals as goal
+
+pub returns-in_err-add_header-clause-err : goal.returns-in_err-add_header-clause-err
+returns-in_err-add_header-clause-err c =
+    let x = c.header-item.result in
+    let e = c.in_err-add_header.field-0.0 in
+    handed_on c.from_residual.result (IsGatheringRefusal c.args.self.now (Contains c.args.headers.now)) e c.from_residual.ensures.1
+    (headers_fault c.args.self.now c.loop-header.self c.args.headers.now c.loop-header.header-index x e c.loop-header-test.true c.header-item.is c.loop-header.invariant c.in_err-add_header.ensures.err)
+
+pub loop-header-preserved : goal.loop-header-preserved
+loop-header-preserved c =
+    let x = c.header-item.result in
+    headers_more c.args.self.now c.loop-header.self c.add_header.new.self c.args.headers.now c.loop-header.header-index x c.loop-header-test.true c.header-item.is c.loop-header.invariant c.in_ok-add_header.ensures.ok

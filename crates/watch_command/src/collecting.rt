@@ -1,0 +1,447 @@
+//! The thread that collects what comes, audits it, and says what is new.
+
+ghost use Rattle.std.specs.Prelude.{◌≢◌, IfErr};
+
+use crate::fault::{Fault, fault_of_evidence};
+use crate::shop::{Delivery, Shop, Told};
+use crate::verdict_files::{Kept, VerdictFolder};
+use culprit_search::{Commit, Conflict, Report, Verdict};
+use log_format::Status;
+use program_parts::ProgramFault;
+use std::alloc::AllocError;
+use std::fs::{File, Files};
+use std::sync::Wait;
+use std::sync::atomic::Ordering;
+use std::thread::Threads;
+use std::time::{Clock, Duration, SystemTime, UNIX_EPOCH};
+use watch_collector::{Collector, Part};
+use watch_lines::{
+    put_commit, put_conflict, put_culprit, put_kept, put_source, put_source_alarm, put_unstored,
+    stamp, utc_text,
+};
+use watch_search::audit_so_far;
+
+/// A source is set aside once so many of its votes were not good: a correct replica's log has none.
+const MOST_BAD_VOTES: usize = 64;
+
+/// How long the collector waits for what comes, in milliseconds: then it looks whether the watch is to end.
+const PATIENCE_MILLISECONDS: u64 = 500;
+
+// What is known of a source beside its logs.
+#[derive(Drop)]
+struct SourceState {
+    // The collector's number for each of its logs, and how it ended when that was told last.
+    logs: Vec<(usize, Option<Status>)>,
+    bad: usize,
+}
+
+// Where the verdict on a replica is.
+#[derive(Clone, Copy, Debug, PartialEq, Eq)]
+enum VerdictState {
+    // There is none, and nothing under its name, or something under its first name.
+    None(bool),
+    // It could not be stored yet.
+    Unstored,
+    Stored,
+}
+
+// A verdict that could not be stored yet.
+#[derive(Drop)]
+struct Pending {
+    replica: u16,
+    path: String,
+    bytes: Vec<u8>,
+}
+
+/// What came so far, and what was said of it.
+#[derive(Drop)]
+struct Desk<'c> {
+    collector: Collector<'c>,
+    sources: Vec<SourceState>,
+    verdicts: Vec<VerdictState>,
+    pending: Vec<Pending>,
+    commits: Vec<Commit>,
+    conflict: Option<Conflict>,
+    round: u64,
+}
+
+/// Collects until the watch ends. Answers whether there are culprits.
+pub(crate) fn collect<'c, T: Files<File = File> + Threads + Wait + Clock + Sync>(
+    shop: &Shop<'_, '_, 'c, T>,
+) -> Result<bool, Fault<'static>>
+    ensures { IfErr result (λ fault. fault ≢ ProgramFault.Output) }
+{
+    let folder = VerdictFolder {
+        files: shop.rt,
+        alloc: shop.alloc,
+        path: shop.words.folder,
+    };
+    let mut desk = Desk::open(shop, &folder)?;
+    for _ in shop.rt.forever() {
+        if desk.is_over(shop) {
+            break;
+        }
+        let told = shop.take_all(Duration::from_millis(PATIENCE_MILLISECONDS))?;
+        desk.take_round(shop, &folder, told)?;
+    }
+    Ok(desk.has_culprits())
+}
+
+impl<'c> Desk<'c> {
+    // Nothing came yet. The verdicts that are kept in the folder are told.
+    fn open<T: Files<File = File> + Wait + Clock>(
+        shop: &Shop<'_, '_, 'c, T>,
+        folder: &VerdictFolder<'_, '_, T>,
+    ) -> Result<Desk<'c>, AllocError> {
+        let mut replicas = Vec::new(shop.alloc);
+        let mut sources = Vec::new(shop.alloc);
+        for (i, target) in shop.targets.iter().enumerate() {
+            replicas.push(target.replica)?;
+            let mut logs = Vec::new(shop.alloc);
+            logs.push((i, None))?;
+            sources.push(SourceState { logs, bad: 0 })?;
+        }
+        Ok(Desk {
+            collector: Collector::new(shop.alloc, shop.committee, &replicas)?,
+            sources,
+            verdicts: kept_verdicts(shop, folder)?,
+            pending: Vec::new(shop.alloc),
+            commits: Vec::new(shop.alloc),
+            conflict: None,
+            round: 0,
+        })
+    }
+
+    fn has_culprits(&self) -> bool {
+        self.verdicts.iter().any(|state| matches!(
+            state,
+            VerdictState::Unstored | VerdictState::Stored
+        ))
+    }
+
+    fn has_stored(&self) -> bool {
+        self.verdicts
+            .iter()
+            .any(|state| *state == VerdictState::Stored)
+    }
+
+    // Whether the watch is to end.
+    fn is_over<T: Wait + Clock>(&self, shop: &Shop<'_, '_, 'c, T>) -> bool {
+        if shop.is_ending() || (shop.words.until_culprit && self.has_stored()) {
+            return true;
+        }
+        shop.words.until_input_ends && shop.input_ended.load(Ordering::SeqCst)
+    }
+
+    // Adds what was told, and audits it where something is new.
+    fn take_round<T: Files<File = File> + Threads + Wait + Clock + Sync>(
+        &mut self,
+        shop: &Shop<'_, '_, 'c, T>,
+        folder: &VerdictFolder<'_, '_, T>,
+        told: Vec<Delivery<'c>>,
+    ) -> Result<(), Fault<'static>>
+        ensures { IfErr result (λ fault. fault ≢ ProgramFault.Output) }
+    {
+        self.round = self.round.saturating_add(1);
+        let stamp = stamp_now(shop, self.round)?;
+        let mut grew = false;
+        for delivery in told {
+            if self.take(shop, &stamp, delivery)? {
+                grew = true;
+            }
+        }
+        self.store_pending(shop, folder)?;
+        if grew {
+            self.audit(shop, folder, &stamp)?;
+        }
+        Ok(())
+    }
+
+    // Adds what was told of a source. Answers whether evidence grew.
+    fn take<T: Threads + Wait + Clock + Sync>(
+        &mut self,
+        shop: &Shop<'_, '_, 'c, T>,
+        stamp: &[u8],
+        delivery: Delivery<'c>,
+    ) -> Result<bool, Fault<'static>>
+        ensures { IfErr result (λ fault. fault ≢ ProgramFault.Output) }
+    {
+        let source = delivery.source;
+        match delivery.told {
+            Told::WentBack => {
+                say_alarm(shop, stamp, b"went-back", source)?;
+                Ok(false)
+            }
+            Told::Beyond => {
+                say_alarm(shop, stamp, b"beyond", source)?;
+                let _number = self.number_of(shop, source, usize::MAX)?;
+                Ok(false)
+            }
+            Told::Part(log, part) => self.take_part(shop, stamp, source, log, &part),
+        }
+    }
+
+    // Adds a part of this log of a source.
+    fn take_part<T: Threads + Wait + Clock + Sync>(
+        &mut self,
+        shop: &Shop<'_, '_, 'c, T>,
+        stamp: &[u8],
+        source: usize,
+        log: usize,
+        part: &Part<'c>,
+    ) -> Result<bool, Fault<'static>>
+        ensures { IfErr result (λ fault. fault ≢ ProgramFault.Output) }
+    {
+        let number = self.number_of(shop, source, log)?;
+        if !self.collector.takes(number, part) {
+            return Ok(false);
+        }
+        let bad = match self.collector.add(shop.rt, shop.alloc, number, part) {
+            Ok(bad) => bad,
+            Err(refusal) => return Err(fault_of_evidence(refusal)),
+        };
+        self.say_status(shop, stamp, source, log, number)?;
+        self.count_bad(shop, stamp, source, bad)?;
+        Ok(part.report().frames > 0)
+    }
+
+    // The collector's number for a log of a source. Where it is not there yet, it is the next.
+    fn number_of<T: Wait + Clock>(
+        &mut self,
+        shop: &Shop<'_, '_, 'c, T>,
+        source: usize,
+        log: usize,
+    ) -> Result<usize, AllocError> {
+        let (Some(state), Some(target)) = (self.sources.get_mut(source), shop.targets.get(source))
+        else {
+            return Ok(0);
+        };
+        if let Some((number, _)) = state.logs.get(log) {
+            return Ok(*number);
+        }
+        let number = self.collector.logs();
+        self.collector.also(target.replica)?;
+        state.logs.push((number, None))?;
+        Ok(number)
+    }
+
+    // Says how a log ends, where that changed.
+    fn say_status<T: Wait + Clock>(
+        &mut self,
+        shop: &Shop<'_, '_, 'c, T>,
+        stamp: &[u8],
+        source: usize,
+        log: usize,
+        number: usize,
+    ) -> Result<(), AllocError> {
+        let Some(report) = self.collector.reports().get(number) else {
+            return Ok(());
+        };
+        let Some(state) = self.sources.get_mut(source) else {
+            return Ok(());
+        };
+        if let Some((_, told)) = state.logs.get_mut(log)
+            && *told != Some(report.status)
+        {
+            *told = Some(report.status);
+            let mut line = Vec::new(shop.alloc);
+            put_source(&mut line, stamp, source, report)?;
+            shop.queue.say(shop.rt, line);
+        }
+        Ok(())
+    }
+
+    // Counts bad votes of a source, and sets it aside where they are too many.
+    fn count_bad<T: Wait + Clock>(
+        &mut self,
+        shop: &Shop<'_, '_, 'c, T>,
+        stamp: &[u8],
+        source: usize,
+        bad: usize,
+    ) -> Result<(), AllocError> {
+        let (Some(state), Some(target)) = (self.sources.get_mut(source), shop.targets.get(source))
+        else {
+            return Ok(());
+        };
+        state.bad = state.bad.saturating_add(bad);
+        if state.bad >= MOST_BAD_VOTES && !target.aside.swap(true, Ordering::SeqCst) {
+            return say_alarm(shop, stamp, b"set-aside", source);
+        }
+        Ok(())
+    }
+
+    // Audits what came so far, and says what is new.
+    fn audit<T: Files<File = File> + Wait + Clock>(
+        &mut self,
+        shop: &Shop<'_, '_, 'c, T>,
+        folder: &VerdictFolder<'_, '_, T>,
+        stamp: &[u8],
+    ) -> Result<(), AllocError> {
+        let (_evidence, report) = audit_so_far(shop.alloc, &self.collector)?;
+        self.say_commits(shop, stamp, &report)?;
+        self.say_conflict(shop, stamp, &report)?;
+        for verdict in report.verdicts() {
+            self.name(shop, folder, stamp, verdict)?;
+        }
+        Ok(())
+    }
+
+    fn say_commits<T: Wait + Clock>(
+        &mut self,
+        shop: &Shop<'_, '_, 'c, T>,
+        stamp: &[u8],
+        report: &Report,
+    ) -> Result<(), AllocError> {
+        // What was proved stays proved: where there are no more, there is nothing new.
+        if report.commits().len() == self.commits.len() {
+            return Ok(());
+        }
+        for commit in report.commits() {
+            if self.commits.contains(commit) {
+                continue;
+            }
+            let mut line = Vec::new(shop.alloc);
+            put_commit(&mut line, stamp, commit)?;
+            shop.queue.say(shop.rt, line);
+        }
+        self.commits = report.commits().to_vec(shop.alloc)?;
+        Ok(())
+    }
+
+    fn say_conflict<T: Wait + Clock>(
+        &mut self,
+        shop: &Shop<'_, '_, 'c, T>,
+        stamp: &[u8],
+        report: &Report,
+    ) -> Result<(), AllocError> {
+        if report.conflict() == self.conflict {
+            return Ok(());
+        }
+        self.conflict = report.conflict();
+        if let Some(conflict) = &self.conflict {
+            let mut line = Vec::new(shop.alloc);
+            put_conflict(&mut line, stamp, conflict)?;
+            shop.queue.say(shop.rt, line);
+        }
+        Ok(())
+    }
+
+    // Stores the verdict on a replica that was not named before, and says so.
+    fn name<T: Files<File = File> + Wait + Clock>(
+        &mut self,
+        shop: &Shop<'_, '_, 'c, T>,
+        folder: &VerdictFolder<'_, '_, T>,
+        stamp: &[u8],
+        verdict: &Verdict,
+    ) -> Result<(), AllocError> {
+        let Some(state) = self.verdicts.get_mut(usize::from(verdict.replica())) else {
+            return Ok(());
+        };
+        let VerdictState::None(taken) = *state else {
+            return Ok(());
+        };
+        let path = folder.path_of(verdict.replica(), taken)?;
+        let mut line = Vec::new(shop.alloc);
+        put_culprit(&mut line, stamp, verdict, path.as_bytes())?;
+        if folder.store(&path, verdict.as_bytes()).is_ok() {
+            *state = VerdictState::Stored;
+            shop.queue.say(shop.rt, line);
+            return Ok(());
+        }
+        *state = VerdictState::Unstored;
+        shop.queue.say(shop.rt, line);
+        let mut line = Vec::new(shop.alloc);
+        put_unstored(&mut line, stamp, path.as_bytes())?;
+        shop.queue.say(shop.rt, line);
+        self.pending.push(Pending {
+            replica: verdict.replica(),
+            path,
+            bytes: verdict.as_bytes().to_vec(shop.alloc)?,
+        })?;
+        Ok(())
+    }
+
+    // Tries again to store what could not be stored.
+    fn store_pending<T: Files<File = File> + Wait + Clock>(
+        &mut self,
+        shop: &Shop<'_, '_, 'c, T>,
+        folder: &VerdictFolder<'_, '_, T>,
+    ) -> Result<(), AllocError> {
+        let mut left = Vec::new(shop.alloc);
+        let pending = std::mem::replace(&mut self.pending, Vec::new(shop.alloc));
+        for verdict in pending {
+            if folder.store(&verdict.path, &verdict.bytes).is_err() {
+                left.push(verdict)?;
+                continue;
+            }
+            if let Some(state) = self.verdicts.get_mut(usize::from(verdict.replica)) {
+                *state = VerdictState::Stored;
+            }
+        }
+        self.pending = left;
+        Ok(())
+    }
+}
+
+// What stands in the folder for each replica. A verdict that the checker accepts is told.
+fn kept_verdicts<T: Files<File = File> + Wait + Clock>(
+    shop: &Shop<'_, '_, '_, T>,
+    folder: &VerdictFolder<'_, '_, T>,
+) -> Result<Vec<VerdictState>, AllocError> {
+    let stamp = stamp_now(shop, 0)?;
+    let mut states = Vec::new(shop.alloc);
+    for replica in 0..shop.committee.n() {
+        let path = folder.path_of(replica, false)?;
+        let mut line = Vec::new(shop.alloc);
+        let state = match folder.kept(shop.committee, replica)? {
+            Kept::Free => VerdictState::None(false),
+            Kept::Verdict => {
+                put_kept(&mut line, &stamp, replica, path.as_bytes())?;
+                VerdictState::Stored
+            }
+            Kept::Other => {
+                put_unstored(&mut line, &stamp, path.as_bytes())?;
+                VerdictState::None(true)
+            }
+        };
+        if !line.is_empty() {
+            shop.queue.say(shop.rt, line);
+        }
+        states.push(state)?;
+    }
+    Ok(states)
+}
+
+fn say_alarm<T: Wait + Clock>(
+    shop: &Shop<'_, '_, '_, T>,
+    stamp: &[u8],
+    word: &[u8],
+    source: usize,
+) -> Result<(), AllocError> {
+    if let Some(target) = shop.targets.get(source) {
+        let mut line = Vec::new(shop.alloc);
+        put_source_alarm(&mut line, stamp, word, source, target.replica)?;
+        shop.queue.say(shop.rt, line);
+    }
+    Ok(())
+}
+
+// What stands before each line of a round that is told now.
+fn stamp_now<T: Wait + Clock>(
+    shop: &Shop<'_, '_, '_, T>,
+    round: u64,
+) -> Result<Vec<u8>, AllocError> {
+    let time = utc_text(shop.alloc, seconds_now(shop.rt))?;
+    stamp(shop.alloc, &time, round)
+}
+
+// The seconds since 1970, or 0 where the clock does not tell them.
+fn seconds_now(clock: &impl Clock) -> u64 {
+    let Ok(now) = SystemTime::now(clock) else {
+        return 0;
+    };
+    match now.duration_since(UNIX_EPOCH) {
+        Ok(since) => since.as_secs(),
+        Err(_) => 0,
+    }
+}

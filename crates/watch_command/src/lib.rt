@@ -1,0 +1,18 @@
+//! An auditor that watches the logs of a running ledger's replicas: its words, its sources, the threads that read them, one
+//! that collects and audits, the verdicts' files and the lines. Needs threads that wait, sockets and a clock.
+#![tactic(auto)]
+
+mod collecting;
+mod fault;
+mod following;
+mod patience;
+mod program;
+mod queue;
+mod shop;
+mod verdict_files;
+mod words;
+
+pub use fault::{Fault, FolderFile, WatchFault};
+pub use program::{CULPRITS, DONE, Host, run_watch};
+pub use program_parts::FAULT;
+pub use words::{MOST_SOURCES, READS_INPUT};

@@ -1,0 +1,265 @@
+//! A watch from its words to its end.
+
+ghost use Rattle.std.specs.Prelude.{◌≡◌, ◌≢◌, ◌⊎◌, IfOk};
+ghost use Rattle.printed_lines.specs.Printed.{Told};
+ghost use Rattle.watch_command.specs.Ends.{Fault as FaultValue};
+ghost use Rattle.watch_command.specs.FaultLines.{watch_fault_line};
+
+use crate::collecting::collect;
+use crate::fault::{Fault, WatchFault, fault_of_evidence};
+use crate::following::follow;
+use crate::patience::addresses_of;
+use crate::queue::Queue;
+use crate::shop::{Place, Shop, Target};
+use crate::verdict_files::VerdictFolder;
+use crate::words::{Words, read_words};
+use blocks::CommitteeView;
+use program_parts::{
+    Origin, ProgramFault, SourceFault, SourceWord, exit_status, parse_committee, read_committee,
+};
+use std::alloc::{AllocError, Global};
+use std::fs::{File, Files};
+use std::net::{Net, TcpListener, TcpStream};
+use std::sync::Wait;
+use std::sync::atomic::AtomicBool;
+use std::thread::Threads;
+use std::time::Clock;
+use std::{io, thread};
+use streams::Sink;
+
+/// The watch ended, and had found no culprit.
+pub const DONE: u8 = 0;
+
+/// The watch ended, and has a verdict on each of one or more culprits.
+pub const CULPRITS: u8 = 3;
+
+/// What a watch works with.
+#[derive(Drop)]
+pub struct Host<'a, T> {
+    /// Files, threads, locks, a clock and sockets.
+    pub rt: &'a T,
+    /// Memory.
+    pub alloc: Global,
+    /// Whether the input has ended, of a watch that its end ends.
+    pub input_ended: &'a AtomicBool,
+}
+
+// What one thread does.
+#[derive(Drop)]
+enum Job {
+    Follow(usize),
+    Collect,
+}
+
+/// Runs a watch as the words say, until what they say ends it, or until it is killed. Answers the exit status: 3 where there were
+/// culprits, else 0, and 2 at a fault, whose line then goes to `faults`.
+pub fn run_watch<
+    'h,
+    T: Files<File = File>
+        + Threads
+        + Wait
+        + Clock
+        + Net<Listener = TcpListener, Stream = TcpStream>
+        + Sync,
+    W: Sink + Send,
+    E: Sink,
+>(host: &'h Host<'h, T>, words: &[String], out: &mut W, faults: &mut E) -> u8
+where
+    T::Dir: Send,
+    ensures status { (result ≡ 0) ⊎ ((result ≡ 2) ⊎ (result ≡ 3)) }
+    ensures quiet { result ≢ 2 → faults.new ≡ faults.old }
+    ensures told { result ≡ 2 → (fault : FaultValue)
+        × Told (E.text faults.old) (E.text faults.new) (E.failed faults.old) (E.failed faults.new)
+        (watch_fault_line fault) }
+{
+    exit_status(run(host, words, out), faults)
+}
+
+fn run<
+    'a,
+    'h,
+    T: Files<File = File>
+        + Threads
+        + Wait
+        + Clock
+        + Net<Listener = TcpListener, Stream = TcpStream>
+        + Sync,
+    W: Sink + Send,
+>(host: &'h Host<'h, T>, words: &'a [String], out: &mut W) -> Result<u8, Fault<'a>>
+where
+    T::Dir: Send,
+    ensures { IfOk result (λ status. (status ≡ 0) ⊎ (status ≡ 3)) }
+{
+    let words = read_words(host.alloc, words)?;
+    let bytes = read_committee(host.rt, host.alloc, words.committee)?;
+    let committee = parse_committee(&bytes)?;
+    let folder = VerdictFolder {
+        files: host.rt,
+        alloc: host.alloc,
+        path: words.folder,
+    };
+    let lock = folder.lock()?;
+    let targets = targets_of(host, &words)?;
+    let found = match watch(host, &words, &committee, &targets, out) {
+        Ok(found) => found,
+        Err(fault) => return Err(fault),
+    };
+    drop(lock);
+    if found { Ok(CULPRITS) } else { Ok(DONE) }
+}
+
+// The sources, the names of servers resolved.
+fn targets_of<'a, T: Net<Listener = TcpListener, Stream = TcpStream>>(
+    host: &Host<'_, T>,
+    words: &Words<'a>,
+) -> Result<Vec<Target<'a>>, Fault<'a>> {
+    let mut targets = Vec::new(host.alloc);
+    for (i, word) in words.sources.iter().enumerate() {
+        match place_of(host, word) {
+            Ok(place) => targets.push(Target {
+                replica: word.replica,
+                place,
+                aside: AtomicBool::new(false),
+            })?,
+            Err(error) => {
+                let fault = Fault::Own(WatchFault::Sources(SourceFault::Word(i)));
+                return Err(Fault::unless_memory(&error, fault));
+            }
+        }
+    }
+    Ok(targets)
+}
+
+fn place_of<'a, T: Net<Listener = TcpListener, Stream = TcpStream>>(
+    host: &Host<'_, T>,
+    word: &SourceWord<'a>,
+) -> io::Result<Place<'a>> {
+    match word.origin {
+        Origin::File(path) => Ok(Place::File(path)),
+        Origin::Tcp(name) => Ok(Place::Server(addresses_of(host.alloc, host.rt, name)?)),
+    }
+}
+
+// Watches the sources, with a thread for each, one that collects, and one that prints.
+fn watch<
+    'x,
+    'w,
+    T: Files<File = File>
+        + Threads
+        + Wait
+        + Clock
+        + Net<Listener = TcpListener, Stream = TcpStream>
+        + Sync,
+    W: Sink + Send,
+>(
+    host: &'x Host<'x, T>,
+    words: &'x Words<'w>,
+    committee: &'x CommitteeView<'x>,
+    targets: &'x [Target<'w>],
+    out: &mut W,
+) -> Result<bool, Fault<'static>>
+where
+    T::Dir: Send,
+{
+    let queue = Queue::new(host.alloc);
+    let shop = Shop::new(
+        host.rt,
+        host.alloc,
+        committee,
+        words,
+        targets,
+        &queue,
+        host.input_ended,
+    )?;
+    let mut jobs = Some(jobs_of(host.alloc, targets.len())?);
+    let (worked, printed) = thread::join_mut(
+        host.rt,
+        &mut || work_all(&shop, jobs.take()),
+        &mut || print_all(&shop, &mut *out),
+    );
+    if printed.is_err() {
+        return Err(Fault::Output);
+    }
+    match worked {
+        Ok(found) => Ok(found),
+        Err(fault) => Err(fault),
+    }
+}
+
+fn jobs_of(alloc: Global, sources: usize) -> Result<Vec<Job>, AllocError> {
+    let mut jobs = Vec::new(alloc);
+    jobs.push(Job::Collect)?;
+    for source in 0..sources {
+        jobs.push(Job::Follow(source))?;
+    }
+    Ok(jobs)
+}
+
+// Prints lines until no more come. Where one can't be printed the watch ends.
+fn print_all<T: Wait + Clock, W: Sink>(
+    shop: &Shop<'_, '_, '_, T>,
+    out: &mut W,
+) -> Result<(), streams::Fault> {
+    let printed = shop.queue.print_all(shop.rt, shop.alloc, out);
+    if printed.is_err() {
+        shop.end();
+    }
+    printed
+}
+
+// A thread for each job. Answers whether there are culprits, once all have ended.
+fn work_all<
+    T: Files<File = File>
+        + Threads
+        + Wait
+        + Clock
+        + Net<Listener = TcpListener, Stream = TcpStream>
+        + Sync,
+>(shop: &Shop<'_, '_, '_, T>, jobs: Option<Vec<Job>>) -> Result<bool, Fault<'static>>
+where
+    T::Dir: Send,
+{
+    let outcome = match jobs {
+        Some(jobs) => thread::map_vec(shop.rt, jobs, &|job: Job| { work(shop, job) }),
+        None => Ok(Vec::new(shop.alloc)),
+    };
+    shop.end();
+    shop.queue.close(shop.rt);
+    let mut found = false;
+    for end in outcome? {
+        match end {
+            Ok(culprits) => found = found || culprits,
+            Err(fault) => return Err(fault),
+        }
+    }
+    Ok(found)
+}
+
+// Does a job until the watch ends. Where it can't go on, the watch ends.
+fn work<
+    T: Files<File = File>
+        + Threads
+        + Wait
+        + Clock
+        + Net<Listener = TcpListener, Stream = TcpStream>
+        + Sync,
+>(shop: &Shop<'_, '_, '_, T>, job: Job) -> Result<bool, Fault<'static>> {
+    if !shop.begin() {
+        return Err(Fault::Own(WatchFault::Threads));
+    }
+    let outcome = match job {
+        Job::Collect => {
+            let outcome = collect(shop);
+            shop.end();
+            outcome
+        }
+        Job::Follow(source) => match follow(shop, source) {
+            Ok(()) => Ok(false),
+            Err(refusal) => Err(fault_of_evidence(refusal)),
+        },
+    };
+    if outcome.is_err() {
+        shop.end();
+    }
+    outcome
+}

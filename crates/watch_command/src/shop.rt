@@ -1,0 +1,213 @@
+//! What the threads of a watch share.
+
+use crate::queue::Queue;
+use crate::words::Words;
+use blocks::CommitteeView;
+use std::alloc::{AllocError, Global};
+use std::net::SocketAddr;
+use std::sync::atomic::{AtomicBool, AtomicU32, Ordering};
+use std::sync::{Condvar, Mutex, Wait};
+use std::thread;
+use std::time::{Clock, Duration};
+use watch_collector::Part;
+
+/// How long the threads are waited for to start, in looks a hundredth of a second apart.
+const MOST_LOOKS: u32 = 1_000;
+
+const LOOK_MILLISECONDS: u64 = 10;
+
+/// How long one wait for another thread is, in milliseconds: so soon an ending is noticed.
+const TICK_MILLISECONDS: u64 = 250;
+
+/// What the thread of a source tells.
+#[derive(Drop)]
+pub(crate) enum Told<'c> {
+    /// More came of this log of the source, or how it ends changed.
+    Part(usize, Part<'c>),
+    /// Its log went back.
+    WentBack,
+    /// It gave one log too many.
+    Beyond,
+}
+
+/// What is told of a source.
+#[derive(Drop)]
+pub(crate) struct Delivery<'c> {
+    pub source: usize,
+    pub told: Told<'c>,
+}
+
+/// Where a source's log comes from.
+#[derive(Drop)]
+pub(crate) enum Place<'a> {
+    File(&'a str),
+    Server(Vec<SocketAddr>),
+}
+
+/// A source of a watch.
+#[derive(Drop)]
+pub(crate) struct Target<'a> {
+    pub replica: u16,
+    pub place: Place<'a>,
+    /// No more of it is read.
+    pub aside: AtomicBool,
+}
+
+// One place for each source.
+#[derive(Drop)]
+struct Counter<'c> {
+    places: Vec<Option<Delivery<'c>>>,
+}
+
+impl<'c> Counter<'c> {
+    fn is_free(&self, source: usize) -> bool {
+        match self.places.get(source) {
+            Some(place) => place.is_none(),
+            None => false,
+        }
+    }
+
+    fn put(&mut self, delivery: Delivery<'c>) {
+        if let Some(place) = self.places.get_mut(delivery.source) {
+            *place = Some(delivery);
+        }
+    }
+
+    fn is_empty(&self) -> bool {
+        self.places.iter().all(|place| place.is_none())
+    }
+
+    fn take(&mut self, alloc: Global) -> Result<Vec<Delivery<'c>>, AllocError> {
+        let mut taken = Vec::with_capacity(alloc, self.places.len())?;
+        for place in self.places.iter_mut() {
+            if let Some(delivery) = place.take() {
+                taken.push(delivery)?;
+            }
+        }
+        Ok(taken)
+    }
+}
+
+/// What the threads share. Each source hands over one part at a time, and goes on when that was taken.
+#[derive(Drop)]
+pub(crate) struct Shop<'a, 'w, 'c, T> {
+    pub rt: &'a T,
+    pub alloc: Global,
+    pub committee: &'a CommitteeView<'c>,
+    pub words: &'a Words<'w>,
+    pub targets: &'a [Target<'w>],
+    pub queue: &'a Queue,
+    pub input_ended: &'a AtomicBool,
+    counter: Mutex<Counter<'c>>,
+    came: Condvar,
+    taken: Condvar,
+    pub ending: AtomicBool,
+    /// Some source is read anew.
+    pub reads_anew: AtomicBool,
+    wanted: u32,
+    begun: AtomicU32,
+}
+
+impl<'a, 'w, 'c, T: Wait + Clock> Shop<'a, 'w, 'c, T> {
+    /// Nothing was told yet.
+    pub fn new(
+        rt: &'a T,
+        alloc: Global,
+        committee: &'a CommitteeView<'c>,
+        words: &'a Words<'w>,
+        targets: &'a [Target<'w>],
+        queue: &'a Queue,
+        input_ended: &'a AtomicBool,
+    ) -> Result<Shop<'a, 'w, 'c, T>, AllocError> {
+        let mut places = Vec::new(alloc);
+        for _ in 0..targets.len() {
+            places.push(None)?;
+        }
+        let wanted = u32::try_from(targets.len())
+            .unwrap_or(u32::MAX)
+            .saturating_add(1);
+        Ok(Shop {
+            rt,
+            alloc,
+            committee,
+            words,
+            targets,
+            queue,
+            input_ended,
+            counter: Mutex::new(Counter { places }),
+            came: Condvar::new(),
+            taken: Condvar::new(),
+            ending: AtomicBool::new(false),
+            reads_anew: AtomicBool::new(false),
+            wanted,
+            begun: AtomicU32::new(0),
+        })
+    }
+
+    pub fn is_ending(&self) -> bool {
+        self.ending.load(Ordering::SeqCst)
+    }
+
+    /// All threads are to end.
+    pub fn end(&self) {
+        self.ending.store(true, Ordering::SeqCst);
+        self.came.notify_all();
+        self.taken.notify_all();
+    }
+
+    /// One thread more has begun. Waits until all have; where one does not, all are to end. Answers whether they have.
+    pub fn begin(&self) -> bool {
+        let _before = self.begun.fetch_add(1, Ordering::SeqCst);
+        for _ in 0..MOST_LOOKS {
+            if self.begun.load(Ordering::SeqCst) >= self.wanted {
+                return true;
+            }
+            if self.is_ending() {
+                return false;
+            }
+            thread::sleep(self.rt, Duration::from_millis(LOOK_MILLISECONDS));
+        }
+        self.end();
+        false
+    }
+
+    /// Hands over what is told of a source, once what was told of it before was taken.
+    pub fn hand_over(&self, delivery: Delivery<'c>) {
+        let mut guard = self.counter.lock(self.rt);
+        for _ in self.rt.forever() {
+            if self.is_ending() || guard.is_free(delivery.source) {
+                break;
+            }
+            let tick = Duration::from_millis(TICK_MILLISECONDS);
+            (guard, _) = self.taken.wait_timeout(self.rt, guard, tick);
+        }
+        guard.put(delivery);
+        drop(guard);
+        self.came.notify_one();
+    }
+
+    /// What was told, or nothing where nothing comes within this time.
+    pub fn take_all(&self, patience: Duration) -> Result<Vec<Delivery<'c>>, AllocError> {
+        let mut guard = self.counter.lock(self.rt);
+        if guard.is_empty() && !self.is_ending() {
+            (guard, _) = self.came.wait_timeout(self.rt, guard, patience);
+        }
+        let taken = guard.take(self.alloc);
+        drop(guard);
+        self.taken.notify_all();
+        taken
+    }
+
+    /// Waits until the next round of a source, or until the watch ends.
+    pub fn pause(&self) {
+        let mut left = u64::from(self.words.every);
+        for _ in 0..left {
+            if left == 0 || self.is_ending() {
+                return;
+            }
+            let step = left.min(TICK_MILLISECONDS);
+            thread::sleep(self.rt, Duration::from_millis(step));
+            left -= step;
+        }
+    }
+}

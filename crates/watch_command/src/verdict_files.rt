@@ -1,0 +1,150 @@
+//! The verdicts' files of a folder.
+
+ghost use Rattle.std.specs.Prelude.{◌≢◌, IfErr};
+
+use crate::fault::{Fault, FolderFile, WatchFault};
+use blocks::CommitteeView;
+use program_parts::{InputFault, MOST_OF_A_SHORT_FILE, ProgramFault, read_file};
+use std::alloc::{AllocError, Global};
+use std::fs::{File, Files, OpenOptions};
+use std::io::{ErrorKind, Write};
+use std::os::unix::fs::OpenOptionsExt;
+use std::{fs, io};
+use verdict_checker::check;
+
+/// The mode of a new verdict's file: everyone may read it.
+const VERDICT_MODE: u32 = 0o644;
+
+/// The mode of a new lock's file.
+const LOCK_MODE: u32 = 0o600;
+
+/// What stands under the name of a replica's verdict.
+#[derive(Clone, Copy, Debug, PartialEq, Eq)]
+pub(crate) enum Kept {
+    /// Nothing.
+    Free,
+    /// A verdict on it that the checker accepts.
+    Verdict,
+    /// Something else, which stays.
+    Other,
+}
+
+/// The folder of the verdicts.
+#[derive(Drop)]
+pub(crate) struct VerdictFolder<'f, 'a, F> {
+    pub files: &'f F,
+    pub alloc: Global,
+    pub path: &'a str,
+}
+
+impl<'a, F: Files<File = File>> VerdictFolder<'_, 'a, F> {
+    /// Sees that it is a folder, and asks for its lock, which is given up when the file that is answered is dropped.
+    pub fn lock(&self) -> Result<File, Fault<'a>>
+        ensures { IfErr result (λ fault. fault ≢ ProgramFault.Output) }
+    {
+        match fs::metadata(self.files, self.path) {
+            Ok(found) if found.is_dir() => {}
+            Ok(_) => return Err(Fault::File(self.path)),
+            Err(error) => return Err(Fault::unless_memory(&error, Fault::File(self.path))),
+        }
+        let fault = Fault::Own(WatchFault::FileIn(self.path, FolderFile::Lock));
+        let folder = self.path;
+        let path = format!(in self.alloc; "{folder}/lock")?;
+        let opened = OpenOptions::new()
+            .read(true)
+            .write(true)
+            .create(true)
+            .mode(LOCK_MODE)
+            .open(self.files, &path);
+        match opened {
+            Ok(file) => match file.try_lock() {
+                Ok(()) => Ok(file),
+                Err(_) => Err(fault),
+            },
+            Err(error) => Err(Fault::unless_memory(&error, fault)),
+        }
+    }
+
+    /// The path of the verdict on a replica, the second one where something else stands under the first.
+    pub fn path_of(&self, replica: u16, second: bool) -> Result<String, AllocError> {
+        let folder = self.path;
+        if second {
+            return format!(in self.alloc; "{folder}/verdict-{replica}-2.hsx");
+        }
+        format!(in self.alloc; "{folder}/verdict-{replica}.hsx")
+    }
+
+    /// What stands under the name of a replica's verdict. A file that a watch began there and did not finish is removed.
+    pub fn kept(&self, committee: &CommitteeView, replica: u16) -> Result<Kept, AllocError> {
+        for second in [false, true] {
+            let path = self.path_of(replica, second)?;
+            self.remove_unfinished(&path)?;
+        }
+        let path = self.path_of(replica, false)?;
+        match fs::symlink_metadata(self.files, &path) {
+            Err(error) if error.kind() == ErrorKind::NotFound => Ok(Kept::Free),
+            Ok(found) if found.is_file() => self.judge(committee, replica, &path),
+            _ => Ok(Kept::Other),
+        }
+    }
+
+    // Whether the file at the path has a verdict on this replica that the checker accepts.
+    fn judge(
+        &self,
+        committee: &CommitteeView,
+        replica: u16,
+        path: &str,
+    ) -> Result<Kept, AllocError> {
+        let bytes = match read_file(self.files, self.alloc, path, MOST_OF_A_SHORT_FILE) {
+            Ok(bytes) => bytes,
+            Err(InputFault::Memory) => return Err(AllocError),
+            Err(InputFault::Unreadable) => return Ok(Kept::Other),
+        };
+        match check(committee, &bytes) {
+            Ok(finding) if finding.replica == replica => Ok(Kept::Verdict),
+            _ => Ok(Kept::Other),
+        }
+    }
+
+    fn remove_unfinished(&self, path: &str) -> Result<(), AllocError> {
+        let beside = format!(in self.alloc; "{path}.new")?;
+        if let Ok(found) = fs::symlink_metadata(self.files, &beside)
+            && found.is_file()
+        {
+            // What can't be removed stays, and then the verdict can't be stored: that is told.
+            let _ = fs::remove_file(self.files, &beside);
+        }
+        Ok(())
+    }
+
+    /// Stores a verdict at the path, where nothing stands: whole and synced, or not at all.
+    pub fn store(&self, path: &str, bytes: &[u8]) -> io::Result<()> {
+        match fs::symlink_metadata(self.files, path) {
+            Err(error) if error.kind() == ErrorKind::NotFound => {}
+            Ok(_) => return Err(io::Error::from(ErrorKind::AlreadyExists)),
+            Err(error) => return Err(error),
+        }
+        let beside = format!(in self.alloc; "{path}.new")?;
+        let file = OpenOptions::new()
+            .write(true)
+            .create_new(true)
+            .mode(VERDICT_MODE)
+            .open(self.files, &beside)?;
+        let stored = match fill(file, bytes) {
+            Ok(()) => fs::rename(self.files, beside.as_str(), path),
+            Err(error) => Err(error),
+        };
+        if stored.is_err() {
+            // What can't be removed stays, and the next try says so.
+            let _ = fs::remove_file(self.files, beside.as_str());
+        }
+        stored?;
+        // The name is on the disk once the folder is.
+        File::open(self.files, self.path)?.sync_all()
+    }
+}
+
+fn fill(mut file: File, bytes: &[u8]) -> io::Result<()> {
+    file.write_all(bytes)?;
+    file.sync_all()
+}

@@ -1,0 +1,182 @@
+//! How a watch is called.
+
+ghost use Rattle.std.specs.Prelude.{◌≡◌, ◌≢◌, ◌≤◌, IfErr, IfOk, IfSome, length};
+
+use crate::fault::{Fault, WatchFault};
+use clap::error::ErrorKind;
+use clap::{Arg, ArgAction, ArgMatches, Command as Grammar, Error};
+use printed_lines::number_in;
+use program_parts::{ProgramFault, SourceFault, SourceWord};
+use std::alloc::{AllocError, Global};
+
+/// How many sources a watch has at most.
+pub const MOST_SOURCES: usize = 64;
+
+/// The option with which standard input is read to its end.
+pub const READS_INPUT: &str = "--until-input-ends";
+
+/// How many milliseconds lie between two rounds of a source, where nothing is said.
+const EVERY: u32 = 1_000;
+
+/// After how many seconds all of a log is read anew, where nothing is said, and at most.
+const REREAD: u64 = 3_600;
+
+const MOST_REREAD: u64 = 86_400;
+
+/// What the words ask for.
+#[derive(Drop)]
+pub(crate) struct Words<'a> {
+    pub committee: &'a str,
+    pub folder: &'a str,
+    pub sources: Vec<SourceWord<'a>>,
+    /// How many milliseconds lie between two rounds of a source.
+    pub every: u32,
+    /// After how many seconds all of a log is read anew.
+    pub reread: u64,
+    pub until_culprit: bool,
+    pub until_input_ends: bool,
+}
+
+/// Reads the words, without the program's name. Refused as usage where they are not written as docs/hs_watch.md says, and else
+/// for the first source that is not.
+pub(crate) fn read_words<'a>(alloc: Global, words: &'a [String]) -> Result<Words<'a>, Fault<'a>>
+    ensures refused { IfErr result (λ fault. fault ≢ ProgramFault.Output) }
+{
+    // `clap` would pass over it.
+    if words.iter().any(|word| word.as_str() == "--") {
+        return Err(ProgramFault::Usage);
+    }
+    match parsed(alloc, words) {
+        Ok(matches) => given(alloc, &matches),
+        Err(error) if error.kind() == ErrorKind::OutOfMemory => Err(ProgramFault::Memory),
+        Err(_) => Err(ProgramFault::Usage),
+    }
+}
+
+fn parsed<'a>(alloc: Global, words: &'a [String]) -> Result<ArgMatches<'a>, Error> {
+    let grammar = Grammar::new(alloc, "hs_watch").no_binary_name(true);
+    with_switches(alloc, with_places(alloc, grammar)?)?.try_get_matches_from(words)
+}
+
+fn with_places<'a>(alloc: Global, grammar: Grammar<'a>) -> Result<Grammar<'a>, AllocError> {
+    let sources = Arg::new(alloc, "SOURCE")
+        .num_args(0..)
+        .action(ArgAction::Append);
+    grammar
+        .arg(Arg::new(alloc, "COMMITTEE").required(true))?
+        .arg(Arg::new(alloc, "OUTDIR").required(true))?
+        .arg(sources)
+}
+
+fn with_switches<'a>(alloc: Global, grammar: Grammar<'a>) -> Result<Grammar<'a>, AllocError> {
+    grammar
+        .arg(Arg::new(alloc, "SECONDS").long("every"))?
+        .arg(Arg::new(alloc, "REREAD").long("reread"))?
+        .arg(switch(alloc, "until-culprit"))?
+        .arg(switch(alloc, "until-input-ends"))
+}
+
+fn switch<'a>(alloc: Global, name: &'a str) -> Arg<'a> {
+    Arg::new(alloc, name).long(name).action(ArgAction::SetTrue)
+}
+
+fn given<'a>(alloc: Global, matches: &ArgMatches<'a>) -> Result<Words<'a>, Fault<'a>>
+    ensures refused { IfErr result (λ fault. fault ≢ ProgramFault.Output) }
+{
+    let (Some(committee), Some(folder), Some(every), Some(reread)) = (
+        matches.get_str("COMMITTEE"),
+        matches.get_str("OUTDIR"),
+        every_in(matches.get_str("SECONDS")),
+        reread_in(matches.get_str("REREAD")),
+    ) else {
+        return Err(ProgramFault::Usage);
+    };
+    let sources = matches.get_strs("SOURCE").unwrap_or(&[]);
+    if committee.is_empty()
+        || folder.is_empty()
+        || sources.is_empty()
+        || sources.len() > MOST_SOURCES
+    {
+        return Err(ProgramFault::Usage);
+    }
+    Ok(Words {
+        committee,
+        folder,
+        sources: sources_in(alloc, sources)?,
+        every,
+        reread,
+        until_culprit: is_set(matches, "until-culprit"),
+        until_input_ends: is_set(matches, "until-input-ends"),
+    })
+}
+
+fn is_set(matches: &ArgMatches<'_>, name: &str) -> bool {
+    matches.get_str(name) == Some("true")
+}
+
+// The sources that the words name. The first word that is not as written is the fault, counted from 0.
+fn sources_in<'a>(alloc: Global, words: &[&'a str]) -> Result<Vec<SourceWord<'a>>, Fault<'a>>
+    ensures refused { IfErr result (λ fault. fault ≢ ProgramFault.Output) }
+{
+    let mut sources = Vec::new(alloc);
+    for (i, word) in words.iter().enumerate() {
+        match SourceWord::of(word) {
+            Some(source) => sources.push(source)?,
+            None => return Err(Fault::Own(WatchFault::Sources(SourceFault::Word(i)))),
+        }
+    }
+    Ok(sources)
+}
+
+fn every_in(word: Option<&str>) -> Option<u32>
+    ensures { IfSome result (λ every. (100 ≤ every) × (every ≤ 3600000)) }
+{
+    let every = match word {
+        Some(word) => milliseconds_in(word)?,
+        None => u64::from(EVERY),
+    };
+    if every < 100 || every > 3_600_000 {
+        return None;
+    }
+    Some(every as u32)
+}
+
+fn reread_in(word: Option<&str>) -> Option<u64>
+    ensures { IfSome result (λ reread. (1 ≤ reread) × (reread ≤ 86400)) }
+{
+    let reread = match word {
+        Some(word) => number_in(word.as_bytes())?,
+        None => REREAD,
+    };
+    if reread < 1 || reread > MOST_REREAD {
+        return None;
+    }
+    Some(reread)
+}
+
+// So many seconds as milliseconds: a number, and behind a point one to three digits, if there is one.
+fn milliseconds_in(word: &str) -> Option<u64> {
+    let Some((whole, part)) = word.split_once('.') else {
+        return number_in(word.as_bytes())?.checked_mul(1_000);
+    };
+    let whole = number_in(whole.as_bytes())?.checked_mul(1_000)?;
+    whole.checked_add(thousandths(part.as_bytes())?)
+}
+
+// The thousandths that one to three digits behind a point stand for.
+fn thousandths(digits: &[u8]) -> Option<u64> {
+    if digits.is_empty() || digits.len() > 3 {
+        return None;
+    }
+    let mut worth: u64 = 100;
+    let mut sum: u64 = 0;
+    for digit in digits {
+        if !digit.is_ascii_digit() {
+            return None;
+        }
+        let value = u64::from(digit.saturating_sub(b'0'));
+        sum = sum.saturating_add(value.saturating_mul(worth));
+        worth /= 10;
+    }
+    Some(sum)
+}

@@ -1,0 +1,2 @@
+pub mod WatchLines
+pub mod Times

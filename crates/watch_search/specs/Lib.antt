@@ -1,0 +1,3 @@
+pub mod Growth
+pub mod Untouched
+pub mod Audits

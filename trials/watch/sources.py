@@ -1,0 +1,132 @@
+"""What the trials of hs_watch share: servers that hand out given frames, honest or not, and watches over them."""
+import contextlib, os, shutil, socket, struct, subprocess, tempfile, threading, time
+
+HERE = os.path.dirname(os.path.abspath(__file__))
+TOP = os.path.dirname(os.path.dirname(HERE))
+COMMITTEE = f"{TOP}/examples/committee.hsc"
+WATCH = f"{TOP}/crates/hs_watch/out/hs_watch"
+# Where the own vote's signature begins in an entry of kind 3.
+SIGNATURE_AT = 169 + 41
+
+
+class Failed(Exception):
+    """A trial found what must not be."""
+
+
+@contextlib.contextmanager
+def trial():
+    """A new folder for a trial, which goes with it. What must not be is told in a line, with status 1."""
+    if not os.path.exists(WATCH):
+        raise SystemExit(f"{WATCH} is not built")
+    room = tempfile.mkdtemp(prefix="watch-")
+    try:
+        yield room
+    except Failed as failed:
+        raise SystemExit(f"FAILED: {failed}")
+    finally:
+        shutil.rmtree(room, ignore_errors=True)
+
+
+def frames_of(path):
+    """The frames of an export."""
+    text, at, frames = open(path, "rb").read(), 4, []
+    while (length := struct.unpack(">I", text[at : at + 4])[0]) > 0:
+        frames.append(text[at + 4 : at + 4 + length])
+        at += 4 + length
+    return frames
+
+
+def fork():
+    """The logs of the fork's replicas 0 and 3."""
+    return frames_of(f"{TOP}/examples/fork/log0.hsl"), frames_of(f"{TOP}/examples/fork/log3.hsl")
+
+
+def bad_votes(frame, count):
+    """Entries that differ in the own vote's signature, which is wrong in each."""
+    return [frame[: SIGNATURE_AT + k] + bytes([frame[SIGNATURE_AT + k] ^ 1]) + frame[SIGNATURE_AT + k + 1 :] for k in range(count)]
+
+
+def export_of(frames):
+    """The stream in which frames are handed out."""
+    return b"HSL1" + b"".join(struct.pack(">I", len(frame)) + frame for frame in frames) + struct.pack(">II", 0, len(frames))
+
+
+class Server:
+    """Hands out frames, which may be changed, in a manner that may be changed: whole, cut, hang, drip, reset or endless."""
+
+    def __init__(self, frames=(), manner="whole"):
+        self.frames, self.manner, self.asked = list(frames), manner, []
+        self.listener = socket.create_server(("127.0.0.1", 0), backlog=64)
+        self.address = "127.0.0.1:%d" % self.listener.getsockname()[1]
+        threading.Thread(target=self.serve, daemon=True).start()
+
+    def serve(self):
+        while True:
+            stream, _ = self.listener.accept()
+            threading.Thread(target=self.answer, args=(stream,), daemon=True).start()
+
+    def answer(self, stream):
+        with contextlib.suppress(OSError), stream:
+            request = b""
+            while len(request) < 12:
+                piece = stream.recv(12 - len(request))
+                if not piece:
+                    return
+                request += piece
+            first, most = struct.unpack(">II", request[4:])
+            self.asked.append((first, most))
+            self.give(stream, export_of(self.frames[first : first + most]))
+
+    def give(self, stream, text):
+        if self.manner == "whole":
+            stream.sendall(text)
+        elif self.manner == "cut":
+            stream.sendall(text[:-3])
+        elif self.manner == "hang":
+            threading.Event().wait(600)
+        elif self.manner == "reset":
+            stream.setsockopt(socket.SOL_SOCKET, socket.SO_LINGER, struct.pack("ii", 1, 0))
+        elif self.manner == "drip":
+            for byte in text:
+                stream.sendall(bytes([byte]))
+                time.sleep(0.2)
+        elif self.manner == "endless":
+            stream.sendall(b"HSL1")
+            while True:
+                stream.sendall(struct.pack(">I", 65536) + bytes(65536))
+
+
+class Watch:
+    """A watch over some servers: words are replicas beside servers, or as they are."""
+
+    def __init__(self, folder, sources, *words, every="0.1"):
+        named = [f"{replica}=tcp:{server.address}" for replica, server in sources]
+        self.process = subprocess.Popen([WATCH, COMMITTEE, folder, *named, *words, "--every", every], stdin=subprocess.PIPE, stdout=subprocess.PIPE, stderr=subprocess.PIPE, text=True)
+        self.lines, self.begun = [], time.monotonic()
+        threading.Thread(target=self.read, daemon=True).start()
+
+    def read(self):
+        for line in self.process.stdout:
+            stamp, _, body = line.rstrip("\n").partition(" round ")
+            time.strptime(stamp, "%Y-%m-%dT%H:%M:%SZ")
+            self.lines.append(body.partition(" ")[2])
+
+    def see(self, line, seconds=20):
+        """Waits for a line."""
+        until = time.monotonic() + seconds
+        while line not in self.lines:
+            if time.monotonic() > until:
+                raise Failed(f"no line {line!r} within {seconds} s, only {self.lines}, and the watch ended with {self.process.poll()}")
+            time.sleep(0.02)
+
+    def end(self, status, seconds=60):
+        """Ends its input, and waits for its end."""
+        if self.process.stdin:
+            self.process.stdin.close()
+        try:
+            ended = self.process.wait(seconds)
+        except subprocess.TimeoutExpired:
+            self.process.kill()
+            raise Failed(f"it did not end within {seconds} s: {self.lines}")
+        if ended != status:
+            raise Failed(f"it ended with {ended}, not {status}: {self.lines}, {self.process.stderr.read()}")
