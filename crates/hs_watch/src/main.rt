@@ -3,12 +3,11 @@
 
 use program_parts::run_main;
 use std::alloc::Global;
-use std::env;
 use std::io::{Read, Stderr, Stdin, Stdout};
 use std::process::ExitCode;
 use std::sync::Arc;
 use std::sync::atomic::{AtomicBool, Ordering};
-use std::thread;
+use std::{env, thread};
 use streams::StdSink;
 use watch_command::{FAULT, Host, READS_INPUT, run_watch};
 

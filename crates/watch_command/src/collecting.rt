@@ -395,7 +395,8 @@ fn kept_verdicts<T: Files<File = File> + Wait + Clock>(
         let mut line = Vec::new(shop.alloc);
         let state = match folder.kept(shop.committee, replica)? {
             Kept::Free => VerdictState::None(false),
-            Kept::Verdict => {
+            Kept::Verdict(second) => {
+                let path = folder.path_of(replica, second)?;
                 put_kept(&mut line, &stamp, replica, path.as_bytes())?;
                 VerdictState::Stored
             }

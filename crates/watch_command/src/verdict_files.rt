@@ -23,8 +23,9 @@ const LOCK_MODE: u32 = 0o600;
 pub(crate) enum Kept {
     /// Nothing.
     Free,
-    /// A verdict on it that the checker accepts.
-    Verdict,
+    /// A verdict on it that the checker accepts: under the first name, or under the second one where something else stands under
+    /// the first.
+    Verdict(bool),
     /// Something else, which stays.
     Other,
 }
@@ -80,29 +81,50 @@ impl<'a, F: Files<File = File>> VerdictFolder<'_, 'a, F> {
             let path = self.path_of(replica, second)?;
             self.remove_unfinished(&path)?;
         }
-        let path = self.path_of(replica, false)?;
+        match self.kept_at(committee, replica, false)? {
+            Kept::Other => match self.kept_at(committee, replica, true)? {
+                Kept::Verdict(second) => Ok(Kept::Verdict(second)),
+                _ => Ok(Kept::Other),
+            },
+            kept => Ok(kept),
+        }
+    }
+
+    // What stands under one of the names.
+    fn kept_at(
+        &self,
+        committee: &CommitteeView,
+        replica: u16,
+        second: bool,
+    ) -> Result<Kept, AllocError> {
+        let path = self.path_of(replica, second)?;
         match fs::symlink_metadata(self.files, &path) {
             Err(error) if error.kind() == ErrorKind::NotFound => Ok(Kept::Free),
-            Ok(found) if found.is_file() => self.judge(committee, replica, &path),
+            Ok(found) if found.is_file() => {
+                if self.is_verdict(committee, replica, &path)? {
+                    return Ok(Kept::Verdict(second));
+                }
+                Ok(Kept::Other)
+            }
             _ => Ok(Kept::Other),
         }
     }
 
     // Whether the file at the path has a verdict on this replica that the checker accepts.
-    fn judge(
+    fn is_verdict(
         &self,
         committee: &CommitteeView,
         replica: u16,
         path: &str,
-    ) -> Result<Kept, AllocError> {
+    ) -> Result<bool, AllocError> {
         let bytes = match read_file(self.files, self.alloc, path, MOST_OF_A_SHORT_FILE) {
             Ok(bytes) => bytes,
             Err(InputFault::Memory) => return Err(AllocError),
-            Err(InputFault::Unreadable) => return Ok(Kept::Other),
+            Err(InputFault::Unreadable) => return Ok(false),
         };
         match check(committee, &bytes) {
-            Ok(finding) if finding.replica == replica => Ok(Kept::Verdict),
-            _ => Ok(Kept::Other),
+            Ok(finding) => Ok(finding.replica == replica),
+            Err(_) => Ok(false),
         }
     }
 
