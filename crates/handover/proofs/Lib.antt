@@ -1,0 +1,5 @@
+pub mod Alone
+pub mod Firsts
+pub mod Inclusion
+pub mod Lineages
+pub mod Texts

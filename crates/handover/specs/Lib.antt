@@ -1,0 +1,3 @@
+pub use Rattle.commit_search.specs.Commits
+pub mod Handovers
+pub mod HandoverLaws
