@@ -1,0 +1,5 @@
+pub mod Below
+pub mod Handed
+pub mod Opened
+pub mod Printing
+pub mod Steps
