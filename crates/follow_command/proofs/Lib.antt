@@ -1,4 +1,3 @@
-pub mod Below
 pub mod Handed
 pub mod Opened
 pub mod Printing

@@ -14,7 +14,7 @@ use Rattle.program_parts.specs.declared.program_fault.ProgramFault.{ProgramFault
 use Rattle.program_parts.specs.declared.program_fault.ProgramFault.TheVariants.{Memory, File, Committee, Output, Own}
 use Rattle.program_parts.specs.declared.source_fault.SourceFault.TheVariants.{Collision}
 use Rattle.program_parts.specs.declared.words.SourceWord.{SourceWord}
-use Rattle.follow_command.specs.OldKeys.{IsFirstOldKey}
+use Rattle.handover.specs.OldKeys.{IsFirstOldKey}
 use Rattle.follow_command.specs.Outputs.{ComesTo, IsOutput}
 use Rattle.follow_command.specs.Sources.{AreOpenedAs}
 use Rattle.follow_command.specs.Words.{AskForStep, IsWordsFault}

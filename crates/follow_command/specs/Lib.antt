@@ -2,7 +2,6 @@ pub use Rattle.printed_lines.specs.Printed
 pub mod FaultLines
 pub mod Faults
 pub mod Followings
-pub mod OldKeys
 pub mod Outputs
 pub mod Sources
 pub mod Words

@@ -12,7 +12,7 @@ use Rattle.culprit_search.specs.Reports.{AreMoreThanAThird, IsAudit, Report}
 use Rattle.culprit_search.specs.ReportText.{report_text}
 use Rattle.program_parts.specs.declared.words.SourceWord.{SourceWord}
 use Rattle.follow_command.specs.Followings.{IsFollowing, following_line, status_of}
-use Rattle.follow_command.specs.OldKeys.{HaveNoCommonKey}
+use Rattle.handover.specs.OldKeys.{HaveNoCommonKey}
 use Rattle.follow_command.specs.Sources.{IsShown}
 use Rattle.follow_command.specs.Words.{AskForStep}
 use Rattle.follow_command.specs.declared.following.Following.{Following}

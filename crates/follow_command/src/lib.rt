@@ -5,7 +5,6 @@
 mod fault;
 mod following;
 mod lines;
-mod old_keys;
 mod program;
 mod reading;
 mod sources;

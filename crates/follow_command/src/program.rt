@@ -8,7 +8,7 @@ ghost use Rattle.program_parts.specs.Writes.{CountsWrites};
 ghost use Rattle.program_parts.specs.declared.program_fault.ProgramFault.{ProgramFault as FaultValue};
 ghost use Rattle.follow_command.specs.FaultLines.{follow_fault_line};
 ghost use Rattle.follow_command.specs.Faults.{GivesUp, GivesUpOver, GivesUpStep, IsFollowFault};
-ghost use Rattle.follow_command.specs.OldKeys.{IsFirstOldKey};
+ghost use Rattle.handover.specs.OldKeys.{IsFirstOldKey};
 ghost use Rattle.follow_command.specs.Outputs.{AreApart, ComesTo, IsOutput, step_text};
 ghost use Rattle.follow_command.specs.Words.{IsUsage};
 ghost use Rattle.follow_command.specs.declared.fault.FollowFault.{FollowFault as OwnFaultValue};
@@ -16,12 +16,12 @@ ghost use Rattle.follow_command.specs.declared.fault.FollowFault.{FollowFault as
 use crate::fault::{Fault, FollowFault};
 use crate::following::{Following, follow};
 use crate::lines::following_text;
-use crate::old_keys::first_old_key;
 use crate::reading::read_evidence;
 use crate::words::{Step, Words, read_words};
 use blocks::CommitteeView;
 use culprit_search::{Report, ReportError, audit, write_report};
 use evidence::Evidence;
+use handover::first_old_key;
 use log_transfer::{Connector, SourceConnector};
 use program_parts::{
     ProgramFault, SourceWord, exit_status, parse_committee, read_committee, write_out,

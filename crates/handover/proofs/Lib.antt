@@ -1,4 +1,5 @@
 pub mod Alone
+pub mod Below
 pub mod Firsts
 pub mod Inclusion
 pub mod Lineages

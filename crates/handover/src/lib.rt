@@ -4,6 +4,7 @@
 
 mod block;
 mod laws;
+mod old_keys;
 
 pub use block::{handover_payload, is_handover};
 pub use laws::{
@@ -11,3 +12,4 @@ pub use laws::{
     different_successors_accuse_more_than_a_third, first_handovers_are_one_or_accuse,
     lineages_part_at_one_committee,
 };
+pub use old_keys::first_old_key;

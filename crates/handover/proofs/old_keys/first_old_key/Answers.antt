@@ -1,8 +1,8 @@
 use Rattle.std.proofs.Common.{arith}
 use Rattle.blocks.specs.Committees.{keys_of}
-use Rattle.follow_command.specs.OldKeys.{AreNewKeys}
-use Rattle.follow_command.proofs.Below.{one_more_below}
-use Rattle.follow_command.proofs.old_keys.first_old_key.Goals as goal
+use Rattle.handover.specs.OldKeys.{AreNewKeys}
+use Rattle.handover.proofs.Below.{one_more_below}
+use Rattle.handover.proofs.old_keys.first_old_key.Goals as goal
 
 pub loop-r-preserved : goal.loop-r-preserved
 loop-r-preserved c =

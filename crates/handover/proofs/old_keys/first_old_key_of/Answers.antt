@@ -2,9 +2,9 @@ use Rattle.std.proofs.Common.{◌≡◌, ◌∙◌, ℕ, List, ap, subst, sym, a
 use Rattle.std.proofs.lemmas.Bool.{false≢true}
 use Rattle.blocks.specs.Committees.{key_id_at}
 use Rattle.lms_tree.specs.declared.public_key.PublicKey.{PublicKey}
-use Rattle.follow_command.specs.OldKeys.{IsKeyOf, IsOldKey, public_key_at}
-use Rattle.follow_command.proofs.Below.{one_more_below}
-use Rattle.follow_command.proofs.old_keys.first_old_key_of.Goals as goal
+use Rattle.handover.specs.OldKeys.{IsKeyOf, IsOldKey, public_key_at}
+use Rattle.handover.proofs.Below.{one_more_below}
+use Rattle.handover.proofs.old_keys.first_old_key_of.Goals as goal
 
 pub loop-k-preserved : goal.loop-k-preserved
 loop-k-preserved c =

@@ -1,9 +1,9 @@
 use Rattle.std.proofs.Common.{◌<◌, ◌∙◌, sym, arith}
 use Rattle.std.proofs.lemmas.Bool.{false≢true}
 use Rattle.blocks.specs.Committees.{n_of}
-use Rattle.follow_command.specs.OldKeys.{IsKeyOfReplica}
-use Rattle.follow_command.proofs.Below.{one_more_below}
-use Rattle.follow_command.proofs.old_keys.is_key_of.Goals as goal
+use Rattle.handover.specs.OldKeys.{IsKeyOfReplica}
+use Rattle.handover.proofs.Below.{one_more_below}
+use Rattle.handover.proofs.old_keys.is_key_of.Goals as goal
 
 pub loop-r-preserved : goal.loop-r-preserved
 loop-r-preserved c =

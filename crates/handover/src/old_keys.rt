@@ -4,7 +4,7 @@ ghost use Rattle.std.specs.Prelude.{◌≡◌, ◌<◌, ◌↔◌, IfSome, IsTru
 ghost use Rattle.wire.specs.declared.limits.TheConstants.{MOST_KEYS};
 ghost use Rattle.blocks.specs.CommitteeReading.{key_number};
 ghost use Rattle.blocks.specs.Committees.{has_many_keys, keys_of, n_of};
-ghost use Rattle.follow_command.specs.OldKeys.{AreNewKeys, HaveNoCommonKey, IsFirstOldKey, IsFirstOldKeyOf, IsKeyOf, IsKeyOfReplica};
+ghost use Rattle.handover.specs.OldKeys.{AreNewKeys, HaveNoCommonKey, IsFirstOldKey, IsFirstOldKeyOf, IsKeyOf, IsKeyOfReplica};
 
 use blocks::CommitteeView;
 use lms_tree::PublicKey;
@@ -73,7 +73,7 @@ fn key_number(committee: &CommitteeView, r: u16, k: u8) -> u16
 }
 
 /// The number of the first key of the new committee that is a key of the old one.
-pub(crate) fn first_old_key(old: &CommitteeView, new: &CommitteeView) -> Option<u16>
+pub fn first_old_key(old: &CommitteeView, new: &CommitteeView) -> Option<u16>
     ensures { MatchOption result (HaveNoCommonKey old.now new.now)
         (IsFirstOldKey old.now new.now) }
 {
