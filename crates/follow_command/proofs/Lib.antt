@@ -1,0 +1,4 @@
+pub mod Handed
+pub mod Opened
+pub mod Printing
+pub mod Steps

@@ -1,0 +1,140 @@
+-- From the sources of a step to the step, and from that to words.
+use Rattle.std.proofs.Common.{◌≡◌, ◌≢◌, ℕ, List, [], ◌∷◌, Option, Result, String, Ok, Err, ◌⊎◌, refl, sym, subst, inl, inr, arith}
+use Rattle.std.specs.Prelude.{IfErr, IfOk}
+use Rattle.std.specs.declared.alloc.Global.{Global}
+use Rattle.streams.specs.Streams.{Wrote, WrotePart}
+use Rattle.log_transfer.specs.declared.connector.Connector.{Ghosts}
+use Rattle.log_transfer.specs.declared.source_connector.ServerOrFile.{ServerOrFile}
+use Rattle.program_parts.specs.Writes.{CountsOutput}
+use Rattle.program_parts.specs.declared.program_fault.ProgramFault.{ProgramFault}
+use Rattle.program_parts.specs.declared.program_fault.ProgramFault.TheVariants.{Usage, Memory, File, Committee, Output, Own}
+use Rattle.program_parts.specs.declared.source_fault.SourceFault.TheVariants.{Word, Collision}
+use Rattle.program_parts.specs.declared.words.SourceWord.{SourceWord}
+use Rattle.follow_command.specs.Faults.{GivesUp, GivesUpOver, GivesUpStep, IsCause, IsFollowFault, IsStepFault}
+use Rattle.follow_command.specs.Followings.{status_of}
+use Rattle.follow_command.specs.Outputs.{ComesTo, IsOutput, usage_line}
+use Rattle.follow_command.specs.Words.{AskForStep, HaveBadSource, IsUsage, IsWordsFault}
+use Rattle.follow_command.specs.declared.fault.FollowFault.{FollowFault}
+use Rattle.follow_command.specs.declared.fault.FollowFault.TheVariants.{Sources, OldKey}
+use Rattle.follow_command.specs.declared.following.Following.{Following}
+use Rattle.follow_command.specs.declared.following.Following.TheVariants.{Conflict, New, Another, Nobody}
+use Rattle.follow_command.proofs.Printing.{given_up_as}
+
+-- ---- a step
+
+pub of_same_words : {S F : Type 0} (connector : Ghosts (ServerOrFile S F)) (r : Result ℕ (ProgramFault FollowFault)) (ws ws' : List SourceWord) (before after : Option (List ℕ)) → ws' ≡ ws
+    → IfOk r (λ s. (t : List ℕ) × ComesTo connector ws' s t × Wrote before after t) → IfOk r (λ s. (t : List ℕ) × ComesTo connector ws s t × Wrote before after t)
+of_same_words connector r ws ws' before after same is = subst (λ (xs : List SourceWord). IfOk r (λ s. (t : List ℕ) × ComesTo connector xs s t × Wrote before after t)) same is
+
+step_cause : {S F : Type 0} (connector : Ghosts (ServerOrFile S F)) (old new : List ℕ) (ws : List SourceWord) (fault : ProgramFault FollowFault) → IsFollowFault connector ws fault → IsStepFault connector old new ws fault
+step_cause connector old new ws Usage c = c
+step_cause connector old new ws Memory c = tt
+step_cause connector old new ws (File path) c = absurd c.2
+step_cause connector old new ws (Committee r) c = absurd c.2
+step_cause connector old new ws Output c = c
+step_cause connector old new ws (Own (Sources s)) c = c
+step_cause connector old new ws (Own (OldKey key)) c = absurd c.2
+
+pub step_given_up : {S F W : Type 0} (connector : Ghosts (ServerOrFile S F)) (old new : List ℕ) (ws ws' : List SourceWord) (r : Result ℕ (ProgramFault FollowFault)) (text : W → Option (List ℕ)) (failed : W → ℕ) (out out' : W) → ws' ≡ ws
+    → IfErr r (λ f. GivesUpOver (IsFollowFault connector ws') (ComesTo connector ws') f text failed out out') → IfErr r (λ f. GivesUpStep connector old new ws f text failed out out')
+step_given_up connector old new ws ws' (Ok s) text failed out out' same up = tt
+step_given_up connector old new ws ws' (Err f) text failed out out' same up =
+    given_up_as (IsFollowFault connector ws') (IsStepFault connector old new ws) (ComesTo connector ws') (ComesTo connector ws) f text failed out out'
+    (λ other c. step_cause connector old new ws f (subst (λ (xs : List SourceWord). IsFollowFault connector xs f) same c))
+    (λ status whole is. subst (λ (xs : List SourceWord). ComesTo connector xs status whole) same is) up
+
+-- ---- over words
+
+output_of : {S F : Type 0} (connector : Ghosts (ServerOrFile S F)) (words : List (String Global)) (old new : List ℕ) (ws : List SourceWord) (status : ℕ) (text : List ℕ) → AskForStep words old new ws → ComesTo connector ws status text
+    → IsOutput connector words status text
+output_of connector [] old new ws status text ask is = absurd ask
+output_of connector (w ∷ words) old new ws status text ask is = (old, new, ws, ask, is)
+
+not_two : (f : Following) → status_of f ≢ 2
+not_two Conflict e = let no : ⊥ = omega (arith, e) in no
+not_two (New b) e = let no : ⊥ = omega (arith, e) in no
+not_two (Another b) e = let no : ⊥ = omega (arith, e) in no
+not_two Nobody e = let no : ⊥ = omega (arith, e) in no
+
+status_among : (f : Following) → (status_of f ≡ 0) ⊎ ((status_of f ≡ 1) ⊎ ((status_of f ≡ 2) ⊎ (status_of f ≡ 3)))
+status_among Conflict = inr (inr (inr refl))
+status_among (New b) = inl refl
+status_among (Another b) = inr (inl refl)
+status_among Nobody = inr (inl refl)
+
+-- 0, 1 or 3
+pub output_status : {S F : Type 0} (connector : Ghosts (ServerOrFile S F)) (words : List (String Global)) (status : ℕ) (text : List ℕ) → IsOutput connector words status text
+    → (status ≡ 0) ⊎ ((status ≡ 1) ⊎ ((status ≡ 2) ⊎ (status ≡ 3)))
+output_status connector [] status text is = inl is.0
+output_status connector (w ∷ words) status text (old, new, ws, ask, is) =
+    subst (λ (n : ℕ). (n ≡ 0) ⊎ ((n ≡ 1) ⊎ ((n ≡ 2) ⊎ (n ≡ 3)))) (sym is.ends) (status_among is.following)
+
+pub printed_over : {S F : Type 0} (connector : Ghosts (ServerOrFile S F)) (words : List (String Global)) (old new : List ℕ) (ws : List SourceWord) (r : Result ℕ (ProgramFault FollowFault)) (before after : Option (List ℕ))
+    → AskForStep words old new ws → IfOk r (λ s. (t : List ℕ) × ComesTo connector ws s t × Wrote before after t)
+    → IfOk r (λ s. (s ≢ 2) × ((t : List ℕ) × IsOutput connector words s t × Wrote before after t))
+printed_over connector words old new ws (Err f) before after ask is = tt
+printed_over connector words old new ws (Ok s) before after ask is = (
+  subst (λ (n : ℕ). n ≢ 2) (sym is.1.ends) (not_two is.1.following),
+  (is.0, output_of connector words old new ws s is.0 ask is.1, is.2),
+)
+
+pub given_up_over : {S F W : Type 0} (connector : Ghosts (ServerOrFile S F)) (words : List (String Global)) (old new : List ℕ) (ws : List SourceWord) (r : Result ℕ (ProgramFault FollowFault)) (text : W → Option (List ℕ)) (failed : W → ℕ) (out out' : W)
+    → AskForStep words old new ws → IfErr r (λ f. GivesUpStep connector old new ws f text failed out out') → IfErr r (λ f. GivesUp connector words f text failed out out')
+given_up_over connector words old new ws (Ok s) text failed out out' ask up = tt
+given_up_over connector words old new ws (Err f) text failed out out' ask up =
+    given_up_as (IsStepFault connector old new ws) (IsCause connector words) (ComesTo connector ws) (IsOutput connector words) f text failed out out'
+    (λ other c. inr (old, new, ws, ask, c)) (λ status whole is. output_of connector words old new ws status whole ask is) up
+
+-- how the program is called could not be printed
+pub usage_cut : {S F W : Type 0} (connector : Ghosts (ServerOrFile S F)) (words : List (String Global)) (fault : ProgramFault FollowFault) (text : W → Option (List ℕ)) (failed : W → ℕ) (out out' : W) → words ≡ [] → fault ≡ Output
+    → WrotePart (text out) (text out') usage_line → CountsOutput fault (failed out) (failed out') → GivesUp connector words fault text failed out out'
+usage_cut connector words fault text failed out out' none is part counted = record {
+  cause = λ other. absurd (other is);
+  cut_short = λ _. (0, usage_line, subst (λ (ws : List (String Global)). IsOutput connector ws 0 usage_line) (sym none) (refl, refl), part);
+  counted = counted;
+}
+
+-- ---- words that ask for nothing
+
+no_usage : (words : List (String Global)) (old new : List ℕ) (ws : List SourceWord) → IsUsage words → AskForStep words old new ws → ⊥
+no_usage [] old new ws usage ask = ask
+no_usage (o ∷ []) old new ws usage ask = ask
+no_usage (o ∷ n ∷ words) old new ws usage ask = usage.no_step ask.0
+
+pub output_is_no_usage : {S F : Type 0} (connector : Ghosts (ServerOrFile S F)) (words : List (String Global)) (status : ℕ) (text : List ℕ) → IsUsage words → IsOutput connector words status text → ⊥
+output_is_no_usage connector [] status text usage is = usage.some refl
+output_is_no_usage connector (w ∷ words) status text usage (old, new, ws, ask, is) = no_usage (w ∷ words) old new ws usage ask
+
+bad_is_no_usage : (words : List (String Global)) (i : ℕ) → IsUsage words → HaveBadSource words i → ⊥
+bad_is_no_usage [] i usage bad = bad
+bad_is_no_usage (o ∷ []) i usage bad = bad
+bad_is_no_usage (o ∷ n ∷ words) i usage bad = usage.no_step bad.0
+
+usage_of_words : (words : List (String Global)) (fault : ProgramFault FollowFault) → IsUsage words → IsWordsFault words fault → fault ≡ Usage
+usage_of_words words Usage usage is = refl
+usage_of_words words Memory usage is = absurd (usage.no_step is)
+usage_of_words words (File path) usage is = absurd is
+usage_of_words words (Committee r) usage is = absurd is
+usage_of_words words Output usage is = absurd is
+usage_of_words words (Own (Sources (Word i))) usage is = absurd (bad_is_no_usage words i usage is)
+usage_of_words words (Own (Sources Collision)) usage is = absurd is
+usage_of_words words (Own (OldKey key)) usage is = absurd is
+
+fault_cases : (fault : ProgramFault FollowFault) → (fault ≡ Output) ⊎ (fault ≢ Output)
+fault_cases Usage = inr (λ e. let no : ⊥ = cc in no)
+fault_cases Memory = inr (λ e. let no : ⊥ = cc in no)
+fault_cases (File path) = inr (λ e. let no : ⊥ = cc in no)
+fault_cases (Committee r) = inr (λ e. let no : ⊥ = cc in no)
+fault_cases Output = inl refl
+fault_cases (Own own) = inr (λ e. let no : ⊥ = cc in no)
+
+-- words that are no usage of the program give this fault
+pub is_usage : {S F W : Type 0} (connector : Ghosts (ServerOrFile S F)) (words : List (String Global)) (fault : ProgramFault FollowFault) (text : W → Option (List ℕ)) (failed : W → ℕ) (out out' : W) → IsUsage words
+    → GivesUp connector words fault text failed out out' → fault ≡ Usage
+is_usage connector words fault text failed out out' usage gives = elim (fault_cases fault) [
+  | inl e ↦ let cut = gives.cut_short e in absurd (output_is_no_usage connector words cut.0 cut.1 usage cut.2)
+  | inr other ↦ elim (gives.cause other).0 [
+    | inl is ↦ usage_of_words words fault usage is
+    | inr is ↦ absurd (no_usage words is.0 is.1 is.2 usage is.3)
+  ]
+]

@@ -1,0 +1,18 @@
+-- The line of each fault.
+use Rattle.std.specs.Prelude.{ℕ, List, ◌++◌, codes, decimal}
+use Rattle.program_parts.specs.FaultLines.{fault_line, source_fault_line}
+use Rattle.program_parts.specs.declared.program_fault.ProgramFault.{ProgramFault}
+use Rattle.follow_command.specs.declared.fault.FollowFault.{FollowFault}
+use Rattle.follow_command.specs.declared.fault.FollowFault.TheVariants.{Sources, OldKey}
+
+-- "fault committee 8 OldKey K"
+abbrev pub old_key_line : ℕ → List ℕ
+old_key_line key = codes "fault committee 8 OldKey " ++ decimal key ++ codes "\n"
+
+-- of those that this program alone has
+abbrev pub own_line : FollowFault → List ℕ
+own_line (Sources fault) = source_fault_line fault
+own_line (OldKey key) = old_key_line key
+
+abbrev pub follow_fault_line : ProgramFault FollowFault → List ℕ
+follow_fault_line fault = fault_line own_line fault

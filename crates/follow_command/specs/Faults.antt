@@ -1,0 +1,77 @@
+-- Why the program gives up, and what it leaves then.
+use Rattle.std.specs.Prelude.{◌≡◌, ◌≢◌, ◌⊎◌, ℕ, List, Option, Err, String, ⊤}
+use Rattle.std.specs.declared.alloc.Global.{Global}
+use Rattle.streams.specs.Streams.{WrotePart}
+use Rattle.blocks.specs.CommitteeReading.{committee_in}
+use Rattle.blocks.specs.Committees.{IsCommittee}
+use Rattle.blocks.specs.Headers.{Header}
+use Rattle.evidence.specs.declared.refusal.EvidenceRefusal.TheVariants.{Collision as Colliding}
+use Rattle.log_transfer.specs.declared.connector.Connector.{Ghosts}
+use Rattle.log_transfer.specs.declared.source_connector.ServerOrFile.{ServerOrFile}
+use Rattle.parallel_verify.specs.Collections.{HaveCollision, MayGive}
+use Rattle.program_parts.specs.Writes.{CountsOutput}
+use Rattle.program_parts.specs.declared.program_fault.ProgramFault.{ProgramFault}
+use Rattle.program_parts.specs.declared.program_fault.ProgramFault.TheVariants.{Memory, File, Committee, Output, Own}
+use Rattle.program_parts.specs.declared.source_fault.SourceFault.TheVariants.{Collision}
+use Rattle.program_parts.specs.declared.words.SourceWord.{SourceWord}
+use Rattle.handover.specs.OldKeys.{IsFirstOldKey}
+use Rattle.follow_command.specs.Outputs.{ComesTo, IsOutput}
+use Rattle.follow_command.specs.Sources.{AreOpenedAs}
+use Rattle.follow_command.specs.Words.{AskForStep, IsWordsFault}
+use Rattle.follow_command.specs.declared.fault.FollowFault.{FollowFault}
+use Rattle.follow_command.specs.declared.fault.FollowFault.TheVariants.{Sources, OldKey}
+
+-- two different headers in logs that sources give which are as these words say have one id
+pub record ShowCollision {S F : Type 0} (connector : Ghosts (ServerOrFile S F)) (committee : List ℕ) (words : List SourceWord) : Type 0 where
+  pub of : AreOpenedAs S F words
+  pub first : Header
+  pub second : Header
+  pub collide : HaveCollision (MayGive connector.gives) committee of.sources (Colliding first second)
+
+-- why these sources show nothing under a committee
+abbrev pub IsSourcesFault : {S F : Type 0} → Ghosts (ServerOrFile S F) → List ℕ → List SourceWord → ProgramFault FollowFault → Type 0
+IsSourcesFault connector committee words Memory = ⊤
+IsSourcesFault connector committee words (Own (Sources Collision)) = ShowCollision connector committee words
+IsSourcesFault connector committee words fault = ⊥
+
+-- .. under some committee
+abbrev pub IsFollowFault : {S F : Type 0} → Ghosts (ServerOrFile S F) → List SourceWord → ProgramFault FollowFault → Type 0
+IsFollowFault connector words fault = (committee : List ℕ) × IsCommittee committee × IsSourcesFault connector committee words fault
+
+-- the key of this number of some new committee is the first that is one of some old committee
+abbrev pub HaveOldKey : ℕ → Type 0
+HaveOldKey key = (old : List ℕ) × (new : List ℕ) × IsCommittee old × IsCommittee new × IsFirstOldKey old new key
+
+-- why there is no step from the committee of the one file to that of the other, by these sources
+abbrev pub IsStepFault : {S F : Type 0} → Ghosts (ServerOrFile S F) → (old new : List ℕ) → List SourceWord → ProgramFault FollowFault → Type 0
+IsStepFault connector old new words Memory = ⊤
+IsStepFault connector old new words (File path) = (path.now ≡ old) ⊎ (path.now ≡ new)
+IsStepFault connector old new words (Committee r) = (bytes : List ℕ) × (committee_in bytes ≡ Err r)
+IsStepFault connector old new words (Own (OldKey key)) = HaveOldKey key
+IsStepFault connector old new words fault = IsFollowFault connector words fault
+
+-- ---- over words
+
+-- why there is no step of those that they ask for
+abbrev pub IsFaultOfStep : {S F : Type 0} → Ghosts (ServerOrFile S F) → List (String Global) → ProgramFault FollowFault → Type 0
+IsFaultOfStep connector words fault =
+    (old : List ℕ) × (new : List ℕ) × (sources : List SourceWord) × AskForStep words old new sources × IsStepFault connector old new sources fault
+
+-- why the program gives up over them, but where a write failed
+abbrev pub IsCause : {S F : Type 0} → Ghosts (ServerOrFile S F) → List (String Global) → ProgramFault FollowFault → Type 0
+IsCause connector words fault = IsWordsFault words fault ⊎ IsFaultOfStep connector words fault
+
+-- it gives up over the fault: the fault has its cause and nothing was written, or a write failed behind a first part of what
+-- it was to print
+pub record GivesUpOver {W : Type 0} (Cause : ProgramFault FollowFault → Type 0) (Prints : ℕ → List ℕ → Type 0) (fault : ProgramFault FollowFault) (text : W → Option (List ℕ)) (failed : W → ℕ) (out out' : W) : Type 0 where
+  pub cause : fault ≢ Output → Cause fault × (out' ≡ out)
+  pub cut_short : fault ≡ Output → (status : ℕ) × (whole : List ℕ) × Prints status whole × WrotePart (text out) (text out') whole
+  pub counted : CountsOutput fault (failed out) (failed out')
+
+-- .. in one step
+abbrev pub GivesUpStep : {S F W : Type 0} → Ghosts (ServerOrFile S F) → (old new : List ℕ) → List SourceWord → ProgramFault FollowFault → (W → Option (List ℕ)) → (W → ℕ) → W → W → Type 0
+GivesUpStep connector old new words = GivesUpOver (IsStepFault connector old new words) (ComesTo connector words)
+
+-- .. over words
+abbrev pub GivesUp : {S F W : Type 0} → Ghosts (ServerOrFile S F) → List (String Global) → ProgramFault FollowFault → (W → Option (List ℕ)) → (W → ℕ) → W → W → Type 0
+GivesUp connector words = GivesUpOver (IsCause connector words) (IsOutput connector words)

@@ -1,0 +1,54 @@
+-- What evidence says of the committee that comes next, and how it is told.
+use Rattle.std.specs.Prelude.{◌≡◌, ◌≢◌, ◌++◌, ℕ, List, [], codes, decimal}
+use Rattle.hex.specs.Hex.{encode_lower}
+use Rattle.blocks.specs.Headers.{Header, header_id}
+use Rattle.blocks.specs.Weights.{committee_of}
+use Rattle.evidence.specs.Evidence.{Evidence}
+use Rattle.commit_search.specs.Commits.{HasNoConflict}
+use Rattle.handover.specs.Handovers.{IsFirstCommitted, IsHandover, handover_payload}
+use Rattle.follow_command.specs.declared.following.Following.{Following}
+use Rattle.follow_command.specs.declared.following.Following.TheVariants.{Conflict, New, Another, Nobody}
+
+-- no commits conflict, and this block is the first that hands over on the chain that is committed
+pub record IsHandedOverBy (e : Evidence) (b : Header) : Type 0 where
+  pub agree : HasNoConflict (committee_of e.committee) e
+  pub first : IsFirstCommitted (committee_of e.committee) e IsHandover b
+
+-- no commits conflict, and none hands over
+pub record IsNotHandedOver (e : Evidence) : Type 0 where
+  pub agree : HasNoConflict (committee_of e.committee) e
+  pub none : (b : Header) → IsFirstCommitted (committee_of e.committee) e IsHandover b → ⊥
+
+-- of the committee of this file
+abbrev pub IsFollowing : Evidence → List ℕ → Following → Type 0
+IsFollowing e file Conflict = HasNoConflict (committee_of e.committee) e → ⊥
+IsFollowing e file (New b) = IsHandedOverBy e b × (b.payload ≡ handover_payload file)
+IsFollowing e file (Another b) = IsHandedOverBy e b × (b.payload ≢ handover_payload file)
+IsFollowing e file Nobody = IsNotHandedOver e
+
+-- ---- how it is told
+
+-- " view V id ID"
+unfoldable pub place_text : ℕ → List ℕ → List ℕ
+place_text view id = codes " view " ++ decimal view ++ codes " id " ++ encode_lower id
+
+-- "follows view V id ID"
+unfoldable pub new_line : ℕ → List ℕ → List ℕ
+new_line view id = codes "follows" ++ place_text view id ++ codes "\n"
+
+-- "follows another view V id ID payload HEX"
+unfoldable pub another_line : ℕ → (id payload : List ℕ) → List ℕ
+another_line view id payload = codes "follows another" ++ place_text view id ++ codes " payload " ++ encode_lower payload ++ codes "\n"
+
+-- where commits conflict there is no line
+abbrev pub following_line : Following → List ℕ
+following_line Conflict = []
+following_line (New b) = new_line b.view (header_id b)
+following_line (Another b) = another_line b.view (header_id b) b.payload
+following_line Nobody = codes "follows none\n"
+
+abbrev pub status_of : Following → ℕ
+status_of Conflict = 3
+status_of (New b) = 0
+status_of (Another b) = 1
+status_of Nobody = 1

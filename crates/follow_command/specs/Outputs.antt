@@ -1,0 +1,58 @@
+-- What the program prints, and its status.
+use Rattle.std.specs.Prelude.{◌≡◌, ◌++◌, ℕ, List, [], ◌∷◌, IsSome, String, codes}
+use Rattle.std.specs.List.{All}
+use Rattle.std.specs.declared.alloc.Global.{Global}
+use Rattle.blocks.specs.Committees.{IsCommittee}
+use Rattle.log_transfer.specs.declared.connector.Connector.{Ghosts}
+use Rattle.log_transfer.specs.declared.source_connector.ServerOrFile.{ServerOrFile}
+use Rattle.verdict_format.specs.Proofs.{IsProof}
+use Rattle.evidence.specs.Evidence.{Evidence}
+use Rattle.evidence.specs.declared.source.SourceReport.{SourceReport}
+use Rattle.culprit_search.specs.Reports.{AreMoreThanAThird, IsAudit, Report}
+use Rattle.culprit_search.specs.ReportText.{report_text}
+use Rattle.program_parts.specs.declared.words.SourceWord.{SourceWord}
+use Rattle.follow_command.specs.Followings.{IsFollowing, following_line, status_of}
+use Rattle.handover.specs.OldKeys.{HaveNoCommonKey}
+use Rattle.follow_command.specs.Sources.{IsShown}
+use Rattle.follow_command.specs.Words.{AskForStep}
+use Rattle.follow_command.specs.declared.following.Following.{Following}
+
+abbrev pub usage_line : List ℕ
+usage_line = codes "hs_follow OLD NEW SOURCE..\n"
+
+-- two committees that have no key in common
+pub record AreApart (old new : List ℕ) : Type 0 where
+  pub old_is : IsCommittee old
+  pub new_is : IsCommittee new
+  pub apart : HaveNoCommonKey old new
+
+-- the report of the audit of evidence, whose verdicts are proofs, and which accuses more than a third where commits conflict
+pub record IsReportOf (e : Evidence) (r : Report) : Type 0 where
+  pub audit : IsAudit e r
+  pub accepted : All (IsProof e.committee) r.verdicts
+  pub more_than_a_third : IsSome r.conflict → AreMoreThanAThird e.committee r
+
+-- the lines of a report, and the line that says what follows
+abbrev pub step_text : List SourceReport → Report → Following → List ℕ
+step_text sources r f = report_text sources r ++ following_line f
+
+-- the status and the text of a step: the report on what these sources show under the old committee, and what that says of
+-- the new one, some two committees
+pub record ComesTo {S F : Type 0} (connector : Ghosts (ServerOrFile S F)) (words : List SourceWord) (status : ℕ) (text : List ℕ) : Type 0 where
+  pub old : List ℕ
+  pub new : List ℕ
+  pub apart : AreApart old new
+  pub evidence : Evidence
+  pub shown : IsShown connector old words evidence
+  pub report : Report
+  pub is_report : IsReportOf evidence report
+  pub following : Following
+  pub is_following : IsFollowing evidence new following
+  pub told : text ≡ step_text evidence.sources report following
+  pub ends : status ≡ status_of following
+
+-- with no words how the program is called, else the step that they ask for
+abbrev pub IsOutput : {S F : Type 0} → Ghosts (ServerOrFile S F) → List (String Global) → ℕ → List ℕ → Type 0
+IsOutput connector [] status text = (status ≡ 0) × (text ≡ usage_line)
+IsOutput connector (word ∷ words) status text =
+    (old : List ℕ) × (new : List ℕ) × (sources : List SourceWord) × AskForStep (word ∷ words) old new sources × ComesTo connector sources status text

@@ -1,0 +1,203 @@
+//! The program over handed-in words and streams, so that tests run it whole.
+
+ghost use Rattle.std.specs.Prelude.{◌≡◌, ◌≢◌, ◌⊎◌, ◌++◌, ℕ, List, IfErr, IfOk, OnErr, OnOk, codes};
+ghost use Rattle.streams.specs.Streams.{Wrote, WrotePart};
+ghost use Rattle.printed_lines.specs.Printed.{Told};
+ghost use Rattle.blocks.specs.Committees.{IsCommittee};
+ghost use Rattle.program_parts.specs.Writes.{CountsWrites};
+ghost use Rattle.program_parts.specs.declared.program_fault.ProgramFault.{ProgramFault as FaultValue};
+ghost use Rattle.follow_command.specs.FaultLines.{follow_fault_line};
+ghost use Rattle.follow_command.specs.Faults.{GivesUp, GivesUpOver, GivesUpStep, IsFollowFault};
+ghost use Rattle.handover.specs.OldKeys.{IsFirstOldKey};
+ghost use Rattle.follow_command.specs.Outputs.{AreApart, ComesTo, IsOutput, step_text};
+ghost use Rattle.follow_command.specs.Words.{IsUsage};
+ghost use Rattle.follow_command.specs.declared.fault.FollowFault.{FollowFault as OwnFaultValue};
+
+use crate::fault::{Fault, FollowFault};
+use crate::following::{Following, follow};
+use crate::lines::following_text;
+use crate::reading::read_evidence;
+use crate::words::{Step, Words, read_words};
+use blocks::CommitteeView;
+use culprit_search::{Report, ReportError, audit, write_report};
+use evidence::Evidence;
+use handover::first_old_key;
+use log_transfer::{Connector, SourceConnector};
+use program_parts::{
+    ProgramFault, SourceWord, exit_status, parse_committee, read_committee, write_out,
+};
+use std::alloc::Global;
+use std::fs::{File, Files};
+use std::net::{Net, TcpListener, TcpStream};
+use std::sync::Wait;
+use std::thread::Threads;
+use std::time::Clock;
+use streams::Sink;
+
+/// The ledger was handed over to the new committee, or how the program is called was printed.
+pub const FOLLOWS: u8 = 0;
+
+/// It was handed over to another committee, or that it was is not proved.
+pub const FOLLOWS_NOT: u8 = 1;
+
+/// Commits conflict.
+pub const CONFLICT: u8 = 3;
+
+/// How the program is called.
+const USAGE: &[u8] = b"hs_follow OLD NEW SOURCE..\n";
+
+/// Audits the logs of the old committee, and says whether it handed the ledger over to the new one, as the words ask, or with
+/// no words prints how the program is called. Answers the exit status: `FOLLOWS`, `FOLLOWS_NOT`, `CONFLICT`, else 2. The
+/// lines go to `out`, and with status 2 a fault's line to `faults`, which is else left alone. Nothing is written before all
+/// else is done.
+pub fn run_follow<
+    'a,
+    F: Files<File = File> + Sync,
+    T: Threads + Wait + Clock + Net<Listener = TcpListener, Stream = TcpStream> + Sync,
+    W: Sink,
+    E: Sink,
+>(files: &'a F, rt: &'a T, alloc: Global, words: &'a [String], out: &mut W, faults: &mut E) -> u8
+where
+    F::Dir: Send,
+    ensures status { (result ≡ 0) ⊎ (result ≡ 1) ⊎ (result ≡ 2) ⊎ (result ≡ 3) }
+    ensures printed { result ≢ 2 → (text : List ℕ)
+        × IsOutput ⟦<SourceConnector<'a, T, F> as Connector>⟧ words.now result text
+        × Wrote (W.text out.old) (W.text out.new) text }
+    ensures silent { result ≢ 2 → faults.new ≡ faults.old }
+    ensures no_failure { result ≢ 2 → W.failed out.new ≡ W.failed out.old }
+    ensures usage { IsUsage words.now → (result ≡ 2)
+        × Told (E.text faults.old) (E.text faults.new) (E.failed faults.old) (E.failed faults.new)
+        (codes "fault usage\n") }
+    ensures told { result ≡ 2 → (fault : FaultValue OwnFaultValue)
+        × GivesUp ⟦<SourceConnector<'a, T, F> as Connector>⟧ words.now fault
+        W.text W.failed out.old out.new
+        × Told (E.text faults.old) (E.text faults.new) (E.failed faults.old) (E.failed faults.new)
+        (follow_fault_line fault) }
+{
+    exit_status(run(files, rt, alloc, words, out), faults)
+}
+
+fn run<
+    'a,
+    F: Files<File = File> + Sync,
+    T: Threads + Wait + Clock + Net<Listener = TcpListener, Stream = TcpStream> + Sync,
+    W: Sink,
+>(files: &'a F, rt: &'a T, alloc: Global, words: &'a [String], out: &mut W) -> Result<u8, Fault<'a>>
+where
+    F::Dir: Send,
+    ensures printed { IfOk result (λ status. (status ≢ 2) × ((text : List ℕ)
+        × IsOutput ⟦<SourceConnector<'a, T, F> as Connector>⟧ words.now status text
+        × Wrote (W.text out.old) (W.text out.new) text)) }
+    ensures no_failure { IfOk result (λ status. W.failed out.new ≡ W.failed out.old) }
+    ensures given_up { IfErr result (λ fault.
+        GivesUp ⟦<SourceConnector<'a, T, F> as Connector>⟧ words.now fault
+        W.text W.failed out.old out.new) }
+{
+    match read_words(alloc, words)? {
+        Words::Usage => {
+            write_out(out, USAGE)?;
+            Ok(FOLLOWS)
+        }
+        Words::Step(step) => take_step(files, rt, alloc, &step, out),
+    }
+}
+
+// One step: reads both committees, and then the logs.
+fn take_step<
+    'a,
+    F: Files<File = File> + Sync,
+    T: Threads + Wait + Clock + Net<Listener = TcpListener, Stream = TcpStream> + Sync,
+    W: Sink,
+>(files: &'a F, rt: &'a T, alloc: Global, step: &Step<'a>, out: &mut W) -> Result<u8, Fault<'a>>
+where
+    F::Dir: Send,
+    ensures printed { IfOk result (λ status. (text : List ℕ)
+        × ComesTo ⟦<SourceConnector<'a, T, F> as Connector>⟧ step.now.sources.items status text
+        × Wrote (W.text out.old) (W.text out.new) text) }
+    ensures no_failure { IfOk result (λ status. W.failed out.new ≡ W.failed out.old) }
+    ensures given_up { IfErr result (λ fault.
+        GivesUpStep ⟦<SourceConnector<'a, T, F> as Connector>⟧ step.now.old.now step.now.new.now
+        step.now.sources.items fault W.text W.failed out.old out.new) }
+{
+    let old_bytes = read_committee(files, alloc, step.old)?;
+    let new_bytes = read_committee(files, alloc, step.new)?;
+    let old = parse_committee(&old_bytes)?;
+    let new = parse_committee(&new_bytes)?;
+    see_keys(&old, &new)?;
+    follow_sources(files, rt, alloc, &old, &new, &step.sources, out)
+}
+
+// Whether the new committee has no key of the old one. Such a key would sign twice under one one-time key, from a new folder.
+fn see_keys<'a>(old: &CommitteeView, new: &CommitteeView) -> Result<(), Fault<'a>>
+    ensures ok { OnOk result (AreApart old.now new.now) }
+    ensures refused { IfErr result (λ fault. (key : ℕ)
+        × (fault ≡ ProgramFault.Own (FollowFault.OldKey key))
+        × IsFirstOldKey old.now new.now key) }
+    // What the types keep.
+    ensures committees { IsCommittee old.now × IsCommittee new.now }
+{
+    // For the proof: both are committees.
+    let _old = old.bytes();
+    let _new = new.bytes();
+    match first_old_key(old, new) {
+        Some(key) => Err(ProgramFault::Own(FollowFault::OldKey(key))),
+        None => Ok(()),
+    }
+}
+
+// Audits the sources under the old committee, and prints what they say of the new one.
+fn follow_sources<
+    'a,
+    F: Files<File = File> + Sync,
+    T: Threads + Wait + Clock + Net<Listener = TcpListener, Stream = TcpStream> + Sync,
+    W: Sink,
+>(
+    files: &'a F,
+    rt: &'a T,
+    alloc: Global,
+    old: &CommitteeView,
+    new: &CommitteeView,
+    sources: &[SourceWord<'a>],
+    out: &mut W,
+) -> Result<u8, Fault<'a>>
+where
+    F::Dir: Send,
+    requires { AreApart old.now new.now }
+    ensures printed { IfOk result (λ status. (text : List ℕ)
+        × ComesTo ⟦<SourceConnector<'a, T, F> as Connector>⟧ sources.now status text
+        × Wrote (W.text out.old) (W.text out.new) text) }
+    ensures no_failure { IfOk result (λ status. W.failed out.new ≡ W.failed out.old) }
+    ensures given_up { IfErr result (λ fault.
+        GivesUpOver (IsFollowFault ⟦<SourceConnector<'a, T, F> as Connector>⟧ sources.now)
+        (ComesTo ⟦<SourceConnector<'a, T, F> as Connector>⟧ sources.now)
+        fault W.text W.failed out.old out.new) }
+{
+    let evidence = read_evidence(files, rt, alloc, old, sources)?;
+    let report = audit(alloc, &evidence)?;
+    let following = follow(alloc, &evidence, &report, new.bytes())?;
+    print(alloc, &evidence, &report, &following, out)?;
+    Ok(following.status())
+}
+
+// Prints the report, and what follows.
+fn print<'a, W: Sink>(
+    alloc: Global,
+    evidence: &Evidence,
+    report: &Report,
+    following: &Following,
+    out: &mut W,
+) -> Result<(), Fault<'a>>
+    ensures ok { OnOk result (Wrote (W.text out.old) (W.text out.new)
+        (step_text evidence.now.sources report.now following.now)) }
+    ensures refused { IfErr result (λ fault. ((fault ≡ ProgramFault.Memory) × (out.new ≡ out.old))
+        ⊎ ((fault ≡ ProgramFault.Output) × WrotePart (W.text out.old) (W.text out.new)
+        (step_text evidence.now.sources report.now following.now))) }
+    ensures counted { CountsWrites result (W.failed out.old) (W.failed out.new) }
+{
+    let line = following_text(alloc, following)?;
+    match write_report(alloc, evidence, report, out) {
+        Ok(()) => write_out(out, &line),
+        Err(ReportError::Memory) => Err(ProgramFault::Memory),
+        Err(ReportError::Sink) => Err(ProgramFault::Output),
+    }
+}

@@ -1,0 +1,4 @@
+pub use Rattle.commit_search.specs.Commits
+pub mod Handovers
+pub mod HandoverLaws
+pub mod OldKeys

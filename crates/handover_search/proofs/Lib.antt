@@ -1,0 +1,3 @@
+pub mod Best
+pub mod Highest
+pub mod Lifted

@@ -1,0 +1,6 @@
+//! Whether a replica is shown a vote of its own that is none of those that its log has. Needs no threads, files or network.
+#![tactic(auto)]
+
+mod guard;
+
+pub use guard::{first_foreign_vote, shows_foreign_vote};

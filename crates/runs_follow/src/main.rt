@@ -1,0 +1,40 @@
+//! Runs scenarios of the program that follows a handover: the script on standard input, over the files of `data`.
+#![tactic(auto)]
+
+use follow_command::run_follow;
+use runs_script::run_script;
+use std::fs::{File, Files};
+use std::io;
+use std::net::{Net, TcpListener, TcpStream};
+use std::sync::Wait;
+use std::thread::Threads;
+use std::time::Clock;
+use streams::MemorySink;
+
+// The program that follows a handover alone.
+fn run_named<
+    R: Files<File = File>
+        + Threads
+        + Wait
+        + Clock
+        + Net<Listener = TcpListener, Stream = TcpStream>
+        + Sync
+        + AllocGlobal,
+>(rt: &R, name: &str, words: &[String], out: &mut MemorySink, faults: &mut MemorySink) -> Option<u8>
+where
+    R::Dir: Send,
+{
+    match name {
+        "hs_follow" => Some(run_follow(rt, rt, rt.alloc(), words, out, faults)),
+        _ => None,
+    }
+}
+
+fn main(rt: HostRuntime) -> io::Result<()> {
+    run_script(
+        &rt,
+        &|name: &str, words: &[String], _input: &[u8], out: &mut MemorySink, faults: &mut MemorySink| {
+            run_named(&rt, name, words, out, faults)
+        },
+    )
+}
