@@ -6,6 +6,7 @@ _wezhgula_options() {
         hs_check | 'hs_tool ') echo --help --version ;;
         hs_show) echo --committee --statement --explain --help --version ;;
         hs_signer) echo --listen --read --serve --sessions --furthest --host --group --while-input --verbose --help --version ;;
+        hs_watch) echo --every --reread --until-culprit --until-input-ends ;;
         'hs_tool keygen') echo --key ;;
         'hs_tool replica') echo --workers --serve --requests ;;
         'hs_tool audit') echo --tries ;;
@@ -27,4 +28,4 @@ _wezhgula() {
     # Where no word fits bash goes on with names of files.
     mapfile -t COMPREPLY < <(compgen -W "$words" -- "$word")
 }
-complete -o default -F _wezhgula hs_check hs_draw hs_show hs_signer hs_tool
+complete -o default -F _wezhgula hs_check hs_draw hs_follow hs_show hs_signer hs_tool hs_watch

@@ -10,6 +10,8 @@ BEGIN {
     about["hs_show"] = "show what stands in a file of a committee, a verdict or a log"
     about["hs_draw"] = "draw what logs show and whom they accuse"
     about["hs_signer"] = "answer a ledger that asks a replica for votes"
+    about["hs_watch"] = "watch the logs of replicas, and store a verdict on each culprit"
+    about["hs_follow"] = "say to which committee a committee handed its ledger over"
 }
 
 NR == 1 { begin_page($0); next }
@@ -31,13 +33,13 @@ END {
 }
 
 function begin_page(title) {
-    if (title !~ /^# [a-z_]+\(1\)$/ || !(substr(title, 3, length(title) - 5) in about)) {
+    if (title !~ /^# [a-z_-]+\(1\)$/ || !(substr(title, 3, length(title) - 5) in about)) {
         print "man.awk: no title of a page: " title >"/dev/stderr"
         exit 1
     }
     page = substr(title, 3, length(title) - 5)
     print ".\\\" Made of " page ".md by man.awk."
-    print ".TH " toupper(page) " 1 \"\" Wezhgula \"User Commands\""
+    print ".TH " toupper(page) " 1 \"\" \"Wezhgula" (version == "" ? "" : " " version) "\" \"User Commands\""
     print ".nh\n.ad l"
     begin_section("Name")
     print page " \\- " about[page]
@@ -49,7 +51,7 @@ function begin_section(name) {
 }
 
 function end_page(    names, i, others) {
-    split("hs_check hs_draw hs_show hs_tool", names, " ")
+    split("hs_check hs_draw hs_follow hs_show hs_signer hs_tool hs_watch", names, " ")
     for (i = 1; i in names; i++)
         if (names[i] != page) others = others (others == "" ? "" : " ,\n") ".BR " names[i] " (1)"
     print ".SH SEE ALSO\n" others
