@@ -1,6 +1,7 @@
 //! The operator's tool: `hs_tool COMMAND ..`. docs/hs_tool.md is its manual page.
 #![tactic(auto)]
 
+use key_files::SystemSeeds;
 use program_parts::run_main;
 use std::io::{IsTerminal, Stderr, Stdout};
 use std::process::ExitCode;
@@ -13,15 +14,24 @@ fn main(rt: HostRuntime) -> ExitCode {
         rt.stdout(),
         rt.stderr(),
         &|words: &[String], out: &mut StdSink<Stdout>, faults: &mut StdSink<Stderr>| {
-            let mut lines = StdFeed::new(rt.stdin());
             let console = rt.stderr();
+            let input = rt.stdin();
+            let is_typed = input.is_terminal();
             let host = Host {
                 files: &rt,
                 rt: &rt,
                 alloc: rt.alloc(),
                 console: console.is_terminal().then_some(console),
+                is_typed,
             };
-            run_tool(&host, words, &mut lines, out, faults)
+            run_tool(
+                &host,
+                &SystemSeeds::new(&rt),
+                words,
+                &mut StdFeed::new(input),
+                out,
+                faults,
+            )
         },
     )
 }

@@ -7,6 +7,7 @@ mod files;
 mod folder;
 mod keygen;
 mod memory_folder;
+mod seeds;
 mod system_folder;
 
 pub use fault::KeyFault;
@@ -14,4 +15,5 @@ pub use files::KeyFile;
 pub use folder::{FolderFault, MakeFolder, Readers, Store};
 pub use keygen::make_key;
 pub use memory_folder::MemoryFolder;
+pub use seeds::{DrawSeed, KnownSeed, SystemSeeds};
 pub use system_folder::SystemFolder;

@@ -5,6 +5,7 @@ ghost use Rattle.streams.specs.Counting.{Counts};
 
 use crate::folder::{FolderFault, MakeFolder, Readers, Store};
 use key_index_store::IndexStore;
+use safe_files::sync_folder;
 use stable_log::{FileDisk, Journal};
 use std::alloc::{AllocError, Global};
 use std::fs::{File, Files, OpenOptions};
@@ -57,14 +58,16 @@ impl<'a, F: Files<File = File>> SystemFolder<'a, F> {
             .open(self.rt, &path)
     }
 
-    // A new file of these bytes, synced.
+    // A new file of these bytes, synced, and so is the folder.
     fn create_file(&self, name: &str, bytes: &[u8], mode: u32) -> io::Result<()> {
         let mut file = self.create_new(name, mode)?;
         file.write_all(bytes)?;
-        file.sync_all()
+        file.sync_all()?;
+        sync_folder(self.rt, self.path);
+        Ok(())
     }
 
-    // A new file that is an empty journal, synced.
+    // A new file that is an empty journal, synced, and so is the folder.
     fn create_journal(&self, name: &str, store: Store) -> io::Result<()> {
         let disk = FileDisk::new(self.create_new(name, 0o644)?);
         let made = match store {
@@ -72,6 +75,7 @@ impl<'a, F: Files<File = File>> SystemFolder<'a, F> {
             Store::Log => Journal::create(self.alloc, disk).is_ok(),
         };
         if made {
+            sync_folder(self.rt, self.path);
             Ok(())
         } else {
             Err(io::Error::from(ErrorKind::Other))

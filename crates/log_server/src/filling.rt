@@ -6,16 +6,17 @@ ghost use Rattle.log_server.specs.Serving.{IsFeedFilled, TookFirst};
 
 use streams::{Fault, Feed};
 
-// What came of a buffer.
-pub(crate) enum Filled {
-    // All of it.
+/// What came of a buffer.
+#[derive(Clone, Copy, Debug, PartialEq, Eq)]
+pub enum Filled {
+    /// All of it was filled.
     All,
-    // So many bytes, and then the feed ended.
+    /// So many bytes came, and then the feed ended.
     Part(usize),
 }
 
-// Reads until the buffer is full, or the feed ends or fails.
-pub(crate) fn fill<R: Feed>(feed: &mut R, buffer: &mut [u8]) -> Result<Filled, Fault>
+/// Reads until the buffer is full, or the feed ends or fails.
+pub fn fill<R: Feed>(feed: &mut R, buffer: &mut [u8]) -> Result<Filled, Fault>
     ensures filled { IfOk result (IsFeedFilled (R.rest feed.old) (R.rest feed.new) buffer.new) }
     ensures length { length buffer.new ≡ length buffer.old }
     ensures err { OnErr result (TookFirst (R.rest feed.old) (R.rest feed.new) (length buffer.old)) }

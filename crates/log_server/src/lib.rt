@@ -14,5 +14,6 @@ pub use answering::answer;
 pub use connection::{CONNECTION_SECONDS, REQUEST_SECONDS, WAIT_SECONDS};
 pub use error::ServeError;
 pub use fault::ServiceFault;
+pub use filling::{Filled, fill};
 pub use service::serve_requests;
 pub use serving::serve;

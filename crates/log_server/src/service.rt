@@ -15,16 +15,21 @@ use crate::connection::Connection;
 use crate::fault::ServiceFault;
 use stable_log::Disk;
 use std::net::{Net, TcpListener, TcpStream};
-use std::time::Clock;
+use std::thread;
+use std::time::{Clock, Duration};
 use streams::{Fault, Sink, StdFeed, StdSink};
 use vote_log::VoteLog;
+
+// How many seconds nothing is accepted behind a connection that could not be.
+const PAUSE_SECONDS: u64 = 1;
 
 /// Listens on an address, such as `127.0.0.1:7000` or `[::1]:7000`, and serves the log to so many connections, one after
 /// the other, with one request each. Each prints `served FRAMES`, or `serve fault N`, N being the number of the
 /// `ServeError`. The log stays as it is.
 ///
-/// A read that waits over 10 seconds fails, a write that waits over 30, and none begins in a connection that is over an
-/// hour old. A connection that can't be accepted, or given these limits, counts as one whose request can't be read: `serve fault 4`.
+/// A connection ends 10 seconds after it was accepted with no whole request, 30 to 32 seconds after its client last took a
+/// byte, and where it is over an hour old. One that can't be accepted, or given these limits, counts as one whose request
+/// can't be read: `serve fault 4`; before the next one a second passes, since the cause may last.
 /// How long it takes until the next client connects is not bounded. Once the call returns nothing listens any more.
 pub fn serve_requests<R: Net<Listener = TcpListener, Stream = TcpStream> + Clock, D: Disk, W: Sink>(
     rt: &R,
@@ -90,11 +95,15 @@ fn answer_next<R: Clock, D: Disk, W: Sink>(
     match Connection::accept(clock, listener) {
         Ok(connection) => answer(
             log,
-            &mut StdFeed::new(&connection),
-            &mut StdSink::new(&connection),
+            &mut StdFeed::new(connection.asking()),
+            &mut StdSink::new(connection.telling()),
             out,
         ),
         // as a request that can't be read
-        Err(_) => print_answer(Err(ServeError::Source), out),
+        Err(_) => {
+            let printed = print_answer(Err(ServeError::Source), out);
+            thread::sleep(clock, Duration::from_secs(PAUSE_SECONDS));
+            printed
+        }
     }
 }

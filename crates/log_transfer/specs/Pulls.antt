@@ -17,6 +17,10 @@ pub record Pulling (C : Type 0) : Type 0 where
 abbrev pub first_place : ℕ → Place
 first_place tries = record { held = 0; tries = tries; is_open = false; count = 0; last = Failed }
 
+-- the same, where so many frames are held already
+abbrev pub place_behind : ℕ → ℕ → Place
+place_behind held tries = record { held = held; tries = tries; is_open = false; count = 0; last = Failed }
+
 -- a frame, or the end
 abbrev pub IsStep : {C : Type 0} → Ghosts C → (old new : Pulling C) → List ℕ → Step → Type 0
 IsStep source old new out Frame = OneMore (source.gives old.connector) (source.gives new.connector) (source.left old.connector) (source.left new.connector) old.place new.place out

@@ -5,6 +5,7 @@ ghost use Rattle.streams.specs.Counting.{Counts};
 ghost use Rattle.log_transfer.specs.Connections.{Connection, CountsBytes, GivesSome, behind, ended, failing};
 ghost use Rattle.log_transfer.specs.declared.budget.TheConstants.{MOST_OF_A_STREAM};
 
+use crate::failure::Failure;
 use streams::Fault;
 
 /// A source of a log, over one connection at a time. Each is asked for a part of the log, and gives bytes up to an
@@ -72,6 +73,11 @@ pub trait Connector: Drop {
         // Something may still be given, and by each later connection too.
         ensures some { GivesSome (left self.now) }
         ensures next { (k f m : ℕ) → GivesSome (gives self.now k f m) };
+
+    /// Why the last call failed, where it did and the connector knows. For people: nothing depends on it.
+    fn failure(&self) -> Option<Failure> {
+        None
+    }
 
     /// Is told how many frames of the log are held, after each. For progress: nothing depends on it.
     fn reached(&self, frames: u32) {}

@@ -6,6 +6,7 @@ ghost use Rattle.log_transfer.specs.Connections.{CountsBytes, ended, taken_of};
 
 use crate::budget::Budget;
 use crate::connector::Connector;
+use crate::failure::Failure;
 use crate::tries::{counted, no_connection};
 use std::fs::{File, Files};
 use std::io;
@@ -28,6 +29,8 @@ pub struct FileConnector<'a, F> {
     path: &'a str,
     open: Option<OpenFile>,
     failures: u64,
+    // Of the last call.
+    failure: Option<Failure>,
 }
 
 impl OpenFile {
@@ -37,6 +40,14 @@ impl OpenFile {
         ensures bytes { CountsBytes self.old.budget self.new.budget result }
     {
         self.budget.read(&mut self.file, buffer)
+    }
+}
+
+// Why a call failed, if it did.
+fn failure_of<T>(outcome: &io::Result<T>) -> Option<Failure> {
+    match outcome {
+        Ok(_) => None,
+        Err(error) => Some(Failure::of_file(error)),
     }
 }
 
@@ -50,6 +61,7 @@ impl<'a, F: Files<File = File>> FileConnector<'a, F> {
             path,
             open: None,
             failures: 0,
+            failure: None,
         }
     }
 
@@ -86,6 +98,7 @@ impl<'a, F: Files<File = File>> Connector for FileConnector<'a, F> {
     fn connect(&mut self, first: u32, _most: u32) -> Result<(), Fault> {
         self.open = None;
         let opened = self.open(first);
+        self.failure = failure_of(&opened);
         self.open = Some(counted(&mut self.failures, opened)?);
         Ok(())
     }
@@ -95,6 +108,7 @@ impl<'a, F: Files<File = File>> Connector for FileConnector<'a, F> {
             return counted(&mut self.failures, Err(no_connection()));
         };
         let outcome = open.read(buffer);
+        self.failure = failure_of(&outcome);
         counted(&mut self.failures, outcome)
     }
 
@@ -104,6 +118,10 @@ impl<'a, F: Files<File = File>> Connector for FileConnector<'a, F> {
 
     fn failures(&self) -> u64 {
         self.failures
+    }
+
+    fn failure(&self) -> Option<Failure> {
+        self.failure
     }
 
     ghost some = { λ s. (ended, tt) };

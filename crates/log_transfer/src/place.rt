@@ -2,7 +2,7 @@
 
 ghost use Rattle.std.specs.Prelude.{◌≡◌, ◌↔◌, IsTrue};
 ghost use Rattle.log_transfer.specs.Places.{IsEnd, may_go_on};
-ghost use Rattle.log_transfer.specs.Pulls.{first_place};
+ghost use Rattle.log_transfer.specs.Pulls.{first_place, place_behind};
 
 use log_format::Status;
 
@@ -41,6 +41,19 @@ impl Place {
     {
         Place {
             held: 0,
+            tries,
+            is_open: false,
+            count: 0,
+            last: Status::Failed,
+        }
+    }
+
+    // Before the first connection, where so many frames are held already.
+    pub(crate) fn behind(held: u32, tries: u8) -> Place
+        ensures { result ≡ place_behind held tries }
+    {
+        Place {
+            held,
             tries,
             is_open: false,
             count: 0,

@@ -3,11 +3,13 @@
 ghost use Rattle.std.specs.Prelude.{◌≡◌, ◌<◌, ◌≤◌, ℕ, [], IfOk, Ok, OnErr, length, take};
 ghost use Rattle.log_transfer.specs.Connections.{GivesSome};
 ghost use Rattle.log_transfer.specs.Places.{IsCaused, IsEnd, IsPlace, MayTry};
-ghost use Rattle.log_transfer.specs.Pulls.{IsStep, first_place};
+ghost use Rattle.log_transfer.specs.Pulls.{IsStep, first_place, place_behind};
+ghost use Rattle.wire.specs.declared.limits.TheConstants.{MOST_ENTRIES};
 ghost use Rattle.log_transfer.specs.declared.budget.TheConstants.{MOST_OF_A_STREAM};
 
 use crate::connector::Connector;
 use crate::error::FetchError;
+use crate::failure::Failure;
 use crate::place::Place;
 use crate::steps::advance;
 use log_format::Status;
@@ -95,6 +97,19 @@ impl<C: Connector> Pull<C> {
         }
     }
 
+    /// The same, where so many frames of the source are held already: only those behind them are asked for.
+    pub fn behind(connector: C, held: u32, tries: u8) -> Pull<C>
+        requires may { MayTry (C.allowed connector) tries }
+        requires few { held ≤ MOST_ENTRIES }
+        ensures connector { result.connector ≡ connector }
+        ensures place { result.place ≡ place_behind held tries }
+    {
+        Pull {
+            connector,
+            place: Place::behind(held, tries),
+        }
+    }
+
     /// The next frame: its payload stands in the vector, of 1 to 65,536 bytes. At the end the vector is empty, and
     /// each later call gives the same end without a call of the connector.
     ///
@@ -127,5 +142,10 @@ impl<C: Connector> Pull<C> {
         ensures next { (k f m : ℕ) → GivesSome (C.gives self.now.connector k f m) }
     {
         self.connector.failures()
+    }
+
+    /// Why its last call failed, where it did and the connector knows.
+    pub fn failure(&self) -> Option<Failure> {
+        self.connector.failure()
     }
 }

@@ -10,12 +10,14 @@ ghost use Rattle.log_transfer.specs.declared.place.TheConstants.{MOST_TRIES};
 use crate::budget::Budget;
 use crate::connector::Connector;
 use crate::dial::Dial;
+use crate::failure::Failure;
 use crate::place::MOST_TRIES;
+use crate::tcp_connector::{CONNECT_SECONDS, WAIT_SECONDS};
 use crate::tries::{counted, no_connection};
 use log_format::FrameRequest;
-use std::io;
 use std::io::{ErrorKind, Read, Write};
 use std::time::{Clock, Duration, Instant};
+use std::{io, thread};
 use streams::Fault;
 
 /// How many seconds all reads of one connection may wait together. It bounds a server that sends a few bytes at a time;
@@ -42,6 +44,19 @@ pub struct ServerConnector<'a, R, D: Dial> {
     dialer: D,
     open: Option<Open<D::Stream>>,
     failures: u64,
+    // Of the last call.
+    failure: Option<Failure>,
+    // In seconds: how long it waits before the second connection, and three times as long before the third.
+    pause: u64,
+    connects: u8,
+}
+
+// Why a call failed, if it did. A connection is given up after so many seconds.
+fn failure_of<T>(outcome: &io::Result<T>, whole: u64) -> Option<Failure> {
+    match outcome {
+        Ok(_) => None,
+        Err(error) => Some(Failure::of_server(error, WAIT_SECONDS, whole)),
+    }
 }
 
 impl<S: Read + Write + Drop> Open<S> {
@@ -89,7 +104,38 @@ impl<'a, R: Clock, D: Dial> ServerConnector<'a, R, D> {
             dialer,
             open: None,
             failures: 0,
+            failure: None,
+            pause: 0,
+            connects: 0,
         }
+    }
+
+    /// The same, which waits before its second connection so many seconds, and before its third three times as many: a
+    /// server that just started, or that another client held, gets the time that it needs.
+    pub fn with_pause(self, seconds: u64) -> ServerConnector<'a, R, D>
+        ensures { result.failures ≡ self.entry.failures }
+    {
+        ServerConnector {
+            pause: seconds,
+            ..self
+        }
+    }
+
+    // Waits as long as is due before the next connection.
+    fn wait(&mut self)
+        ensures same { (self.new.dialer ≡ self.old.dialer) × (self.new.open ≡ self.old.open)
+            × (self.new.failures ≡ self.old.failures) }
+    {
+        let times = match self.connects {
+            0 => 0,
+            1 => 1,
+            _ => 3,
+        };
+        let pause = Duration::from_secs(self.pause.saturating_mul(times));
+        if !pause.is_zero() {
+            thread::sleep(self.clock, pause);
+        }
+        self.connects = self.connects.saturating_add(1);
     }
 
     // Connects, and sends the request.
@@ -122,7 +168,9 @@ impl<'a, R: Clock, D: Dial> Connector for ServerConnector<'a, R, D> {
 
     fn connect(&mut self, first: u32, most: u32) -> Result<(), Fault> {
         self.open = None;
+        self.wait();
         let opened = self.ask(FrameRequest { first, most });
+        self.failure = failure_of(&opened, CONNECT_SECONDS);
         self.open = Some(counted(&mut self.failures, opened)?);
         Ok(())
     }
@@ -132,6 +180,7 @@ impl<'a, R: Clock, D: Dial> Connector for ServerConnector<'a, R, D> {
             return counted(&mut self.failures, Err(no_connection()));
         };
         let outcome = open.read(self.clock, buffer);
+        self.failure = failure_of(&outcome, CONNECTION_SECONDS);
         counted(&mut self.failures, outcome)
     }
 
@@ -141,6 +190,10 @@ impl<'a, R: Clock, D: Dial> Connector for ServerConnector<'a, R, D> {
 
     fn failures(&self) -> u64 {
         self.failures
+    }
+
+    fn failure(&self) -> Option<Failure> {
+        self.failure
     }
 
     ghost some = { λ s. (ended, tt) };

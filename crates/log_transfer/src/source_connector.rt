@@ -3,6 +3,7 @@
 ghost use Rattle.log_transfer.specs.Sources.{asked_of, gives_of, left_of, number_of, reaches_of, some_of, stays_of};
 
 use crate::connector::Connector;
+use crate::failure::Failure;
 use crate::file_connector::FileConnector;
 use crate::tcp_connector::TcpConnector;
 use streams::Fault;
@@ -64,6 +65,13 @@ impl<S: Connector, F: Connector> Connector for ServerOrFile<S, F> {
         match self {
             ServerOrFile::Tcp(server) => server.failures(),
             ServerOrFile::File(file) => file.failures(),
+        }
+    }
+
+    fn failure(&self) -> Option<Failure> {
+        match self {
+            ServerOrFile::Tcp(server) => server.failure(),
+            ServerOrFile::File(file) => file.failure(),
         }
     }
 

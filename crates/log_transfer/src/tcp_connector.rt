@@ -6,6 +6,7 @@ use crate::dial::Dial;
 use crate::server_connector::ServerConnector;
 use crate::tries::no_connection;
 use std::io;
+use std::io::ErrorKind;
 use std::net::{Net, SocketAddr, TcpStream, ToSocketAddrs};
 use std::time::{Clock, Duration};
 
@@ -34,11 +35,11 @@ pub type TcpConnector<'a, R> = ServerConnector<'a, R, TcpDialer<'a, R>>;
 
 impl<'a, R: Net<Stream = TcpStream> + Clock> ServerConnector<'a, R, TcpDialer<'a, R>> {
     /// The server at an address, such as `127.0.0.1:7000` or `replica-2:7000`, not connected yet, with no failure so
-    /// far.
-    pub fn new(net: &'a R, address: &'a str) -> TcpConnector<'a, R>
+    /// far. Before a second connection it waits so many seconds, and before a third three times as many.
+    pub fn new(net: &'a R, address: &'a str, pause: u64) -> TcpConnector<'a, R>
         ensures { result.failures ≡ 0 }
     {
-        ServerConnector::over(net, TcpDialer { net, address })
+        ServerConnector::over(net, TcpDialer { net, address }).with_pause(pause)
     }
 }
 
@@ -47,7 +48,12 @@ impl<R: Net<Stream = TcpStream>> TcpDialer<'_, R> {
     fn connect_to_one(&self) -> io::Result<TcpStream> {
         let timeout = Duration::from_secs(CONNECT_SECONDS);
         let mut last = no_connection();
-        for address in self.address.to_socket_addrs(self.net)?.take(MOST_ADDRESSES) {
+        let addresses = match self.address.to_socket_addrs(self.net) {
+            Ok(addresses) => addresses,
+            // so that a look-up that failed is told from what a host answers
+            Err(_) => return Err(io::Error::from(ErrorKind::NotFound)),
+        };
+        for address in addresses.take(MOST_ADDRESSES) {
             match TcpStream::connect_timeout(self.net, &address, timeout) {
                 Ok(stream) => return Ok(stream),
                 Err(error) => last = error,

@@ -3,6 +3,7 @@
 ghost use Rattle.std.specs.Prelude.{◌≡◌};
 
 use crate::connector::Connector;
+use crate::failure::Failure;
 use streams::Fault;
 
 /// Is told how far a source has come.
@@ -61,6 +62,10 @@ impl<'a, C: Connector, W: Watch> Connector for Watched<'a, C, W> {
 
     fn failures(&self) -> u64 {
         self.connector.failures()
+    }
+
+    fn failure(&self) -> Option<Failure> {
+        self.connector.failure()
     }
 
     fn reached(&self, frames: u32) {

@@ -1,3 +1,4 @@
+pub mod Addresses
 pub mod Sources
 pub mod Numbers
 pub mod Endings

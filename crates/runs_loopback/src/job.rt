@@ -1,6 +1,7 @@
 //! Runs of the tool, and of the checker.
 
 use check_command::run_program;
+use key_files::KnownSeed;
 use std::alloc::Global;
 use std::fs::{File, Files};
 use std::net::{Net, TcpListener, TcpStream};
@@ -112,11 +113,13 @@ impl Job<'_> {
             rt,
             alloc,
             console: None,
+            is_typed: false,
         };
         let mut out = MemorySink::new(alloc);
         let mut faults = MemorySink::new(alloc);
         let status = run_tool(
             &host,
+            &KnownSeed::none(),
             &words,
             &mut MemoryFeed::new(input),
             &mut out,

@@ -1,6 +1,7 @@
 //! Runs scenarios of a replica at the operator's tool: the script on standard input, over the files of `data`.
 #![tactic(auto)]
 
+use key_files::KnownSeed;
 use runs_script::run_script;
 use std::io;
 use streams::{MemoryFeed, MemorySink};
@@ -17,8 +18,16 @@ fn main(rt: HostRuntime) -> io::Result<()> {
                         rt: &rt,
                         alloc: rt.alloc(),
                         console: None,
+                        is_typed: false,
                     };
-                    Some(run_tool(&host, words, &mut MemoryFeed::new(input), out, faults))
+                    Some(run_tool(
+                        &host,
+                        &KnownSeed::none(),
+                        words,
+                        &mut MemoryFeed::new(input),
+                        out,
+                        faults,
+                    ))
                 }
                 _ => None,
             }

@@ -5,6 +5,7 @@ mod frames;
 
 use check_command::run_program;
 use frames::make_frames;
+use key_files::KnownSeed;
 use runs_script::{FailingFiles, Failure, run_script};
 use std::alloc::Global;
 use std::fs::{File, Files};
@@ -14,7 +15,13 @@ use std::sync::Wait;
 use std::thread::Threads;
 use std::time::Clock;
 use streams::{MemoryFeed, MemorySink};
-use tool_commands::{Host, run_tool};
+use tool_commands::{FAULT, Host, run_tool};
+
+// What the random source gives: the seed of replica 2 of the trial committee.
+const DRAWN: [u8; 48] = [
+    2, 2, 2, 2, 2, 2, 2, 2, 2, 2, 2, 2, 2, 2, 2, 2, 18, 18, 18, 18, 18, 18, 18, 18, 18, 18, 18, 18,
+    18, 18, 18, 18, 18, 18, 18, 18, 18, 18, 18, 18, 18, 18, 18, 18, 18, 18, 18, 18,
+];
 
 // The operator's tool, also where memory is refused or the disk is full, the checker, and a maker of long exports.
 fn run_named<
@@ -38,20 +45,20 @@ where
 {
     let alloc = rt.alloc();
     match name {
-        "hs_tool" => Some(tool(rt, rt, alloc, words, out, faults)),
+        "hs_tool" => Some(tool(rt, rt, alloc, words, input, out, faults)),
         "hs_tool_without_memory" => {
             let files = FailingFiles {
                 rt,
                 failure: Failure::Memory,
             };
-            Some(tool(&files, rt, alloc, words, out, faults))
+            Some(tool(&files, rt, alloc, words, input, out, faults))
         }
         "hs_tool_on_a_full_disk" => {
             let files = FailingFiles {
                 rt,
                 failure: Failure::FullDisk,
             };
-            Some(tool(&files, rt, alloc, words, out, faults))
+            Some(tool(&files, rt, alloc, words, input, out, faults))
         }
         "hs_check" => Some(run_program(rt, alloc, words, input, out, faults)),
         "frames" => Some(make_frames(rt, words)),
@@ -67,6 +74,7 @@ fn tool<
     rt: &T,
     alloc: Global,
     words: &[String],
+    input: &[u8],
     out: &mut MemorySink,
     faults: &mut MemorySink,
 ) -> u8
@@ -78,9 +86,13 @@ where
         rt,
         alloc,
         console: None,
+        is_typed: false,
     };
-    let mut lines = MemoryFeed::new(Vec::new(alloc));
-    run_tool(&host, words, &mut lines, out, faults)
+    let Ok(input) = input.to_vec(alloc) else {
+        return FAULT;
+    };
+    let mut lines = MemoryFeed::new(input);
+    run_tool(&host, &KnownSeed::of(DRAWN), words, &mut lines, out, faults)
 }
 
 fn main(rt: HostRuntime) -> io::Result<()> {

@@ -61,7 +61,7 @@ fn are_stored(frames: &[Payload]) -> bool {
 
 // Whether a server gives the stored export over one connection.
 fn gives_log<R: Net<Stream = TcpStream> + Clock>(rt: &R, alloc: Global, address: &str) -> bool {
-    match fetch(alloc, &mut TcpConnector::new(rt, address), 1) {
+    match fetch(alloc, &mut TcpConnector::new(rt, address, 0), 1) {
         Ok(came) => came.status == Status::Whole && are_stored(&came.frames),
         Err(_) => false,
     }

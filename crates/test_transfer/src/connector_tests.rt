@@ -142,6 +142,7 @@ where
     let source: SourceConnector<R, F> = SourceConnector::Tcp(TcpConnector::new(
         rt,
         address.as_str(),
+        0,
     ));
     comes_whole(
         rt,
@@ -165,7 +166,7 @@ fn a_server_is_asked_twice(rt: HostRuntime) -> Result<(), Fail> {
 #[test]
 fn no_server(rt: HostRuntime) {
     for address in ["127.0.0.1:1", "nowhere"] {
-        let mut source = TcpConnector::new(&rt, address);
+        let mut source = TcpConnector::new(&rt, address, 0);
         assert!(rt;
             has(rt.alloc(), &mut source, 2, 0, Status::Failed),
             "{address}"

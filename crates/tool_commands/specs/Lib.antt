@@ -3,7 +3,9 @@ pub mod Audits
 pub mod Commands
 pub mod FaultLines
 pub mod Lines
+pub mod Occupied
 pub mod OpenedSources
+pub mod Seeds
 pub mod SourceTries
 pub mod Stays
 pub mod Writes

@@ -1,13 +1,14 @@
 -- The lines that commands print.
-use Rattle.std.specs.Prelude.{◌≡◌, ◌⊎◌, ℕ, List, ◌++◌, IfSome, Option, Ok, codes, decimal, length}
+use Rattle.std.specs.Prelude.{◌≡◌, ◌⊎◌, ℕ, List, ◌++◌, IfSome, Option, codes, decimal, length}
 use Rattle.std.specs.List.{AllZip}
-use Rattle.hex.specs.Hex.{decode_of, encode_lower}
+use Rattle.hex.specs.Hex.{encode_lower}
 use Rattle.streams.specs.Streams.{Wrote}
 use Rattle.blocks.specs.Committees.{IsCommittee, Member, committee_text, multikey_text, weighted_text}
 use Rattle.blocks.specs.Genesis.{chain_id_of, genesis_of}
 use Rattle.blocks.specs.Headers.{Header}
 use Rattle.blocks.specs.Replay.{IsLegal}
 use Rattle.key_files.specs.KeyFiles.{key_line}
+use Rattle.stable_log.specs.Image.{StandsFor}
 use Rattle.stable_log.specs.State.{JournalState}
 use Rattle.stable_log.specs.declared.disk.Disk.{Ghosts}
 use Rattle.vote_log.specs.Logs.{LogState}
@@ -16,12 +17,12 @@ use Rattle.tool_words.specs.declared.command.WeightedReplica.{WeightedReplica}
 
 -- ---- keys
 
--- the key line of the key id and the seed that these digits spell
-pub record IsKeyPrinted (digits : List ℕ) (before after : Option (List ℕ)) : Type 0 where
+-- the key line of a key id and a seed, which are such bytes
+pub record IsKeyPrinted (IsSeed : List ℕ → Type 0) (before after : Option (List ℕ)) : Type 0 where
   pub key_id : List ℕ
   pub seed : List ℕ
   pub id_size : length key_id ≡ 16
-  pub spelled : decode_of digits ≡ Ok (key_id ++ seed)
+  pub is_seed : IsSeed (key_id ++ seed)
   pub wrote : Wrote before after (key_line key_id seed)
 
 -- ---- committees
@@ -59,6 +60,17 @@ pub record IsCarriedOver {D : Type 0} (disk : Ghosts D) (genesis : Header) (old 
   pub runs : IsRunningLog genesis (length old.payloads) log
   pub legal : IsLegal genesis log.steps
   pub same : IfSome (disk.bytes old.disk) (λ _. IfSome (disk.bytes empty) (λ _. AreCarriedOver old.payloads log.entries))
+
+-- "exported COUNT"
+abbrev pub exported_line : ℕ → List ℕ
+exported_line count = codes "exported " ++ (decimal count ++ codes "\n")
+
+-- of as many payloads as the bytes of a journal stand for
+pub record IsExportPrinted (before after : Option (List ℕ)) : Type 0 where
+  pub bytes : List ℕ
+  pub payloads : List (List ℕ)
+  pub stands : StandsFor bytes payloads
+  pub wrote : Wrote before after (exported_line (length payloads))
 
 -- "migrated COUNT"
 abbrev pub migrated_line : ℕ → List ℕ

@@ -8,7 +8,6 @@ ghost use Rattle.program_parts.specs.Writes.{CountsWrites};
 
 use crate::fault::{Fault, FolderFile, ToolFault, fault_of_run};
 use crate::host::Host;
-use crate::new_file::replace_file;
 use crate::progress::Progress;
 use crate::sources::{open_sources, read_source_words};
 use blocks::CommitteeView;
@@ -17,6 +16,7 @@ use culprit_search::{Report, Verdict};
 use log_transfer::{Connector, SourceConnector};
 use parallel_verify::Source;
 use program_parts::{ProgramFault, parse_committee, read_committee};
+use safe_files::replace_file;
 use source_audit::audit_run_of;
 use std::alloc::Global;
 use std::fs;

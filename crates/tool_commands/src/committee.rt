@@ -7,11 +7,12 @@ ghost use Rattle.program_parts.specs.Writes.{CountsWrites};
 ghost use Rattle.tool_commands.specs.Lines.{IsChainPrinted, IsMemberOf, IsTextOfKeys, IsTextOfReplicas, chain_line as chain_text};
 
 use crate::fault::Fault;
-use crate::new_file::replace_file;
+use crate::occupied::see_place;
 use blocks::{Id, Member, write_committee, write_multikey_committee, write_weighted_committee};
 use lms_tree::PUBLIC_KEY_LEN;
 use printed_lines::put_id;
 use program_parts::{ProgramFault, parse_committee, read_named};
+use safe_files::replace_file;
 use std::alloc::{AllocError, Global};
 use std::fs::{File, Files};
 use streams::{Sink, write_all};
@@ -21,7 +22,7 @@ use wire::{MOST_KEYS, array_at};
 /// Reads the key files, 56 bytes each, the key of replica 0 first. Where they make a committee of f
 /// faulty replicas, writes its bytes to `path`, new or in place of what was there, and prints `chain ` and the
 /// chain id's 64 hex digits. A key file of another length is its fault; a refused committee writes nothing, nor does
-/// one whose file is also one of its keys.
+/// one whose file is also one of its keys, or holds what may not be lost: see `see_place`.
 pub fn committee<'a, F: Files<File = File>, W: Sink>(
     rt: &F,
     alloc: Global,
@@ -120,6 +121,7 @@ fn publish<'a, F: Files<File = File>, W: Sink>(
     ensures counted { CountsWrites result (W.failed out.old) (W.failed out.new) }
 {
     let line = chain_line(alloc, &parse_committee(bytes)?.chain())?;
+    see_place(rt, alloc, path)?;
     if let Err(error) = replace_file(rt, alloc, path, bytes) {
         return Err(Fault::unless_memory(&error, Fault::File(path)));
     }

@@ -14,4 +14,6 @@ pub struct Host<'a, F, T> {
     pub alloc: Global,
     /// Where an audit shows how far it has come, if someone looks.
     pub console: Option<Stderr>,
+    /// Whether someone types the standard input.
+    pub is_typed: bool,
 }

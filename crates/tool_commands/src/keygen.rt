@@ -4,35 +4,36 @@ ghost use Rattle.std.specs.Prelude.{◌≡◌, OnOk};
 ghost use Rattle.key_files.specs.declared.files.KeyFile.{KeyFile as KeyFileValue};
 ghost use Rattle.program_parts.specs.Writes.{CountsWrites};
 ghost use Rattle.tool_commands.specs.Lines.{IsKeyPrinted};
+ghost use Rattle.tool_commands.specs.Seeds.{IsSeedOf};
 
 use crate::fault::{Fault, FolderFile, ToolFault};
 use crate::host::Host;
-use key_files::{KeyFault, SystemFolder, make_key};
-use lmots::{PRIVATE_SEED_LEN, PrivateSeed};
+use crate::seeds::seed_of;
+use key_files::{DrawSeed, KeyFault, SystemFolder, make_key};
 use program_parts::ProgramFault;
 use std::fs::{File, Files};
 use std::thread::Threads;
-use streams::Sink;
+use streams::{Feed, Sink};
+use tool_words::SeedWord;
 use wire::KeyNumber;
 
-/// Makes the key of this number of a seed (96 hex digits, key id then seed), and
-/// writes its files into the folder at `path`, as `make_key` does.
-pub fn keygen<'a, F: Files<File = File>, T: Threads + Sync, W: Sink>(
+/// Makes the key of this number of the seed that a word names, and writes its files into the folder at `path`, as `make_key`
+/// does. Only `--stdin` reads `lines`.
+pub fn keygen<'a, F: Files<File = File>, T: Threads + Sync, S: DrawSeed, R: Feed, W: Sink>(
     host: &Host<'a, F, T>,
-    seed: &'a str,
+    seeds: &S,
+    seed: SeedWord<'a>,
     path: &'a str,
     key: KeyNumber,
+    lines: &mut R,
     out: &mut W,
 ) -> Result<(), Fault<'a>>
     ensures line { OnOk result
-        (IsKeyPrinted seed.entry.now (W.text out.old) (W.text out.new)) }
+        (IsKeyPrinted (IsSeedOf (S.draws seeds.now) (R.rest lines.old) seed.entry)
+        (W.text out.old) (W.text out.new)) }
     ensures counted { CountsWrites result (W.failed out.old) (W.failed out.new) }
 {
-    let mut bytes = [0; PRIVATE_SEED_LEN];
-    if hex::decode_to_slice(seed, &mut bytes).is_err() {
-        return Err(Fault::Own(ToolFault::Hex));
-    }
-    let secret = PrivateSeed::from_bytes(&bytes);
+    let secret = seed_of(host, seeds, seed, path, lines)?;
     let mut folder = SystemFolder::new(host.files, host.alloc, path);
     match make_key(host.rt, host.alloc, &mut folder, key, secret, out) {
         Ok(()) => Ok(()),

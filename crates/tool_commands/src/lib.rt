@@ -4,13 +4,15 @@
 
 mod audit;
 mod committee;
+mod export;
 mod fault;
 mod host;
 mod keygen;
 mod migrate;
-mod new_file;
+mod occupied;
 mod progress;
 mod replica;
+mod seeds;
 mod sources;
 mod tool;
 

@@ -7,23 +7,23 @@ ghost use Rattle.program_parts.specs.Writes.{CountsWrites};
 ghost use Rattle.tool_commands.specs.Lines.{IsCarriedOver, IsMigrationPrinted, migrated_line as migrated_text};
 
 use crate::fault::{Fault, ToolFault};
+use crate::occupied::see_new;
 use blocks::Header;
 use printed_lines::put_number;
 use program_parts::{ProgramFault, parse_committee, read_committee};
+use safe_files::NewName;
 use stable_log::{Disk, FileDisk, Journal, JournalError};
 use std::alloc::{AllocError, Global};
-use std::fs;
 use std::fs::{File, Files, OpenOptions};
-use std::io::ErrorKind;
 use streams::{Sink, write_all};
 use vote_log::{LogError, migrate};
 
 /// Carries the log in the file at `old` over to a new file at `new`, and prints `migrated ` and how many entries it has.
 /// The old log is opened for reading alone, and read whole before anything is written. The committee at `path` is that of the
 /// log's chain. In this order: `old` that can't be opened, or is no journal, `path` that can't be read, or is no committee,
-/// `new` that is there already, and an entry of `old` that is not of the old form or not legal. After one of these there is no
-/// file at `new` that was not there before, unless the system would not remove it. After `Output`, or where memory for the
-/// line is refused, the whole log is there.
+/// `new` that is there already, and an entry of `old` that is not of the old form or not legal. The log is written to
+/// `NEW.new`, which takes its name once it is whole: after one of these, and after a crash, there is no file at `new` that
+/// was not there before. After `Output`, or where memory for the line is refused, the whole log is there.
 pub fn migrate_log<'a, F: Files<File = File>, W: Sink>(
     rt: &F,
     alloc: Global,
@@ -39,16 +39,17 @@ pub fn migrate_log<'a, F: Files<File = File>, W: Sink>(
     let log = open_old(rt, alloc, old)?;
     let bytes = read_committee(rt, alloc, path)?;
     let committee = parse_committee(&bytes)?;
-    let disk = make_new(rt, new)?;
+    let (name, disk) = make_new(rt, alloc, new)?;
     let count = match carry(alloc, log, disk, committee.genesis()) {
         Ok(count) => count,
         Err(fault) => {
-            if fs::remove_file(rt, new).is_err() {
-                // It stays, and the next try tells it.
-            }
+            name.give_up();
             return Err(fault);
         }
     };
+    if let Err(error) = name.take_new() {
+        return Err(Fault::unless_memory(&error, Fault::File(new)));
+    }
     let line = migrated_line(alloc, count)?;
     match write_all(out, &line) {
         Ok(()) => Ok(()),
@@ -85,14 +86,17 @@ fn open_old<'a, F: Files<File = File>>(
     }
 }
 
-// A new file, as a disk.
-fn make_new<'a, F: Files<File = File>>(rt: &F, path: &'a str) -> Result<FileDisk, Fault<'a>>
+// A new file, as a disk, which has still to take its name.
+fn make_new<'a, 'f, F: Files<File = File>>(
+    rt: &'f F,
+    alloc: Global,
+    path: &'a str,
+) -> Result<(NewName<'f, 'a, F>, FileDisk), Fault<'a>>
     ensures { IfErr result (λ fault. fault ≢ ProgramFault.Output) }
 {
-    let mut how = OpenOptions::new();
-    how.read(true).write(true).create_new(true);
-    match how.open(rt, path) {
-        Ok(file) => Ok(FileDisk::new(file)),
+    see_new(rt, path)?;
+    match NewName::begin(rt, alloc, path) {
+        Ok((name, file)) => Ok((name, FileDisk::new(file))),
         Err(error) => Err(Fault::unless_memory(&error, Fault::File(path))),
     }
 }

@@ -36,6 +36,9 @@ pub(crate) fn read_source_words<'a>(
     Ok(sources)
 }
 
+/// How many seconds pass before a server is asked again; before it is asked a third time three times as many.
+const PAUSE_SECONDS: u64 = 1;
+
 // A server may have as many tries as words can ask for.
 const _: () = prove!(MOST_TRIES == 3);
 
@@ -62,7 +65,7 @@ fn source_of<'a, 'p, F: Files<File = File>, T: Net<Stream = TcpStream> + Clock, 
 {
     let connector = match word.origin {
         Origin::File(path) => SourceConnector::File(FileConnector::new(host.files, path)),
-        Origin::Tcp(address) => SourceConnector::Tcp(TcpConnector::new(host.rt, address)),
+        Origin::Tcp(address) => SourceConnector::Tcp(TcpConnector::new(host.rt, address, PAUSE_SECONDS)),
     };
     Source {
         replica: word.replica,

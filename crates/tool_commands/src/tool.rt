@@ -4,17 +4,18 @@ ghost use Rattle.std.specs.Prelude.{◌≡◌, ◌≢◌, ◌⊎◌, ◌↔◌, 
 ghost use Rattle.program_parts.specs.Writes.{CountsWrites};
 ghost use Rattle.tool_words.specs.Commands.{IsAskedBy};
 ghost use Rattle.tool_words.specs.declared.command.Command.{Command as CommandValue};
-ghost use Rattle.tool_commands.specs.Commands.{AreCulpritsFound, IsDone, IsStopped};
-ghost use Rattle.tool_commands.specs.Stays.{AreReadOf};
+ghost use Rattle.tool_commands.specs.Commands.{AreCulpritsFound, IsDone, IsStopped, lend};
 ghost use Rattle.tool_commands.specs.Writes.{TellsFault};
 
 use crate::audit::audit_sources;
 use crate::committee::{committee, weighted};
+use crate::export::export_log;
 use crate::fault::Fault;
 use crate::host::Host;
 use crate::keygen::keygen;
 use crate::migrate::migrate_log;
 use crate::replica::replica;
+use key_files::DrawSeed;
 use log_transfer::{Connector, SourceConnector};
 use program_parts::FAULT;
 use replica_command::Ending;
@@ -45,32 +46,41 @@ hs_tool migrate OLD NEW COMMITTEE
 /// Does what the words ask for, and answers the exit status: `DONE`, `CULPRITS` or `FAULT`. Facts go to `out`, and with
 /// `FAULT` a fault's line to `faults`, which is else left alone: `fault output` exactly where a write of facts failed. Where
 /// a disk failed under a replica, the facts say it, and there is no fault's line with `FAULT`. The words stand without the
-/// program's name; only `replica` reads `lines`.
+/// program's name; only `replica` and `keygen --stdin` read `lines`, and only `keygen --random` draws of `seeds`.
 pub fn run_tool<
     'a,
     F: Files<File = File> + Sync,
     T: Threads + Wait + Clock + Net<Listener = TcpListener, Stream = TcpStream> + Sync,
+    S: DrawSeed,
     R: Feed,
     W: Sink,
     E: Sink,
->(host: &Host<'a, F, T>, words: &[String], lines: &mut R, out: &mut W, faults: &mut E) -> u8
+>(
+    host: &Host<'a, F, T>,
+    seeds: &S,
+    words: &[String],
+    lines: &mut R,
+    out: &mut W,
+    faults: &mut E,
+) -> u8
 where
     F::Dir: Send,
     ensures status { (result ≡ 0) ⊎ (result ≡ 2) ⊎ (result ≡ 3) }
     ensures done { result ≡ 0 → (command : CommandValue) × IsAskedBy words.now command
-        × IsDone ⟦<FileDisk as Disk>⟧ ⟦<SourceConnector<'a, T, F> as Connector>⟧
-        (AreReadOf R.Feed lines.old lines.new) command (W.text out.old) (W.text out.new) }
+        × IsDone (lend ⟦<FileDisk as Disk>⟧ ⟦<SourceConnector<'a, T, F> as Connector>⟧
+        (S.draws seeds.now) R.Feed lines.old lines.new) command (W.text out.old) (W.text out.new) }
     ensures culprits { result ≡ 3 → (command : CommandValue) × IsAskedBy words.now command
-        × AreCulpritsFound ⟦<SourceConnector<'a, T, F> as Connector>⟧ command
-        (W.text out.old) (W.text out.new) }
+        × AreCulpritsFound (lend ⟦<FileDisk as Disk>⟧ ⟦<SourceConnector<'a, T, F> as Connector>⟧
+        (S.draws seeds.now) R.Feed lines.old lines.new) command (W.text out.old) (W.text out.new) }
     ensures quiet { result ≢ 2 → (faults.new ≡ faults.old) × (W.failed out.new ≡ W.failed out.old) }
     ensures told { result ≡ 2 → ((faults.new ≡ faults.old) × (W.failed out.new ≡ W.failed out.old)
-        × (command : CommandValue) × IsAskedBy words.now command × IsStopped ⟦<FileDisk as Disk>⟧
-        (AreReadOf R.Feed lines.old lines.new) command (W.text out.old) (W.text out.new))
+        × (command : CommandValue) × IsAskedBy words.now command
+        × IsStopped (lend ⟦<FileDisk as Disk>⟧ ⟦<SourceConnector<'a, T, F> as Connector>⟧
+        (S.draws seeds.now) R.Feed lines.old lines.new) command (W.text out.old) (W.text out.new))
         ⊎ TellsFault (E.text faults.old) (E.text faults.new) (E.failed faults.old)
         (E.failed faults.new) (W.failed out.old) (W.failed out.new) }
 {
-    match run(host, words, lines, out) {
+    match run(host, seeds, words, lines, out) {
         Ok(ended) => ended.status(),
         Err(fault) => {
             fault.tell(faults);
@@ -116,10 +126,12 @@ fn run<
     'a,
     F: Files<File = File> + Sync,
     T: Threads + Wait + Clock + Net<Listener = TcpListener, Stream = TcpStream> + Sync,
+    S: DrawSeed,
     R: Feed,
     W: Sink,
 >(
     host: &Host<'a, F, T>,
+    seeds: &S,
     words: &'a [String],
     lines: &mut R,
     out: &mut W,
@@ -128,20 +140,20 @@ where
     F::Dir: Send,
     ensures done { IfOk result (λ ended. ended ≡ Ended.Done → (command : CommandValue)
         × IsAskedBy words.now command
-        × IsDone ⟦<FileDisk as Disk>⟧ ⟦<SourceConnector<'a, T, F> as Connector>⟧
-        (AreReadOf R.Feed lines.old lines.new) command (W.text out.old) (W.text out.new)) }
+        × IsDone (lend ⟦<FileDisk as Disk>⟧ ⟦<SourceConnector<'a, T, F> as Connector>⟧
+        (S.draws seeds.now) R.Feed lines.old lines.new) command (W.text out.old) (W.text out.new)) }
     ensures culprits { IfOk result (λ ended. ended ≡ Ended.Culprits → (command : CommandValue)
         × IsAskedBy words.now command
-        × AreCulpritsFound ⟦<SourceConnector<'a, T, F> as Connector>⟧ command
-        (W.text out.old) (W.text out.new)) }
+        × AreCulpritsFound (lend ⟦<FileDisk as Disk>⟧ ⟦<SourceConnector<'a, T, F> as Connector>⟧
+        (S.draws seeds.now) R.Feed lines.old lines.new) command (W.text out.old) (W.text out.new)) }
     ensures stopped { IfOk result (λ ended. ended ≡ Ended.Stopped → (command : CommandValue)
         × IsAskedBy words.now command
-        × IsStopped ⟦<FileDisk as Disk>⟧ (AreReadOf R.Feed lines.old lines.new)
-        command (W.text out.old) (W.text out.new)) }
+        × IsStopped (lend ⟦<FileDisk as Disk>⟧ ⟦<SourceConnector<'a, T, F> as Connector>⟧
+        (S.draws seeds.now) R.Feed lines.old lines.new) command (W.text out.old) (W.text out.new)) }
     ensures counted { CountsWrites result (W.failed out.old) (W.failed out.new) }
 {
     match read_words(host.alloc, words) {
-        Ok(command) => done(host, &command, lines, out),
+        Ok(command) => done(host, seeds, &command, lines, out),
         Err(WordsFault::Usage) => Err(Fault::Usage),
         Err(WordsFault::Memory) => Err(Fault::Memory),
     }
@@ -151,10 +163,12 @@ fn done<
     'a,
     F: Files<File = File> + Sync,
     T: Threads + Wait + Clock + Net<Listener = TcpListener, Stream = TcpStream> + Sync,
+    S: DrawSeed,
     R: Feed,
     W: Sink,
 >(
     host: &Host<'a, F, T>,
+    seeds: &S,
     command: &Command<'a>,
     lines: &mut R,
     out: &mut W,
@@ -162,20 +176,25 @@ fn done<
 where
     F::Dir: Send,
     ensures done { IfOk result (λ ended. ended ≡ Ended.Done
-        → IsDone ⟦<FileDisk as Disk>⟧ ⟦<SourceConnector<'a, T, F> as Connector>⟧
-        (AreReadOf R.Feed lines.old lines.new) command.now (W.text out.old) (W.text out.new)) }
+        → IsDone (lend ⟦<FileDisk as Disk>⟧ ⟦<SourceConnector<'a, T, F> as Connector>⟧
+        (S.draws seeds.now) R.Feed lines.old lines.new)
+        command.now (W.text out.old) (W.text out.new)) }
     ensures culprits { IfOk result (λ ended. ended ≡ Ended.Culprits
-        → AreCulpritsFound ⟦<SourceConnector<'a, T, F> as Connector>⟧ command.now
-        (W.text out.old) (W.text out.new)) }
+        → AreCulpritsFound (lend ⟦<FileDisk as Disk>⟧ ⟦<SourceConnector<'a, T, F> as Connector>⟧
+        (S.draws seeds.now) R.Feed lines.old lines.new)
+        command.now (W.text out.old) (W.text out.new)) }
     ensures stopped { IfOk result (λ ended. ended ≡ Ended.Stopped
-        → IsStopped ⟦<FileDisk as Disk>⟧ (AreReadOf R.Feed lines.old lines.new)
+        → IsStopped (lend ⟦<FileDisk as Disk>⟧ ⟦<SourceConnector<'a, T, F> as Connector>⟧
+        (S.draws seeds.now) R.Feed lines.old lines.new)
         command.now (W.text out.old) (W.text out.new)) }
     ensures counted { CountsWrites result (W.failed out.old) (W.failed out.new) }
 {
     let (files, alloc) = (host.files, host.alloc);
     match command {
         Command::Usage => write_all(out, USAGE).map_err(|_| Fault::Output)?,
-        Command::Keygen { seed, folder, key } => keygen(host, seed, folder, *key, out)?,
+        Command::Keygen { seed, folder, key } => {
+            keygen(host, seeds, *seed, folder, *key, lines, out)?;
+        }
         Command::Committee { f, out: path, keys } => committee(files, alloc, *f, path, keys, out)?,
         Command::Weighted {
             out: path,
@@ -208,6 +227,7 @@ where
             new,
             committee,
         } => migrate_log(files, alloc, old, new, committee, out)?,
+        Command::Export { log, out: path } => export_log(files, alloc, log, path, out)?,
     }
     Ok(Ended::Done)
 }

@@ -9,9 +9,9 @@ use wire::KeyNumber;
 pub enum Command<'a> {
     /// No words: print how the tool is called.
     Usage,
-    /// `keygen SEED DIR [--key K]`
+    /// `keygen SEED DIR [--key K]`; `--random` or `--stdin` may stand in place of SEED
     Keygen {
-        seed: &'a str,
+        seed: SeedWord<'a>,
         folder: &'a str,
         key: KeyNumber,
     },
@@ -47,6 +47,22 @@ pub enum Command<'a> {
         new: &'a str,
         committee: &'a str,
     },
+    /// `export LOG OUT`
+    Export {
+        log: &'a str,
+        out: &'a str,
+    },
+}
+
+/// Where the seed of a key comes from.
+#[derive(Clone, Copy, Debug)]
+pub enum SeedWord<'a> {
+    /// These digits.
+    Digits(&'a str),
+    /// The system's random source.
+    Random,
+    /// The digits that stand on the standard input.
+    Stdin,
 }
 
 /// A replica that has a weight, by the files of its keys.

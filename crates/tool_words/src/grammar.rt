@@ -11,6 +11,7 @@ pub(crate) fn parsed<'a>(alloc: Global, words: &'a [String]) -> Result<ArgMatche
     let grammar = with_replica(alloc, grammar)?;
     let grammar = with_audit(alloc, grammar)?;
     let grammar = with_migrate(alloc, grammar)?;
+    let grammar = with_export(alloc, grammar)?;
     grammar.try_get_matches_from(words)
 }
 
@@ -22,11 +23,22 @@ fn grammar<'a>(alloc: Global) -> Grammar<'a> {
 }
 
 fn with_keygen<'a>(alloc: Global, grammar: Grammar<'a>) -> Result<Grammar<'a>, AllocError> {
+    // SEED and DIR, or DIR alone
+    let words = Arg::new(alloc, "WORD")
+        .required(true)
+        .num_args(1..)
+        .action(ArgAction::Append);
     let keygen = Grammar::new(alloc, "keygen")
-        .arg(Arg::new(alloc, "SEED").required(true))?
-        .arg(Arg::new(alloc, "DIR").required(true))?
+        .arg(words)?
+        .arg(flag(alloc, "random"))?
+        .arg(flag(alloc, "stdin"))?
         .arg(Arg::new(alloc, "K").long("key"))?;
     grammar.subcommand(keygen)
+}
+
+// A word of its own, as `--random`.
+fn flag<'a>(alloc: Global, name: &'a str) -> Arg<'a> {
+    Arg::new(alloc, name).long(name).action(ArgAction::SetTrue)
 }
 
 fn with_committee<'a>(alloc: Global, grammar: Grammar<'a>) -> Result<Grammar<'a>, AllocError> {
@@ -81,4 +93,11 @@ fn with_migrate<'a>(alloc: Global, grammar: Grammar<'a>) -> Result<Grammar<'a>, 
         .arg(Arg::new(alloc, "NEW").required(true))?
         .arg(Arg::new(alloc, "COMMITTEE").required(true))?;
     grammar.subcommand(migrate)
+}
+
+fn with_export<'a>(alloc: Global, grammar: Grammar<'a>) -> Result<Grammar<'a>, AllocError> {
+    let export = Grammar::new(alloc, "export")
+        .arg(Arg::new(alloc, "LOG").required(true))?
+        .arg(Arg::new(alloc, "OUT").required(true))?;
+    grammar.subcommand(export)
 }

@@ -6,5 +6,5 @@ mod command;
 mod grammar;
 mod reading;
 
-pub use command::{Command, Requests, Service, Tries, WeightedReplica, Workers};
+pub use command::{Command, Requests, SeedWord, Service, Tries, WeightedReplica, Workers};
 pub use reading::{WordsFault, read_words};

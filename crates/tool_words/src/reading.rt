@@ -4,7 +4,7 @@ ghost use Rattle.std.specs.Prelude.{◌≡◌, ◌≢◌, ◌≤◌, ◌<◌, �
 ghost use Rattle.program_parts.specs.Words.{SpellsNumber};
 ghost use Rattle.tool_words.specs.Commands.{HasItsCounts, IsAskedBy, IsWeighted};
 
-use crate::command::{Command, Requests, Service, Tries, WeightedReplica, Workers};
+use crate::command::{Command, Requests, SeedWord, Service, Tries, WeightedReplica, Workers};
 use crate::grammar::parsed;
 use clap::ArgMatches;
 use clap::error::ErrorKind;
@@ -73,6 +73,7 @@ fn command<'a>(alloc: Global, matches: &ArgMatches<'a>) -> Result<Command<'a>, W
         Some(("replica", given)) => replica(given),
         Some(("audit", given)) => audit(alloc, given),
         Some(("migrate", given)) => migrate(given),
+        Some(("export", given)) => export(given),
         _ => Err(WordsFault::Usage),
     }
 }
@@ -81,7 +82,7 @@ fn keygen<'a>(given: &ArgMatches<'a>) -> Result<Command<'a>, WordsFault>
     ensures asked { IfOk result (λ command. command ≢ Command.Usage) }
     ensures counts { IfOk result HasItsCounts }
 {
-    let (Some(seed), Some(folder)) = (given.get_str("SEED"), given.get_str("DIR")) else {
+    let Some((seed, folder)) = seed_and_folder(given) else {
         return Err(WordsFault::Usage);
     };
     if folder.is_empty() {
@@ -92,6 +93,17 @@ fn keygen<'a>(given: &ArgMatches<'a>) -> Result<Command<'a>, WordsFault>
         folder,
         key: key_number(given.get_str("K"))?,
     })
+}
+
+// SEED and DIR, or one word that says where the seed comes from, and DIR.
+fn seed_and_folder<'a>(given: &ArgMatches<'a>) -> Option<(SeedWord<'a>, &'a str)> {
+    let words = given.get_strs("WORD")?;
+    match (words, given.get_flag("random"), given.get_flag("stdin")) {
+        ([seed, folder], false, false) => Some((SeedWord::Digits(seed), folder)),
+        ([folder], true, false) => Some((SeedWord::Random, folder)),
+        ([folder], false, true) => Some((SeedWord::Stdin, folder)),
+        _ => None,
+    }
 }
 
 // Where no number is said, the key is the first one; a number that is said is one of a further key.
@@ -263,6 +275,19 @@ fn migrate<'a>(given: &ArgMatches<'a>) -> Result<Command<'a>, WordsFault>
         new,
         committee,
     })
+}
+
+fn export<'a>(given: &ArgMatches<'a>) -> Result<Command<'a>, WordsFault>
+    ensures asked { IfOk result (λ command. command ≢ Command.Usage) }
+    ensures counts { IfOk result HasItsCounts }
+{
+    let (Some(log), Some(out)) = (given.get_str("LOG"), given.get_str("OUT")) else {
+        return Err(WordsFault::Usage);
+    };
+    if log.is_empty() || out.is_empty() {
+        return Err(WordsFault::Usage);
+    }
+    Ok(Command::Export { log, out })
 }
 
 fn has_empty(words: &[&str]) -> bool {

@@ -10,4 +10,4 @@ returns-in-Ok-clause-served g c =
 
 pub returns-in-Err-clause-served : goal.returns-in-Err-clause-served
 returns-in-Err-clause-served g c =
-    on_ok_weaker c.print_answer.result (λ wrote. (Err Source, tt, wrote)) c.print_answer.ensures.printed
+    on_ok_weaker c.print_answer-printed.result (λ wrote. (Err Source, tt, wrote)) c.print_answer-printed.ensures.printed
