@@ -4,7 +4,7 @@ ghost use Rattle.std.specs.Prelude.{IfOk};
 ghost use Rattle.std.specs.List.{AllZip};
 ghost use Rattle.follow_command.specs.Sources.{IsOpenedAs};
 
-use log_transfer::{Connector, FileConnector, SourceConnector, TcpConnector};
+use log_transfer::{Connector, FileConnector, PAUSE_SECONDS, SourceConnector, TcpConnector};
 use parallel_verify::Source;
 use program_parts::{Origin, SourceWord};
 use std::alloc::{AllocError, Global};
@@ -22,7 +22,7 @@ fn source_of<'a, F: Files<File = File>, T: Net<Stream = TcpStream> + Clock>(
 {
     let connector = match word.origin {
         Origin::File(path) => SourceConnector::File(FileConnector::new(files, path)),
-        Origin::Tcp(address) => SourceConnector::Tcp(TcpConnector::new(rt, address)),
+        Origin::Tcp(address) => SourceConnector::Tcp(TcpConnector::new(rt, address, PAUSE_SECONDS)),
     };
     Source {
         replica: word.replica,

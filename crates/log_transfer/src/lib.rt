@@ -43,5 +43,5 @@ pub use puller::Puller;
 pub use server_connector::{CONNECTION_SECONDS, ServerConnector};
 pub use source_connector::{ServerOrFile, SourceConnector};
 pub use streams::Fault;
-pub use tcp_connector::{CONNECT_SECONDS, TcpConnector, TcpDialer, WAIT_SECONDS};
+pub use tcp_connector::{CONNECT_SECONDS, PAUSE_SECONDS, TcpConnector, TcpDialer, WAIT_SECONDS};
 pub use watched::{Watch, Watched};

@@ -30,6 +30,9 @@ pub struct TcpDialer<'a, R> {
     address: &'a str,
 }
 
+/// How many seconds pass before a server is asked again; before it is asked a third time three times as many.
+pub const PAUSE_SECONDS: u64 = 1;
+
 /// A server over TCP.
 pub type TcpConnector<'a, R> = ServerConnector<'a, R, TcpDialer<'a, R>>;
 

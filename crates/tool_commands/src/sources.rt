@@ -8,7 +8,7 @@ ghost use Rattle.tool_commands.specs.SourceTries.{IsTriedAs};
 use crate::fault::{Fault, ToolFault};
 use crate::host::Host;
 use log_transfer::{
-    Connector, FileConnector, MOST_TRIES, SourceConnector, TcpConnector, Watch, Watched,
+    Connector, FileConnector, MOST_TRIES, PAUSE_SECONDS, SourceConnector, TcpConnector, Watch, Watched,
 };
 use parallel_verify::Source;
 use program_parts::{Origin, ProgramFault, SourceFault, SourceWord};
@@ -35,9 +35,6 @@ pub(crate) fn read_source_words<'a>(
     }
     Ok(sources)
 }
-
-/// How many seconds pass before a server is asked again; before it is asked a third time three times as many.
-const PAUSE_SECONDS: u64 = 1;
 
 // A server may have as many tries as words can ask for.
 const _: () = prove!(MOST_TRIES == 3);
