@@ -7,14 +7,14 @@ _wezhgula_options() {
         hs_show) echo --committee --statement --explain --help --version ;;
         hs_signer) echo --listen --read --serve --sessions --furthest --host --group --while-input --verbose --help --version ;;
         hs_watch) echo --every --reread --until-culprit --until-input-ends ;;
-        'hs_tool keygen') echo --key ;;
+        'hs_tool keygen') echo --key --random --stdin ;;
         'hs_tool replica') echo --workers --serve --requests ;;
         'hs_tool audit') echo --tries ;;
     esac
 }
 
 # The commands of hs_tool.
-_wezhgula_commands() { echo keygen committee replica audit weighted migrate; }
+_wezhgula_commands() { echo keygen committee replica audit weighted migrate export; }
 
 _wezhgula() {
     local program=${COMP_WORDS[0]##*/} word=${COMP_WORDS[COMP_CWORD]} words

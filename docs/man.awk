@@ -5,7 +5,16 @@
 # another. `-v documents=FOLDER` says where the documents are that the page names.
 
 BEGIN {
+    commands = "hs_tool-audit hs_tool-committee hs_tool-export hs_tool-folder hs_tool-keygen hs_tool-migrate hs_tool-replica hs_tool-weighted "
     about["hs_tool"] = "make keys and committees, run a replica, audit logs"
+    about["hs_tool-keygen"] = "make the files of a replica's key"
+    about["hs_tool-committee"] = "write the file of a committee whose replicas count once"
+    about["hs_tool-weighted"] = "write the file of a committee whose replicas have weights"
+    about["hs_tool-replica"] = "run a replica over lines of input"
+    about["hs_tool-folder"] = "what a replica's folder needs, and how its log is handed out"
+    about["hs_tool-audit"] = "say what logs prove, and which replicas they accuse"
+    about["hs_tool-migrate"] = "carry a log over from before votes named their keys"
+    about["hs_tool-export"] = "write the export of a log that a file has"
     about["hs_check"] = "judge whether a verdict proves that a replica broke a voting rule"
     about["hs_show"] = "show what stands in a file of a committee, a verdict or a log"
     about["hs_draw"] = "draw what logs show and whom they accuse"
@@ -51,7 +60,7 @@ function begin_section(name) {
 }
 
 function end_page(    names, i, others) {
-    split("hs_check hs_draw hs_follow hs_show hs_signer hs_tool hs_watch", names, " ")
+    split("hs_check hs_draw hs_follow hs_show hs_signer hs_tool " (page ~ /^hs_tool/ ? commands : "") "hs_watch", names, " ")
     for (i = 1; i in names; i++)
         if (names[i] != page) others = others (others == "" ? "" : " ,\n") ".BR " names[i] " (1)"
     print ".SH SEE ALSO\n" others
