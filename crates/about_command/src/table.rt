@@ -16,32 +16,36 @@ hs_check | refused 8 NoRuleBroken | Its votes do not break the rule of its kind:
 hs_check | refused 9 SignatureE | The first vote's signature does not verify under the key that it names. | The verdict proves nothing.\n\
 hs_check | refused 10 SignatureW | The second vote's signature does not verify under the key that it names. | The verdict proves nothing.\n\
 hs_check | refused 11 KeyNumber | A vote names a key that the replica has not. | The verdict proves nothing.\n\
-hs_check, hs_tool, hs_show, hs_draw, hs_signer | fault usage | The words are not those of the manual page. | Put the words right.\n\
+hs_check, hs_tool, hs_show, hs_draw, hs_signer, hs_watch, hs_follow | fault usage | The words are not those of the manual page. | Put the words right.\n\
 hs_check | fault hex | Standard input is not two lines of hex digits. | Give committee and verdict as two lines of hex digits, or name two files.\n\
 hs_tool keygen | fault hex | SEED is not 96 hex digits. | Put SEED right.\n\
-hs_check, hs_tool, hs_show, hs_draw, hs_signer | fault file PATH.. | The file can't be opened, read, made or written, or is there and must not be; of a replica's folder its lock may be held. | Look at the path, its mode and the disk. Never remove a replica's lock, and never write over a file in a replica's folder: the manual page says what was left.\n\
-hs_check, hs_tool, hs_show, hs_draw, hs_signer | fault memory | Memory was refused. | Free memory, and look at the manual page for what was left.\n\
-hs_check, hs_tool, hs_show, hs_draw, hs_signer | fault output | The lines could not be written, or not all. | Look at where standard output goes: a disk that is full, a pipe that was closed.\n\
-hs_check, hs_tool, hs_show, hs_draw, hs_signer | fault committee 1 Length | The committee's file has not as many bytes as its replicas ask for. | Get the file from an operator you trust, and compare its chain id.\n\
-hs_check, hs_tool, hs_show, hs_draw, hs_signer | fault committee 2 Magic | The file does not begin as a committee. | Name the committee's file, first.\n\
-hs_check, hs_tool, hs_show, hs_draw, hs_signer | fault committee 3 Size | It has a number of replicas that is not allowed. | Get the file from an operator you trust, and compare its chain id.\n\
-hs_check, hs_tool, hs_show, hs_draw, hs_signer | fault committee 4 Key K | Key K is no public key. | Get that replica's key.pub anew; of a committee's file get the file anew.\n\
-hs_check, hs_tool, hs_show, hs_draw, hs_signer | fault committee 5 SameKey J K | Key K is the same as key J. | Two replicas handed in one key: get both anew from their operators.\n\
-hs_check, hs_tool, hs_show, hs_draw, hs_signer | fault committee 6 Weight R | Replica R has the weight 0. | Give it a weight, or leave it out.\n\
-hs_check, hs_tool, hs_show, hs_draw, hs_signer | fault committee 7 KeyCount R | Replica R has no key, more than four, or bytes behind its keys. | Get the file from an operator you trust, and compare its chain id.\n\
-hs_tool audit, hs_draw | fault source I | The word of source I, counted from 0, is not R=file:PATH or R=tcp:ADDRESS. | Put that word right.\n\
-hs_tool audit, hs_draw | fault collision | Two different headers have one id: SHA-256 is broken, and no audit of these sources holds. | Keep all sources.\n\
+hs_check, hs_tool, hs_show, hs_draw, hs_signer, hs_watch, hs_follow | fault file PATH.. | The file can't be opened, read, made or written, or is there and must not be; of a replica's folder its lock may be held. | Look at the path, its mode and the disk. Never remove a replica's lock, and never write over a file in a replica's folder: the manual page says what was left.\n\
+hs_check, hs_tool, hs_show, hs_draw, hs_signer, hs_watch, hs_follow | fault memory | Memory was refused. | Free memory, and look at the manual page for what was left.\n\
+hs_check, hs_tool, hs_show, hs_draw, hs_signer, hs_watch, hs_follow | fault output | The lines could not be written, or not all. | Look at where standard output goes: a disk that is full, a pipe that was closed.\n\
+hs_check, hs_tool, hs_show, hs_draw, hs_signer, hs_watch, hs_follow | fault committee 1 Length | The committee's file has not as many bytes as its replicas ask for. | Get the file from an operator you trust, and compare its chain id.\n\
+hs_check, hs_tool, hs_show, hs_draw, hs_signer, hs_watch, hs_follow | fault committee 2 Magic | The file does not begin as a committee. | Name the committee's file, first.\n\
+hs_check, hs_tool, hs_show, hs_draw, hs_signer, hs_watch, hs_follow | fault committee 3 Size | It has a number of replicas that is not allowed. | Get the file from an operator you trust, and compare its chain id.\n\
+hs_check, hs_tool, hs_show, hs_draw, hs_signer, hs_watch, hs_follow | fault committee 4 Key K | Key K is no public key. | Get that replica's key.pub anew; of a committee's file get the file anew.\n\
+hs_check, hs_tool, hs_show, hs_draw, hs_signer, hs_watch, hs_follow | fault committee 5 SameKey J K | Key K is the same as key J. | Two replicas handed in one key: get both anew from their operators.\n\
+hs_check, hs_tool, hs_show, hs_draw, hs_signer, hs_watch, hs_follow | fault committee 6 Weight R | Replica R has the weight 0. | Give it a weight, or leave it out.\n\
+hs_check, hs_tool, hs_show, hs_draw, hs_signer, hs_watch, hs_follow | fault committee 7 KeyCount R | Replica R has no key, more than four, or bytes behind its keys. | Get the file from an operator you trust, and compare its chain id.\n\
+hs_follow | fault committee 8 OldKey K | Key K of the new committee is one of the old committee's keys: it would sign twice under one one-time key. | Have that replica make a new key in a new folder, and make the committee's file anew.\n\
+hs_tool audit, hs_draw, hs_watch, hs_follow | fault source I | The word of source I, counted from 0, is not R=file:PATH or R=tcp:ADDRESS. | Put that word right.\n\
+hs_tool audit, hs_draw, hs_watch, hs_follow | fault collision | Two different headers have one id: SHA-256 is broken, and no audit of these sources holds. | Keep all sources.\n\
 hs_tool replica, hs_signer | fault store 2 | The committee has no replica R, or a disk failed while a store was recovered. | Compare R and COMMITTEE, and look at the disk: nothing is spent by trying again.\n\
 hs_tool migrate | fault store 2 | The disk failed. | Look at the disk.\n\
 hs_tool replica, hs_signer | fault store 3 | The keys of the folder are not those of replica R in their order, or log.hsj is no journal. | Compare R, COMMITTEE and DIR. Never rename seeds to make them fit.\n\
 hs_tool migrate | fault store 3 | OLD is no journal. | Name the replica's log.hsj.\n\
-hs_tool replica, hs_signer, hs_tool migrate | fault store 4 | The log is damaged. | It can't be mended, and must not be replaced: see Backups in hs_tool(1).\n\
-hs_tool replica, hs_signer | fault store 5 | index.hsj is no index journal, or does not go with the keys or the log. | It can't be mended, and must not be replaced: see Backups in hs_tool(1).\n\
+hs_tool export | fault store 3 | LOG is no journal. | Name the replica's log.hsj.\n\
+hs_tool replica, hs_signer, hs_tool migrate | fault store 4 | The log is damaged. | It can't be mended, and must not be replaced: see Backups in hs_tool-folder(1).\n\
+hs_tool export | fault store 4 | LOG is damaged; OUT has the whole entries in front of the damage, and no end mark. | An audit reads OUT as Cut. See Backups in hs_tool-folder(1).\n\
+hs_tool replica, hs_signer | fault store 5 | index.hsj is no index journal, or does not go with the keys or the log. | It can't be mended, and must not be replaced: see Backups in hs_tool-folder(1).\n\
 hs_tool replica, hs_signer, hs_tool migrate | fault store 9 | An entry of the log is none, or has the form from before votes named their keys. | Look at the log with hs_show; a log of the old form is migrated by hs_tool migrate.\n\
+hs_tool export | fault store 9 | LOG is an index journal. | Name the replica's log.hsj.\n\
 hs_tool replica, hs_signer, hs_tool migrate | fault store 10 | The log's entries are not in a legal order, or are of another committee. | Compare COMMITTEE and DIR.\n\
 hs_tool replica, hs_signer | fault receipts | The votes that were given out are not those of the log. It can't come: it is a bug. | Stop the replica, keep its folder as it is, and report it.\n\
 hs_tool replica, hs_signer | fault listen | The address can't be listened on. | Put it right, or see which program listens there.\n\
-hs_signer | fault threads | A thread can't be made. | Look at the limits of processes and of memory.\n\
+hs_signer, hs_watch | fault threads | A thread can't be made. | Look at the limits of processes and of memory.\n\
 hs_tool replica, hs_signer | voted N HEX | The replica voted for the block: entry N of its log, synced before this was told. | Send the vote on. Its bytes stay the replica's only vote in that view.\n\
 hs_tool replica, hs_signer | voted N HEX committed ID | As voted; and by what this process was told the block ID is committed. | Send the vote on, and apply what ID's chain has.\n\
 hs_tool replica, hs_signer | raised | The replica raised its lock without a vote, and stored that. | Nothing: it has voted in a later view, or its lock forbids this vote.\n\
@@ -111,7 +115,8 @@ hs_signer | listening read ADDRESS | It answers calls that only read there. | No
 hs_signer | listening log ADDRESS | It hands out its log there. | Nothing.\n\
 hs_tool keygen | key HEX | The public key, in 112 digits. | Tell the others its key.pub, and compare it by another way.\n\
 hs_tool committee, hs_tool weighted | chain HEX | The chain id of the committee that was written. | Compare it with the other operators by telephone.\n\
-hs_tool migrate | migrated N | The log was carried over; it has N entries. | Put NEW in the place of log.hsj, as hs_tool(1) says.\n\
+hs_tool migrate | migrated N | The log was carried over; it has N entries. | Put NEW in the place of log.hsj, as hs_tool-migrate(1) says.\n\
+hs_tool export | exported N | The export has N entries. | Give OUT to who audits.\n\
 hs_tool audit | source I replica R Whole frames F entries E | The log of source I came whole: F frames, of which E are log entries. | Nothing.\n\
 hs_tool audit | source I replica R Cut frames F entries E | The log of source I ended early: what came was judged. | Get it again before you conclude anything.\n\
 hs_tool audit | source I replica R Broken frames F entries E | What source I gave is no export, or does not end as one: what came before was judged. | Get it again.\n\
@@ -121,5 +126,17 @@ hs_tool audit | commit V ID | It is proved that the block ID of view V was commi
 hs_tool audit | conflict ID ID | Two conflicting blocks were committed: the chain forked. | Remove the culprits that are named, by verdicts that everyone judges.\n\
 hs_tool audit | culprit R rule K views V V | Replica R broke rule K by its votes in these views; its verdict is in OUTDIR. | Send OUTDIR/verdict-R.hsx to everyone who must agree.\n\
 hs_tool audit | culprits N | So many replicas broke a rule in what was read. With 0 none was found in it: a log that was withheld may hold more. | Read the lines of the sources.\n\
-hs_tool audit | culprits N weight S of W | So many replicas broke a rule, and weigh so much of the whole weight. | A conflict has more than a third of it. Read the lines of the sources."
+hs_tool audit | culprits N weight S of W | So many replicas broke a rule, and weigh so much of the whole weight. | A conflict has more than a third of it. Read the lines of the sources.\n\
+hs_follow | follows view V id ID | By what the logs prove the old committee handed its ledger over to NEW, in block ID of view V. | Go on with NEW.\n\
+hs_follow | follows another view V id ID payload HEX | The old committee handed its ledger over to another file than NEW. | Get the file whose digest begins as the payload says, behind HSN1.\n\
+hs_follow | follows none | The logs prove no handover. | Get more logs, or later ones.\n\
+hs_watch | TIME round N commit V ID | It is proved that the block ID of view V was committed. | Nothing.\n\
+hs_watch | TIME round N conflict ID ID | Two conflicting blocks were committed: the chain forked. | Stop what relies on the ledger, and send the verdicts to everyone who must agree to a removal.\n\
+hs_watch | TIME round N culprit R rule K views V V PATH.. | Replica R broke rule K by its votes in these views; the verdict is at PATH. | Send the verdict to everyone who must agree to the removal.\n\
+hs_watch | TIME round N culprit R kept PATH.. | A verdict on replica R was there at the start. | Send it to everyone who must agree to the removal.\n\
+hs_watch | TIME round N source I replica R STATUS frames F entries E | The log of source I ends otherwise than it did. | With Failed, Cut or Broken see that its server runs.\n\
+hs_watch | TIME round N went-back I replica R | The log of source I went back: its replica may have been put back to a backup. | Ask its operator. It accuses nobody.\n\
+hs_watch | TIME round N beyond I replica R | Source I gave a fifth log that fits none of the four before. | Ask its operator.\n\
+hs_watch | TIME round N set-aside I replica R | 64 votes of source I were not good; no more of it is read. | It is of another committee or replica, or its server lies.\n\
+hs_watch | TIME round N unstored PATH.. | A verdict can't be stored there, or something else stands there. | Look at OUTDIR and the disk."
 }
