@@ -78,8 +78,7 @@ fn answer<'a, F: Files<File = File>>(
         [option] if option.as_str() == "--version" => Ok(version(alloc)?),
         [option] if option.as_str() == "--help" => Ok(help(alloc)?),
         [option, verdict, with, committee]
-            if option.as_str() == "--statement" && with.as_str() == "--committee" =>
-        {
+            if option.as_str() == "--statement" && with.as_str() == "--committee" => {
             read_sheet(rt, alloc, verdict.as_str(), committee.as_str())
         }
         [option, line @ ..] if option.as_str() == "--explain" && !line.is_empty() => {

@@ -74,11 +74,7 @@ fn put_refused(text: &mut Vec<u8>, refusal: Refusal) -> Result<(), AllocError>
 }
 
 // Adds the sheet of a verdict that is a proof.
-fn put_sheet(
-    text: &mut Vec<u8>,
-    committee: &CommitteeView,
-    bytes: &[u8],
-) -> Result<(), AllocError>
+fn put_sheet(text: &mut Vec<u8>, committee: &CommitteeView, bytes: &[u8]) -> Result<(), AllocError>
     requires { IsProof committee.now bytes.now }
     ensures { OnOk result (text.new.items ≡ text.old.items ++ sheet_text committee.now bytes.now) }
 {

@@ -89,5 +89,4 @@ pub fn write_version(version: &mut [u8]) -> usize
 /// The law that the number of each refusal has the name that the checker, or docs/REFUSALS.md, gives it.
 pub fn refusals_have_their_names()
     ensures { RefusalsHaveTheirNames }
-{
-}
+{}

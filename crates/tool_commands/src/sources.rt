@@ -8,7 +8,8 @@ ghost use Rattle.tool_commands.specs.SourceTries.{IsTriedAs};
 use crate::fault::{Fault, ToolFault};
 use crate::host::Host;
 use log_transfer::{
-    Connector, FileConnector, MOST_TRIES, PAUSE_SECONDS, SourceConnector, TcpConnector, Watch, Watched,
+    Connector, FileConnector, MOST_TRIES, PAUSE_SECONDS, SourceConnector, TcpConnector, Watch,
+    Watched,
 };
 use parallel_verify::Source;
 use program_parts::{Origin, ProgramFault, SourceFault, SourceWord};
@@ -62,7 +63,11 @@ fn source_of<'a, 'p, F: Files<File = File>, T: Net<Stream = TcpStream> + Clock, 
 {
     let connector = match word.origin {
         Origin::File(path) => SourceConnector::File(FileConnector::new(host.files, path)),
-        Origin::Tcp(address) => SourceConnector::Tcp(TcpConnector::new(host.rt, address, PAUSE_SECONDS)),
+        Origin::Tcp(address) => SourceConnector::Tcp(TcpConnector::new(
+            host.rt,
+            address,
+            PAUSE_SECONDS,
+        )),
     };
     Source {
         replica: word.replica,
