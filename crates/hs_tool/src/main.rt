@@ -31,6 +31,7 @@ fn main(rt: HostRuntime) -> ExitCode {
                 &mut StdFeed::new(input),
                 out,
                 faults,
+                &mut StdSink::new(rt.stderr()),
             )
         },
     )

@@ -124,6 +124,7 @@ impl Job<'_> {
             &mut MemoryFeed::new(input),
             &mut out,
             &mut faults,
+            &mut MemorySink::new(alloc),
         );
         let text = told(alloc, out.bytes(), faults.bytes(), status)?;
         Ok(Transcript { text })

@@ -14,7 +14,7 @@ use std::net::{Net, TcpListener, TcpStream};
 use std::sync::Wait;
 use std::thread::Threads;
 use std::time::Clock;
-use streams::{MemoryFeed, MemorySink};
+use streams::{MemoryFeed, MemorySink, write_all};
 use tool_commands::{FAULT, Host, run_tool};
 
 // What the random source gives: the seed of replica 2 of the trial committee.
@@ -92,7 +92,14 @@ where
         return FAULT;
     };
     let mut lines = MemoryFeed::new(input);
-    run_tool(&host, &KnownSeed::of(DRAWN), words, &mut lines, out, faults)
+    let mut whys = MemorySink::new(alloc);
+    let seeds = KnownSeed::of(DRAWN);
+    let status = run_tool(&host, &seeds, words, &mut lines, out, faults, &mut whys);
+    // Both go to standard error.
+    match write_all(faults, whys.bytes()) {
+        Ok(()) => status,
+        Err(_) => FAULT,
+    }
 }
 
 fn main(rt: HostRuntime) -> io::Result<()> {

@@ -9,6 +9,7 @@ use Rattle.log_transfer.specs.declared.connector.Connector.{Ghosts}
 use Rattle.log_transfer.specs.declared.source_connector.ServerOrFile.{ServerOrFile}
 use Rattle.verdict_format.specs.Proofs.{IsProof}
 use Rattle.evidence.specs.Evidence.{Evidence}
+use Rattle.evidence.specs.Logs.{ReceivedLog}
 use Rattle.evidence.proofs.Gatherings.{zip_more}
 use Rattle.parallel_verify.specs.Collections.{MayFail, MayGive}
 use Rattle.parallel_verify.specs.declared.source.Source.{Source}
@@ -48,7 +49,7 @@ zip_of_second f R (x ∷ xs) [] zip = zip
 zip_of_second f R (x ∷ xs) (y ∷ ys) zip = (zip.0, zip_of_second f R xs ys zip.1)
 
 -- a run over sources is one over those inside them
-inner_run : {X C : Type 0} (inner : X → C) (gives : C → ℕ → ℕ → ℕ → Connection → Type 0) (reaches : C → C → Type 0) (failed : C → ℕ) (committee : List ℕ) (sources : List (Source X)) (e : Evidence) (r : Report)
+abbrev inner_run : {X C : Type 0} (inner : X → C) (gives : C → ℕ → ℕ → ℕ → Connection → Type 0) (reaches : C → C → Type 0) (failed : C → ℕ) (committee : List ℕ) (sources : List (Source X)) (e : Evidence) (r : Report)
     → IsAuditRun (MayGive (λ x. gives (inner x))) (MayFail (λ x y. reaches (inner x) (inner y)) (λ x. failed (inner x))) committee sources e r
     → IsAuditRun (MayGive gives) (MayFail reaches failed) committee (map (inner_source inner) sources) e r
 inner_run inner gives reaches failed committee sources e r run = record {
@@ -65,13 +66,13 @@ inner_run inner gives reaches failed committee sources e r run = record {
 }
 
 -- what is printed of sources inside which are those that words spell
-pub of_words : {S F X : Type 0} (connector : Ghosts (ServerOrFile S F)) (inner : X → ServerOrFile S F) (words : List (Bor (List ℕ))) (tries : ℕ) (named named' : List SourceWord) (committee : List ℕ)
+pub of_words : {S F X : Type 0} (connector : Ghosts (ServerOrFile S F)) (Are : List ℕ → List ReceivedLog → Type 0) (inner : X → ServerOrFile S F) (words : List (Bor (List ℕ))) (tries : ℕ) (named named' : List SourceWord) (committee : List ℕ)
     (sources : List (Source X)) (e : Evidence) (r : Report) (before after : Option (List ℕ)) (verdicts verdicts' : List (List ℕ)) → SpellSources words named → named' ≡ named
     → AllZip (λ w s. IsOpenedAs w s.replica (inner s.connector)) named' sources → All (λ s. IsTriedAs tries (inner s.connector) s.tries) sources
-    → IsAuditRun (MayGive (λ x. connector.gives (inner x))) (MayFail (λ x y. connector.reaches (inner x) (inner y)) (λ x. connector.failed (inner x))) committee sources e r → r.verdicts ≡ verdicts
+    → (run : IsAuditRun (MayGive (λ x. connector.gives (inner x))) (MayFail (λ x y. connector.reaches (inner x) (inner y)) (λ x. connector.failed (inner x))) committee sources e r) → Are committee run.evidence.logs → r.verdicts ≡ verdicts
     → All (IsProof committee) verdicts → (IsSome r.conflict → AreMoreThanAThird committee r) → Wrote before after (report_text e.sources r) → verdicts ≡ verdicts'
-    → IsAuditOfWords connector words tries before after verdicts'
-of_words {S = S} {F = F} connector inner words tries named named' committee sources e r before after verdicts verdicts' spelled same opened tried run with_these proofs many wrote is = record {
+    → IsAuditOfWords connector Are words tries before after verdicts'
+of_words {S = S} {F = F} connector Are inner words tries named named' committee sources e r before after verdicts verdicts' spelled same opened tried run are with_these proofs many wrote is = record {
   committee = committee;
   named = named;
   spelled = spelled;
@@ -85,6 +86,7 @@ of_words {S = S} {F = F} connector inner words tries named named' committee sour
     evidence = e;
     report = r;
     run = inner_run inner connector.gives connector.reaches connector.failed committee sources e r run;
+    are = are;
     with = subst (λ (vs : List (List ℕ)). r.verdicts ≡ vs) is with_these;
     proofs = subst (λ (vs : List (List ℕ)). All (IsProof committee) vs) is proofs;
     more_than_a_third = many;

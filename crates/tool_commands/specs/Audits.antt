@@ -7,34 +7,60 @@ use Rattle.log_transfer.specs.declared.connector.Connector.{Ghosts}
 use Rattle.log_transfer.specs.declared.source_connector.ServerOrFile.{ServerOrFile}
 use Rattle.verdict_format.specs.Proofs.{IsProof}
 use Rattle.evidence.specs.Evidence.{Evidence}
+use Rattle.evidence.specs.Logs.{ReceivedLog}
+use Rattle.held_logs.specs.declared.judging.Judgement.{Judgement}
 use Rattle.parallel_verify.specs.Collections.{MayFail, MayGive}
 use Rattle.parallel_verify.specs.declared.source.Source.{Source}
 use Rattle.culprit_search.specs.Reports.{AreMoreThanAThird, Report}
 use Rattle.culprit_search.specs.ReportText.{report_text}
 use Rattle.source_audit.specs.Runs.{IsAuditRun}
 use Rattle.program_parts.specs.declared.words.SourceWord.{SourceWord}
+use Rattle.tool_words.specs.declared.command.Strictness.{Strictness}
 use Rattle.tool_commands.specs.OpenedSources.{AreOpenedAs, SpellSources}
+use Rattle.tool_commands.specs.Strict.{AreAny, AreEnough, AreTooFew, FallsShort, HoldsUp}
+use Rattle.tool_commands.specs.declared.audit.AuditEnd.{AuditEnd}
+use Rattle.tool_commands.specs.declared.audit.AuditEnd.TheVariants.{NoCulprit, TooFewSound, Culprits}
 
--- the lines of the audit of one reading of each of these sources, in their order, under a committee; with these verdicts,
--- each a proof, which accuse more than a third behind a conflict
-pub record IsAuditPrinted {C : Type 0} (connector : Ghosts C) (committee : List ℕ) (sources : List (Source C)) (before after : Option (List ℕ)) (verdicts : List (List ℕ)) : Type 0 where
+-- the lines of the audit of one reading of each of these sources, in their order, under a committee, which gave such logs; with
+-- these verdicts, each a proof, which accuse more than a third behind a conflict
+pub record IsAuditPrinted {C : Type 0} (connector : Ghosts C) (Are : List ℕ → List ReceivedLog → Type 0) (committee : List ℕ) (sources : List (Source C)) (before after : Option (List ℕ)) (verdicts : List (List ℕ)) : Type 0 where
   pub evidence : Evidence
   pub report : Report
   pub run : IsAuditRun (MayGive connector.gives) (MayFail connector.reaches connector.failed) committee sources evidence report
+  pub are : Are committee run.evidence.logs
   pub with : report.verdicts ≡ verdicts
   pub proofs : All (IsProof committee) verdicts
   pub more_than_a_third : IsSome report.conflict → AreMoreThanAThird committee report
   pub wrote : Wrote before after (report_text evidence.sources report)
 
 -- .. of sources that were opened as these words spell, each with so many tries or as many as it may have
-pub record IsAuditOfWords {S F : Type 0} (connector : Ghosts (ServerOrFile S F)) (words : List (Bor (List ℕ))) (tries : ℕ) (before after : Option (List ℕ)) (verdicts : List (List ℕ)) : Type 0 where
+pub record IsAuditOfWords {S F : Type 0} (connector : Ghosts (ServerOrFile S F)) (Are : List ℕ → List ReceivedLog → Type 0) (words : List (Bor (List ℕ))) (tries : ℕ) (before after : Option (List ℕ)) (verdicts : List (List ℕ)) : Type 0 where
   pub committee : List ℕ
   pub named : List SourceWord
   pub spelled : SpellSources words named
   pub sources : List (Source (ServerOrFile S F))
   pub opened : AreOpenedAs tries named sources
-  pub printed : IsAuditPrinted connector committee sources before after verdicts
+  pub printed : IsAuditPrinted connector Are committee sources before after verdicts
 
 -- .. with some verdicts
 abbrev pub AreCulpritsPrinted : {S F : Type 0} → Ghosts (ServerOrFile S F) → List (Bor (List ℕ)) → ℕ → Option (List ℕ) → Option (List ℕ) → Type 0
-AreCulpritsPrinted connector words tries before after = (verdicts : List (List ℕ)) × (verdicts ≢ []) × IsAuditOfWords connector words tries before after verdicts
+AreCulpritsPrinted connector words tries before after = (verdicts : List (List ℕ)) × (verdicts ≢ []) × IsAuditOfWords connector AreAny words tries before after verdicts
+
+-- .. with none, and logs that are enough, or too few
+unfoldable pub IsEnoughPrinted : {S F : Type 0} → Ghosts (ServerOrFile S F) → Strictness → List (Bor (List ℕ)) → ℕ → Option (List ℕ) → Option (List ℕ) → Type 0
+IsEnoughPrinted connector strictness words tries before after = IsAuditOfWords connector (AreEnough strictness) words tries before after []
+
+unfoldable pub IsTooLittlePrinted : {S F : Type 0} → Ghosts (ServerOrFile S F) → Strictness → List (Bor (List ℕ)) → ℕ → Option (List ℕ) → Option (List ℕ) → Type 0
+IsTooLittlePrinted connector strictness words tries before after = IsAuditOfWords connector (AreTooFew strictness) words tries before after []
+
+-- how an audit of these sources ends: with verdicts, with none and logs that are enough, or with none and logs that are too few
+abbrev pub EndsAs : {C : Type 0} → Ghosts C → Strictness → List ℕ → List (Source C) → Option (List ℕ) → Option (List ℕ) → AuditEnd → Type 0
+EndsAs connector strictness committee sources before after Culprits = (verdicts : List (List ℕ)) × (verdicts ≢ []) × IsAuditPrinted connector AreAny committee sources before after verdicts
+EndsAs connector strictness committee sources before after NoCulprit = IsAuditPrinted connector (AreEnough strictness) committee sources before after []
+EndsAs connector strictness committee sources before after TooFewSound = IsAuditPrinted connector (AreTooFew strictness) committee sources before after []
+
+-- .. by what was found of the logs, and the verdicts
+abbrev pub IsEndOf : Strictness → List ℕ → List Judgement → List (List ℕ) → AuditEnd → Type 0
+IsEndOf strictness committee judged verdicts Culprits = verdicts ≢ []
+IsEndOf strictness committee judged verdicts NoCulprit = (verdicts ≡ []) × HoldsUp strictness committee judged
+IsEndOf strictness committee judged verdicts TooFewSound = (verdicts ≡ []) × FallsShort strictness committee judged

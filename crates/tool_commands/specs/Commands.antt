@@ -1,5 +1,5 @@
 -- What a command that was done has printed.
-use Rattle.std.specs.Prelude.{ℕ, List, [], Option, codes, length}
+use Rattle.std.specs.Prelude.{◌≡◌, ℕ, List, [], Option, codes, length, true}
 use Rattle.streams.specs.Streams.{Wrote}
 use Rattle.streams.specs.declared.feed.Feed.{Ghosts as FeedGhosts}
 use Rattle.stable_log.specs.declared.disk.Disk.{Ghosts as DiskGhosts}
@@ -8,7 +8,7 @@ use Rattle.log_transfer.specs.declared.source_connector.ServerOrFile.{ServerOrFi
 use Rattle.replica_lines.specs.declared.request.Request.{Request}
 use Rattle.tool_words.specs.declared.command.Command.{Command}
 use Rattle.tool_words.specs.declared.command.Command.TheVariants.{Usage, Keygen, Committee, Weighted, Replica, Audit, Migrate, Export}
-use Rattle.tool_commands.specs.Audits.{AreCulpritsPrinted, IsAuditOfWords}
+use Rattle.tool_commands.specs.Audits.{AreCulpritsPrinted, IsEnoughPrinted, IsTooLittlePrinted}
 use Rattle.tool_commands.specs.Lines.{IsChainPrinted, IsExportPrinted, IsKeyPrinted, IsMigrationPrinted, IsTextOfKeys, IsTextOfReplicas}
 use Rattle.tool_commands.specs.Seeds.{IsSeedOf}
 use Rattle.tool_commands.specs.Stays.{AreReadOf, IsReplicaDone, IsStopPrinted}
@@ -36,14 +36,24 @@ IsDone lent (Keygen seed folder key) before after = IsKeyPrinted (IsSeedOf lent.
 IsDone lent (Committee f out keys) before after = IsChainPrinted (IsTextOfKeys f (length keys.items)) before after
 IsDone lent (Weighted out replicas) before after = IsChainPrinted (IsTextOfReplicas replicas.items) before after
 IsDone lent (Replica committee replica folder workers service) before after = IsReplicaDone lent.disk lent.requests replica service before after
-IsDone lent (Audit committee folder sources tries) before after = IsAuditOfWords lent.connector sources.items tries.count before after []
+IsDone lent (Audit committee folder sources tries wishes) before after = IsEnoughPrinted lent.connector wishes.strictness sources.items tries.count before after
 IsDone lent (Migrate old new committee) before after = IsMigrationPrinted lent.disk before after
 IsDone lent (Export log out) before after = IsExportPrinted before after
 
 -- .. of one that found culprits: it is an audit
 abbrev pub AreCulpritsFound : {D S F : Type 0} → Lent D S F → Command → (before after : Option (List ℕ)) → Type 0
-AreCulpritsFound lent (Audit committee folder sources tries) before after = AreCulpritsPrinted lent.connector sources.items tries.count before after
+AreCulpritsFound lent (Audit committee folder sources tries wishes) before after = AreCulpritsPrinted lent.connector sources.items tries.count before after
 AreCulpritsFound lent command before after = ⊥
+
+-- .. of one that found no culprit, in too few sound sources: it is an audit that was to be strict
+abbrev pub AreTooFewSound : {D S F : Type 0} → Lent D S F → Command → (before after : Option (List ℕ)) → Type 0
+AreTooFewSound lent (Audit committee folder sources tries wishes) before after = IsTooLittlePrinted lent.connector wishes.strictness sources.items tries.count before after
+AreTooFewSound lent command before after = ⊥
+
+-- it is asked to tell reasons
+abbrev pub TellsReasons : Command → Type 0
+TellsReasons (Audit committee folder sources tries wishes) = wishes.tells_why ≡ true
+TellsReasons command = ⊥
 
 -- .. of one that was stopped: it is a replica
 abbrev pub IsStopped : {D S F : Type 0} → Lent D S F → Command → (before after : Option (List ℕ)) → Type 0

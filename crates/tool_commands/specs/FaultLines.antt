@@ -5,7 +5,7 @@ use Rattle.printed_lines.specs.Printed.{file_line}
 use Rattle.program_parts.specs.FaultLines.{fault_line, source_fault_line}
 use Rattle.program_parts.specs.declared.program_fault.ProgramFault.{ProgramFault}
 use Rattle.tool_commands.specs.declared.fault.FolderFile.{FolderFile}
-use Rattle.tool_commands.specs.declared.fault.FolderFile.TheVariants.{Key, Lock, Verdict}
+use Rattle.tool_commands.specs.declared.fault.FolderFile.TheVariants.{Key, Lock, PutBack, Verdict}
 use Rattle.tool_commands.specs.declared.fault.ToolFault.{ToolFault}
 use Rattle.tool_commands.specs.declared.fault.ToolFault.TheVariants.{Hex, FileIn, Sources, Store, Receipts, Listen}
 
@@ -13,6 +13,7 @@ use Rattle.tool_commands.specs.declared.fault.ToolFault.TheVariants.{Hex, FileIn
 abbrev pub name_behind : FolderFile → List ℕ
 name_behind (Key file) = codes "/" ++ file_name file
 name_behind Lock = codes "/lock"
+name_behind PutBack = codes "/put-back"
 name_behind (Verdict replica) = codes "/verdict-" ++ decimal replica ++ codes ".hsx"
 
 -- "fault store N"

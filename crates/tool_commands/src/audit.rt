@@ -1,18 +1,23 @@
-//! `hs_tool audit COMMITTEE OUTDIR SOURCE.. [--tries T]`: what logs prove, and whom they accuse.
+//! `hs_tool audit COMMITTEE OUTDIR SOURCE.. [--tries T] [--strict] [--strict-all] [--why]`: what logs prove, and whom they
+//! accuse.
 
-ghost use Rattle.std.specs.Prelude.{◌≡◌, ◌≢◌, [], false, true, IfErr, IfOk};
+ghost use Rattle.std.specs.Prelude.{◌≡◌, ◌≢◌, ◌⊎◌, [], false, true, IfErr, IfOk};
 ghost use Rattle.std.specs.List.{All};
 ghost use Rattle.parallel_verify.specs.Collections.{MayBeTried};
-ghost use Rattle.tool_commands.specs.Audits.{AreCulpritsPrinted, IsAuditOfWords, IsAuditPrinted};
 ghost use Rattle.program_parts.specs.Writes.{CountsWrites};
+ghost use Rattle.tool_commands.specs.Audits.{AreCulpritsPrinted, EndsAs, IsAuditPrinted, IsEndOf, IsEnoughPrinted, IsTooLittlePrinted};
+ghost use Rattle.tool_commands.specs.Strict.{AreAny, AreJudgedAs};
 
 use crate::fault::{Fault, FolderFile, ToolFault, fault_of_run};
 use crate::host::Host;
 use crate::progress::Progress;
 use crate::sources::{open_sources, read_source_words};
+use crate::strict::falls_short;
+use crate::why::tell_why;
 use blocks::CommitteeView;
 use certificates::Verifier;
 use culprit_search::{Report, Verdict};
+use held_audit::{HeldAudit, audit_held};
 use log_transfer::{Connector, SourceConnector};
 use parallel_verify::Source;
 use program_parts::{ProgramFault, parse_committee, read_committee};
@@ -26,33 +31,52 @@ use std::sync::Wait;
 use std::thread::Threads;
 use std::time::Clock;
 use streams::Sink;
-use tool_words::Tries;
+use tool_words::{AuditWishes, Strictness, Tries};
+
+/// How an audit ended.
+#[derive(Clone, Copy, Debug, PartialEq, Eq)]
+pub(crate) enum AuditEnd {
+    /// No culprit was found, in as many sound sources as are asked for.
+    NoCulprit,
+    /// No culprit was found, and the sources that are sound are fewer.
+    TooFewSound,
+    /// There are culprits.
+    Culprits,
+}
 
 /// Audits the logs of the sources that the words name, under the committee of the file, as `audit_run_of` does, which
 /// prints the report. Then the verdict on each culprit is written to a file of `folder`, new or in place of what was there. Where
-/// `folder` is no folder, no source is read and nothing printed. Answers whether there are culprits.
-pub fn audit_sources<
+/// `folder` is no folder, no source is read and nothing printed. Where it is asked for, `whys` is told why sources are not sound, and
+/// where the verdicts are. Answers how it ended.
+pub(crate) fn audit_sources<
     'a,
     F: Files<File = File> + Sync,
     T: Threads + Wait + Clock + Net<Listener = TcpListener, Stream = TcpStream> + Sync,
     W: Sink,
+    Y: Sink,
 >(
     host: &Host<'a, F, T>,
     committee: &'a str,
     folder: &'a str,
     words: &[&'a str],
     tries: Tries,
+    wishes: AuditWishes,
     out: &mut W,
-) -> Result<bool, Fault<'a>>
+    whys: &mut Y,
+) -> Result<AuditEnd, Fault<'a>>
 where
     F::Dir: Send,
-    ensures culprits { IfOk result (λ found. found ≡ true
+    ensures culprits { IfOk result (λ end. end ≡ AuditEnd.Culprits
         → AreCulpritsPrinted ⟦<SourceConnector<'a, T, F> as Connector>⟧ words.now tries.count
         (W.text out.old) (W.text out.new)) }
-    ensures none { IfOk result (λ found. found ≡ false
-        → IsAuditOfWords ⟦<SourceConnector<'a, T, F> as Connector>⟧ words.now tries.count
-        (W.text out.old) (W.text out.new) []) }
+    ensures none { IfOk result (λ end. end ≡ AuditEnd.NoCulprit
+        → IsEnoughPrinted ⟦<SourceConnector<'a, T, F> as Connector>⟧ wishes.strictness
+        words.now tries.count (W.text out.old) (W.text out.new)) }
+    ensures too_few { IfOk result (λ end. end ≡ AuditEnd.TooFewSound
+        → IsTooLittlePrinted ⟦<SourceConnector<'a, T, F> as Connector>⟧ wishes.strictness
+        words.now tries.count (W.text out.old) (W.text out.new)) }
     ensures counted { CountsWrites result (W.failed out.old) (W.failed out.new) }
+    ensures reasons { (whys.new ≡ whys.old) ⊎ (wishes.tells_why ≡ true) }
 {
     let sources = read_source_words(host.alloc, words)?;
     let bytes = read_committee(host.files, host.alloc, committee)?;
@@ -60,9 +84,147 @@ where
     see_folder(host.files, folder)?;
     let progress = Progress::new(host.alloc, host.rt, host.console, sources.len())?;
     let sources = open_sources(host, &sources, tries, &progress)?;
-    let report = print_report(host.rt, host.alloc, &committee, &progress, sources, out)?;
+    audit_opened(
+        host, &committee, &progress, sources, words, folder, wishes, out, whys,
+    )
+}
+
+// The same of sources that were opened.
+fn audit_opened<
+    'a,
+    F: Files<File = File>,
+    T: Threads + Wait + Sync,
+    C: Connector + Send,
+    V: Verifier + Sync,
+    W: Sink,
+    Y: Sink,
+>(
+    host: &Host<'a, F, T>,
+    committee: &CommitteeView,
+    verifier: &V,
+    sources: Vec<Source<C>>,
+    words: &[&'a str],
+    folder: &'a str,
+    wishes: AuditWishes,
+    out: &mut W,
+    whys: &mut Y,
+) -> Result<AuditEnd, Fault<'a>>
+    requires tries { All (MayBeTried C.allowed) sources.items }
+    ensures ended { IfOk result (EndsAs C.Connector wishes.strictness committee.now sources.items
+        (W.text out.old) (W.text out.new)) }
+    ensures counted { CountsWrites result (W.failed out.old) (W.failed out.new) }
+    ensures reasons { (whys.new ≡ whys.old) ⊎ (wishes.tells_why ≡ true) }
+{
+    if is_plain(wishes) {
+        return audit_plain(host, committee, verifier, sources, folder, out);
+    }
+    audit_judged(
+        host, committee, verifier, sources, words, folder, wishes, out, whys,
+    )
+}
+
+// An audit that judges each source.
+fn audit_judged<
+    'a,
+    F: Files<File = File>,
+    T: Threads + Wait + Sync,
+    C: Connector + Send,
+    V: Verifier + Sync,
+    W: Sink,
+    Y: Sink,
+>(
+    host: &Host<'a, F, T>,
+    committee: &CommitteeView,
+    verifier: &V,
+    sources: Vec<Source<C>>,
+    words: &[&'a str],
+    folder: &'a str,
+    wishes: AuditWishes,
+    out: &mut W,
+    whys: &mut Y,
+) -> Result<AuditEnd, Fault<'a>>
+    requires tries { All (MayBeTried C.allowed) sources.items }
+    ensures ended { IfOk result (EndsAs C.Connector wishes.strictness committee.now sources.items
+        (W.text out.old) (W.text out.new)) }
+    ensures counted { CountsWrites result (W.failed out.old) (W.failed out.new) }
+    ensures reasons { (whys.new ≡ whys.old) ⊎ (wishes.tells_why ≡ true) }
+{
+    let audit = print_held(host.rt, host.alloc, committee, verifier, sources, out)?;
+    store_verdicts(host.files, host.alloc, folder, &audit.report)?;
+    if wishes.tells_why {
+        tell_why(host.files, host.alloc, words, folder, &audit, whys);
+    }
+    Ok(end_of(wishes.strictness, committee, &audit))
+}
+
+// Whether nothing is asked for but the audit, so that no log has to be held.
+fn is_plain(wishes: AuditWishes) -> bool
+    ensures { result ≡ true → wishes.strictness ≡ Strictness.Lax }
+{
+    wishes.strictness == Strictness::Lax && !wishes.tells_why
+}
+
+// An audit with no log held whole.
+#[tactic(auto, unfolding(crate::specs::Strict::AreEnough))]
+fn audit_plain<
+    'a,
+    F: Files<File = File>,
+    T: Threads + Wait + Sync,
+    C: Connector + Send,
+    V: Verifier + Sync,
+    W: Sink,
+>(
+    host: &Host<'a, F, T>,
+    committee: &CommitteeView,
+    verifier: &V,
+    sources: Vec<Source<C>>,
+    folder: &'a str,
+    out: &mut W,
+) -> Result<AuditEnd, Fault<'a>>
+    requires tries { All (MayBeTried C.allowed) sources.items }
+    ensures ended { IfOk result (EndsAs C.Connector Strictness.Lax committee.now sources.items
+        (W.text out.old) (W.text out.new)) }
+    ensures counted { CountsWrites result (W.failed out.old) (W.failed out.new) }
+{
+    let report = print_report(host.rt, host.alloc, committee, verifier, sources, out)?;
     store_verdicts(host.files, host.alloc, folder, &report)?;
-    Ok(has_culprits(&report))
+    if has_culprits(&report) {
+        return Ok(AuditEnd::Culprits);
+    }
+    Ok(AuditEnd::NoCulprit)
+}
+
+// How an audit ends of which this was found.
+fn end_of(strictness: Strictness, committee: &CommitteeView, audit: &HeldAudit) -> AuditEnd
+    ensures { IsEndOf strictness committee.now audit.now.judged.items audit.now.report.verdicts result }
+{
+    if has_culprits(&audit.report) {
+        return AuditEnd::Culprits;
+    }
+    if falls_short(strictness, committee, &audit.judged) {
+        return AuditEnd::TooFewSound;
+    }
+    AuditEnd::NoCulprit
+}
+
+fn print_held<'a, 'c, T: Threads + Sync, C: Connector + Send, V: Verifier + Sync, W: Sink>(
+    rt: &T,
+    alloc: Global,
+    committee: &CommitteeView<'c>,
+    verifier: &V,
+    sources: Vec<Source<C>>,
+    out: &mut W,
+) -> Result<HeldAudit<'c>, Fault<'a>>
+    requires tries { All (MayBeTried C.allowed) sources.items }
+    ensures printed { IfOk result (λ audit.
+        IsAuditPrinted C.Connector (AreJudgedAs audit.judged.items) committee.now sources.items
+        (W.text out.old) (W.text out.new) audit.report.verdicts) }
+    ensures counted { CountsWrites result (W.failed out.old) (W.failed out.new) }
+{
+    match audit_held(rt, alloc, committee, verifier, sources, out) {
+        Ok(audit) => Ok(audit),
+        Err(error) => Err(fault_of_run(error)),
+    }
 }
 
 fn print_report<'a, T: Threads + Wait + Sync, C: Connector + Send, V: Verifier + Sync, W: Sink>(
@@ -75,7 +237,7 @@ fn print_report<'a, T: Threads + Wait + Sync, C: Connector + Send, V: Verifier +
 ) -> Result<Report, Fault<'a>>
     requires tries { All (MayBeTried C.allowed) sources.items }
     ensures printed { IfOk result (λ report.
-        IsAuditPrinted C.Connector committee.now sources.items (W.text out.old)
+        IsAuditPrinted C.Connector AreAny committee.now sources.items (W.text out.old)
         (W.text out.new) report.verdicts) }
     ensures counted { CountsWrites result (W.failed out.old) (W.failed out.new) }
 {

@@ -40,13 +40,15 @@ pub enum FolderFile {
     Key(KeyFile),
     /// The lock of a replica.
     Lock,
+    /// The file that says that a replica's log was put back to a backup.
+    PutBack,
     /// The verdict on this replica.
     Verdict(u16),
 }
 
 impl FolderFile {
     // Its name behind the folder's path.
-    fn behind(self) -> Line
+    pub(crate) fn behind(self) -> Line
         ensures { result ≡ name_behind self }
     {
         let mut name = Line::new();
@@ -56,6 +58,7 @@ impl FolderFile {
                 name.push(file.name().as_bytes());
             }
             FolderFile::Lock => name.push(b"/lock"),
+            FolderFile::PutBack => name.push(b"/put-back"),
             FolderFile::Verdict(replica) => {
                 name.push(b"/verdict-");
                 name.push(Buffer::new().format(replica).as_bytes());

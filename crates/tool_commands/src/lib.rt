@@ -11,12 +11,16 @@ mod keygen;
 mod migrate;
 mod occupied;
 mod progress;
+mod reason;
 mod replica;
 mod seeds;
 mod sources;
+mod strict;
 mod tool;
+mod why;
 
 pub use fault::{Fault, FolderFile, ToolFault};
 pub use host::Host;
 pub use program_parts::FAULT;
-pub use tool::{CULPRITS, DONE, run_tool};
+pub use reason::{Reason, Stranger};
+pub use tool::{CULPRITS, DONE, TOO_FEW_SOUND, run_tool};

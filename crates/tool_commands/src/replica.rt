@@ -98,6 +98,8 @@ fn in_folder<'a>(folder: &'a str, fault: ReplicaFault) -> Fault<'a>
     ensures memory { fault ≡ ReplicaFault.Memory → result ≡ ProgramFault.Memory }
     ensures lock { fault ≡ ReplicaFault.File ReplicaFile.Lock
         → result ≡ ProgramFault.Own (ToolFault.FileIn folder.entry FolderFile.Lock) }
+    ensures put_back { fault ≡ ReplicaFault.File ReplicaFile.PutBack
+        → result ≡ ProgramFault.Own (ToolFault.FileIn folder.entry FolderFile.PutBack) }
     ensures file { (file : KeyFileValue) → fault ≡ ReplicaFault.File (ReplicaFile.Key file)
         → result ≡ ProgramFault.Own (ToolFault.FileIn folder.entry (FolderFile.Key file)) }
     ensures store { (number : ℕ) → fault ≡ ReplicaFault.Store number
@@ -110,6 +112,9 @@ fn in_folder<'a>(folder: &'a str, fault: ReplicaFault) -> Fault<'a>
         ReplicaFault::Memory => Fault::Memory,
         ReplicaFault::File(ReplicaFile::Lock) => {
             Fault::Own(ToolFault::FileIn(folder, FolderFile::Lock))
+        }
+        ReplicaFault::File(ReplicaFile::PutBack) => {
+            Fault::Own(ToolFault::FileIn(folder, FolderFile::PutBack))
         }
         ReplicaFault::File(ReplicaFile::Key(file)) => {
             Fault::Own(ToolFault::FileIn(folder, FolderFile::Key(file)))

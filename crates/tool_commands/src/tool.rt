@@ -4,10 +4,10 @@ ghost use Rattle.std.specs.Prelude.{◌≡◌, ◌≢◌, ◌⊎◌, ◌↔◌, 
 ghost use Rattle.program_parts.specs.Writes.{CountsWrites};
 ghost use Rattle.tool_words.specs.Commands.{IsAskedBy};
 ghost use Rattle.tool_words.specs.declared.command.Command.{Command as CommandValue};
-ghost use Rattle.tool_commands.specs.Commands.{AreCulpritsFound, IsDone, IsStopped, lend};
+ghost use Rattle.tool_commands.specs.Commands.{AreCulpritsFound, AreTooFewSound, IsDone, IsStopped, TellsReasons, lend};
 ghost use Rattle.tool_commands.specs.Writes.{TellsFault};
 
-use crate::audit::audit_sources;
+use crate::audit::{AuditEnd, audit_sources};
 use crate::committee::{committee, weighted};
 use crate::export::export_log;
 use crate::fault::Fault;
@@ -34,6 +34,9 @@ pub const DONE: u8 = 0;
 /// An audit was done, and there are culprits.
 pub const CULPRITS: u8 = 3;
 
+/// An audit that was to be strict found no culprit, in too few sound sources.
+pub const TOO_FEW_SOUND: u8 = 4;
+
 /// How the tool is called: a line for each command.
 const USAGE: &[u8] = b"hs_tool keygen SEED DIR
 hs_tool committee F OUT KEY..
@@ -43,8 +46,8 @@ hs_tool weighted OUT WEIGHT=PATH..
 hs_tool migrate OLD NEW COMMITTEE
 ";
 
-/// Does what the words ask for, and answers the exit status: `DONE`, `CULPRITS` or `FAULT`. Facts go to `out`, and with
-/// `FAULT` a fault's line to `faults`, which is else left alone: `fault output` exactly where a write of facts failed. Where
+/// Does what the words ask for, and answers the exit status: `DONE`, `CULPRITS`, `TOO_FEW_SOUND` or `FAULT`. Facts go to `out`, what
+/// an audit with `--why` tells to `whys`, and with `FAULT` a fault's line to `faults`, which is else left alone: `fault output` exactly where a write of facts failed. Where
 /// a disk failed under a replica, the facts say it, and there is no fault's line with `FAULT`. The words stand without the
 /// program's name; only `replica` and `keygen --stdin` read `lines`, and only `keygen --random` draws of `seeds`.
 pub fn run_tool<
@@ -55,6 +58,7 @@ pub fn run_tool<
     R: Feed,
     W: Sink,
     E: Sink,
+    Y: Sink,
 >(
     host: &Host<'a, F, T>,
     seeds: &S,
@@ -62,17 +66,23 @@ pub fn run_tool<
     lines: &mut R,
     out: &mut W,
     faults: &mut E,
+    whys: &mut Y,
 ) -> u8
 where
     F::Dir: Send,
-    ensures status { (result ≡ 0) ⊎ (result ≡ 2) ⊎ (result ≡ 3) }
+    ensures status { (result ≡ 0) ⊎ (result ≡ 2) ⊎ (result ≡ 3) ⊎ (result ≡ 4) }
     ensures done { result ≡ 0 → (command : CommandValue) × IsAskedBy words.now command
         × IsDone (lend ⟦<FileDisk as Disk>⟧ ⟦<SourceConnector<'a, T, F> as Connector>⟧
         (S.draws seeds.now) R.Feed lines.old lines.new) command (W.text out.old) (W.text out.new) }
     ensures culprits { result ≡ 3 → (command : CommandValue) × IsAskedBy words.now command
         × AreCulpritsFound (lend ⟦<FileDisk as Disk>⟧ ⟦<SourceConnector<'a, T, F> as Connector>⟧
         (S.draws seeds.now) R.Feed lines.old lines.new) command (W.text out.old) (W.text out.new) }
+    ensures too_few { result ≡ 4 → (command : CommandValue) × IsAskedBy words.now command
+        × AreTooFewSound (lend ⟦<FileDisk as Disk>⟧ ⟦<SourceConnector<'a, T, F> as Connector>⟧
+        (S.draws seeds.now) R.Feed lines.old lines.new) command (W.text out.old) (W.text out.new) }
     ensures quiet { result ≢ 2 → (faults.new ≡ faults.old) × (W.failed out.new ≡ W.failed out.old) }
+    ensures reasons { (whys.new ≡ whys.old) ⊎ ((command : CommandValue)
+        × IsAskedBy words.now command × TellsReasons command) }
     ensures told { result ≡ 2 → ((faults.new ≡ faults.old) × (W.failed out.new ≡ W.failed out.old)
         × (command : CommandValue) × IsAskedBy words.now command
         × IsStopped (lend ⟦<FileDisk as Disk>⟧ ⟦<SourceConnector<'a, T, F> as Connector>⟧
@@ -80,7 +90,7 @@ where
         ⊎ TellsFault (E.text faults.old) (E.text faults.new) (E.failed faults.old)
         (E.failed faults.new) (W.failed out.old) (W.failed out.new) }
 {
-    match run(host, seeds, words, lines, out) {
+    match run(host, seeds, words, lines, out, whys) {
         Ok(ended) => ended.status(),
         Err(fault) => {
             fault.tell(faults);
@@ -94,6 +104,7 @@ where
 enum Ended {
     Done,
     Culprits,
+    TooFewSound,
     Stopped,
 }
 
@@ -108,15 +119,30 @@ impl Ended {
         }
     }
 
+    fn of_audit(end: AuditEnd) -> Ended
+        ensures done { result ≡ Ended.Done → end ≡ AuditEnd.NoCulprit }
+        ensures culprits { result ≡ Ended.Culprits → end ≡ AuditEnd.Culprits }
+        ensures too_few { result ≡ Ended.TooFewSound → end ≡ AuditEnd.TooFewSound }
+        ensures stopped { result ≢ Ended.Stopped }
+    {
+        match end {
+            AuditEnd::NoCulprit => Ended::Done,
+            AuditEnd::TooFewSound => Ended::TooFewSound,
+            AuditEnd::Culprits => Ended::Culprits,
+        }
+    }
+
     fn status(self) -> u8
         ensures done { result ≡ 0 ↔ self ≡ Ended.Done }
         ensures stopped { result ≡ 2 ↔ self ≡ Ended.Stopped }
         ensures culprits { result ≡ 3 ↔ self ≡ Ended.Culprits }
-        ensures status { (result ≡ 0) ⊎ (result ≡ 2) ⊎ (result ≡ 3) }
+        ensures too_few { result ≡ 4 ↔ self ≡ Ended.TooFewSound }
+        ensures status { (result ≡ 0) ⊎ (result ≡ 2) ⊎ (result ≡ 3) ⊎ (result ≡ 4) }
     {
         match self {
             Ended::Done => DONE,
             Ended::Culprits => CULPRITS,
+            Ended::TooFewSound => TOO_FEW_SOUND,
             Ended::Stopped => FAULT,
         }
     }
@@ -129,12 +155,14 @@ fn run<
     S: DrawSeed,
     R: Feed,
     W: Sink,
+    Y: Sink,
 >(
     host: &Host<'a, F, T>,
     seeds: &S,
     words: &'a [String],
     lines: &mut R,
     out: &mut W,
+    whys: &mut Y,
 ) -> Result<Ended, Fault<'a>>
 where
     F::Dir: Send,
@@ -146,14 +174,20 @@ where
         × IsAskedBy words.now command
         × AreCulpritsFound (lend ⟦<FileDisk as Disk>⟧ ⟦<SourceConnector<'a, T, F> as Connector>⟧
         (S.draws seeds.now) R.Feed lines.old lines.new) command (W.text out.old) (W.text out.new)) }
+    ensures too_few { IfOk result (λ ended. ended ≡ Ended.TooFewSound → (command : CommandValue)
+        × IsAskedBy words.now command
+        × AreTooFewSound (lend ⟦<FileDisk as Disk>⟧ ⟦<SourceConnector<'a, T, F> as Connector>⟧
+        (S.draws seeds.now) R.Feed lines.old lines.new) command (W.text out.old) (W.text out.new)) }
     ensures stopped { IfOk result (λ ended. ended ≡ Ended.Stopped → (command : CommandValue)
         × IsAskedBy words.now command
         × IsStopped (lend ⟦<FileDisk as Disk>⟧ ⟦<SourceConnector<'a, T, F> as Connector>⟧
         (S.draws seeds.now) R.Feed lines.old lines.new) command (W.text out.old) (W.text out.new)) }
+    ensures reasons { (whys.new ≡ whys.old) ⊎ ((command : CommandValue)
+        × IsAskedBy words.now command × TellsReasons command) }
     ensures counted { CountsWrites result (W.failed out.old) (W.failed out.new) }
 {
     match read_words(host.alloc, words) {
-        Ok(command) => done(host, seeds, &command, lines, out),
+        Ok(command) => done(host, seeds, &command, lines, out, whys),
         Err(WordsFault::Usage) => Err(Fault::Usage),
         Err(WordsFault::Memory) => Err(Fault::Memory),
     }
@@ -166,12 +200,14 @@ fn done<
     S: DrawSeed,
     R: Feed,
     W: Sink,
+    Y: Sink,
 >(
     host: &Host<'a, F, T>,
     seeds: &S,
     command: &Command<'a>,
     lines: &mut R,
     out: &mut W,
+    whys: &mut Y,
 ) -> Result<Ended, Fault<'a>>
 where
     F::Dir: Send,
@@ -183,23 +219,38 @@ where
         → AreCulpritsFound (lend ⟦<FileDisk as Disk>⟧ ⟦<SourceConnector<'a, T, F> as Connector>⟧
         (S.draws seeds.now) R.Feed lines.old lines.new)
         command.now (W.text out.old) (W.text out.new)) }
+    ensures too_few { IfOk result (λ ended. ended ≡ Ended.TooFewSound
+        → AreTooFewSound (lend ⟦<FileDisk as Disk>⟧ ⟦<SourceConnector<'a, T, F> as Connector>⟧
+        (S.draws seeds.now) R.Feed lines.old lines.new)
+        command.now (W.text out.old) (W.text out.new)) }
     ensures stopped { IfOk result (λ ended. ended ≡ Ended.Stopped
         → IsStopped (lend ⟦<FileDisk as Disk>⟧ ⟦<SourceConnector<'a, T, F> as Connector>⟧
         (S.draws seeds.now) R.Feed lines.old lines.new)
         command.now (W.text out.old) (W.text out.new)) }
+    ensures reasons { (whys.new ≡ whys.old) ⊎ TellsReasons command.now }
     ensures counted { CountsWrites result (W.failed out.old) (W.failed out.new) }
 {
     let (files, alloc) = (host.files, host.alloc);
     match command {
-        Command::Usage => write_all(out, USAGE).map_err(|_| Fault::Output)?,
+        Command::Usage => {
+            write_all(out, USAGE).map_err(|_| Fault::Output)?;
+            Ok(Ended::Done)
+        }
         Command::Keygen { seed, folder, key } => {
             keygen(host, seeds, *seed, folder, *key, lines, out)?;
+            Ok(Ended::Done)
         }
-        Command::Committee { f, out: path, keys } => committee(files, alloc, *f, path, keys, out)?,
+        Command::Committee { f, out: path, keys } => {
+            committee(files, alloc, *f, path, keys, out)?;
+            Ok(Ended::Done)
+        }
         Command::Weighted {
             out: path,
             replicas,
-        } => weighted(files, alloc, path, replicas, out)?,
+        } => {
+            weighted(files, alloc, path, replicas, out)?;
+            Ok(Ended::Done)
+        }
         Command::Replica {
             committee,
             replica: number,
@@ -210,24 +261,29 @@ where
             let ending = replica(
                 host, committee, *number, folder, *workers, *service, lines, out,
             )?;
-            return Ok(Ended::of(ending));
+            Ok(Ended::of(ending))
         }
         Command::Audit {
             committee,
             folder,
             sources,
             tries,
+            wishes,
         } => {
-            if audit_sources(host, committee, folder, sources, *tries, out)? {
-                return Ok(Ended::Culprits);
-            }
+            let end = audit_sources(host, committee, folder, sources, *tries, *wishes, out, whys)?;
+            Ok(Ended::of_audit(end))
         }
         Command::Migrate {
             old,
             new,
             committee,
-        } => migrate_log(files, alloc, old, new, committee, out)?,
-        Command::Export { log, out: path } => export_log(files, alloc, log, path, out)?,
+        } => {
+            migrate_log(files, alloc, old, new, committee, out)?;
+            Ok(Ended::Done)
+        }
+        Command::Export { log, out: path } => {
+            export_log(files, alloc, log, path, out)?;
+            Ok(Ended::Done)
+        }
     }
-    Ok(Ended::Done)
 }

@@ -34,12 +34,13 @@ pub enum Command<'a> {
         workers: Workers,
         service: Option<Service<'a>>,
     },
-    /// `audit COMMITTEE OUTDIR SOURCE.. [--tries T]`
+    /// `audit COMMITTEE OUTDIR SOURCE.. [--tries T] [--strict] [--strict-all] [--why]`
     Audit {
         committee: &'a str,
         folder: &'a str,
         sources: Vec<&'a str>,
         tries: Tries,
+        wishes: AuditWishes,
     },
     /// `migrate OLD NEW COMMITTEE`
     Migrate {
@@ -138,6 +139,25 @@ impl Tries {
     {
         self.count
     }
+}
+
+/// Which sources of an audit have to be sound, so that it ends as one that found no culprit.
+#[derive(Clone, Copy, Debug, PartialEq, Eq)]
+pub enum Strictness {
+    /// None.
+    Lax,
+    /// Those of a quorum.
+    Quorum,
+    /// Those of a quorum, and every other.
+    All,
+}
+
+/// What else an audit is asked for.
+#[derive(Clone, Copy, Debug)]
+pub struct AuditWishes {
+    pub strictness: Strictness,
+    /// Whether it says why a source is not sound, and where the verdicts are.
+    pub tells_why: bool,
 }
 
 /// How many requests are served: 1 to 1,000.

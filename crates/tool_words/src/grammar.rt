@@ -84,7 +84,15 @@ fn with_audit<'a>(alloc: Global, grammar: Grammar<'a>) -> Result<Grammar<'a>, Al
         .arg(Arg::new(alloc, "OUTDIR").required(true))?
         .arg(sources)?
         .arg(Arg::new(alloc, "T").long("tries"))?;
-    grammar.subcommand(audit)
+    grammar.subcommand(with_wishes(alloc, audit)?)
+}
+
+// What else an audit may be asked for.
+fn with_wishes<'a>(alloc: Global, audit: Grammar<'a>) -> Result<Grammar<'a>, AllocError> {
+    audit
+        .arg(flag(alloc, "strict"))?
+        .arg(flag(alloc, "strict-all"))?
+        .arg(flag(alloc, "why"))
 }
 
 fn with_migrate<'a>(alloc: Global, grammar: Grammar<'a>) -> Result<Grammar<'a>, AllocError> {

@@ -6,5 +6,7 @@ mod command;
 mod grammar;
 mod reading;
 
-pub use command::{Command, Requests, SeedWord, Service, Tries, WeightedReplica, Workers};
+pub use command::{
+    AuditWishes, Command, Requests, SeedWord, Service, Strictness, Tries, WeightedReplica, Workers,
+};
 pub use reading::{WordsFault, read_words};

@@ -1,10 +1,12 @@
 //! From words to what they ask for.
 
-ghost use Rattle.std.specs.Prelude.{◌≡◌, ◌≢◌, ◌≤◌, ◌<◌, ◌^◌, [], ℕ, IfOk, MatchOption, Ok, decimal};
+ghost use Rattle.std.specs.Prelude.{◌≡◌, ◌≢◌, ◌≤◌, ◌<◌, ◌^◌, [], ℕ, IfOk, MatchOption, Ok, decimal, false, true};
 ghost use Rattle.program_parts.specs.Words.{SpellsNumber};
 ghost use Rattle.tool_words.specs.Commands.{HasItsCounts, IsAskedBy, IsWeighted};
 
-use crate::command::{Command, Requests, SeedWord, Service, Tries, WeightedReplica, Workers};
+use crate::command::{
+    AuditWishes, Command, Requests, SeedWord, Service, Strictness, Tries, WeightedReplica, Workers,
+};
 use crate::grammar::parsed;
 use clap::ArgMatches;
 use clap::error::ErrorKind;
@@ -253,7 +255,27 @@ fn audit<'a>(alloc: Global, given: &ArgMatches<'a>) -> Result<Command<'a>, Words
         folder,
         sources,
         tries,
+        wishes: wishes(given),
     })
+}
+
+fn wishes(given: &ArgMatches) -> AuditWishes {
+    AuditWishes {
+        strictness: strictness(given.get_flag("strict"), given.get_flag("strict-all")),
+        tells_why: given.get_flag("why"),
+    }
+}
+
+fn strictness(quorum: bool, all: bool) -> Strictness
+    ensures all { all ≡ true → result ≡ Strictness.All }
+    ensures quorum { quorum ≡ true → all ≡ false → result ≡ Strictness.Quorum }
+    ensures lax { quorum ≡ false → all ≡ false → result ≡ Strictness.Lax }
+{
+    match (quorum, all) {
+        (_, true) => Strictness::All,
+        (true, false) => Strictness::Quorum,
+        (false, false) => Strictness::Lax,
+    }
 }
 
 fn migrate<'a>(given: &ArgMatches<'a>) -> Result<Command<'a>, WordsFault>

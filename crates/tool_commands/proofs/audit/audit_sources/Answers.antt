@@ -1,18 +1,36 @@
 use Rattle.std.proofs.Common.{refl}
+use Rattle.std.proofs.lemmas.Result.{IfOk-weaker}
+use Rattle.tool_commands.specs.Audits.{IsEnoughPrinted, IsTooLittlePrinted}
+use Rattle.tool_commands.specs.declared.audit.AuditEnd.TheVariants.{NoCulprit, TooFewSound, Culprits}
+use Rattle.tool_commands.proofs.Endings.{ended_as}
 use Rattle.tool_commands.proofs.Openings.{of_words}
 use Rattle.tool_commands.proofs.audit.audit_sources.Goals as goal
 
 pub returns-clause-culprits : goal.returns-clause-culprits
-returns-clause-culprits g c found =
+returns-clause-culprits g c =
     let opened = c.in_ok-sources-2.ensures in
-    let printed = c.in_ok-report.ensures.printed in (
-      c.in_ok-report.report.verdicts,
-      c.has_culprits.ensures.culprits found,
-      of_words _ (λ s. s.connector) _ _ _ _ _ _ _ _ _ _ _ _ c.in_ok-sources.ensures.spelled c.deref-2.ensures.value opened.opened opened.tries printed.run printed.with printed.proofs printed.more_than_a_third printed.wrote refl,
-    )
+    IfOk-weaker c.audit_opened.result _ _ (λ end printed is.
+    let w = printed is in
+    let p = w.2 in (
+      w.0,
+      w.1,
+      of_words _ _ (λ s. s.connector) _ _ _ _ _ _ _ _ _ _ _ _ c.in_ok-sources.ensures.spelled c.deref-2.ensures.value opened.opened opened.tries p.run p.are p.with p.proofs p.more_than_a_third p.wrote refl,
+    )) (ended_as _ _ _ _ _ _ c.audit_opened.result Culprits c.audit_opened.ensures.ended)
 
 pub returns-clause-none : goal.returns-clause-none
-returns-clause-none g c found =
+unfolding IsEnoughPrinted
+returns-clause-none g c =
     let opened = c.in_ok-sources-2.ensures in
-    let printed = c.in_ok-report.ensures.printed in
-    of_words _ (λ s. s.connector) _ _ _ _ _ _ _ _ _ _ _ _ c.in_ok-sources.ensures.spelled c.deref-2.ensures.value opened.opened opened.tries printed.run printed.with printed.proofs printed.more_than_a_third printed.wrote (c.has_culprits.ensures.none found)
+    IfOk-weaker c.audit_opened.result _ _ (λ end printed is.
+    let p = printed is in
+    of_words _ _ (λ s. s.connector) _ _ _ _ _ _ _ _ _ _ _ _ c.in_ok-sources.ensures.spelled c.deref-2.ensures.value opened.opened opened.tries p.run p.are p.with p.proofs p.more_than_a_third p.wrote refl)
+    (ended_as _ _ _ _ _ _ c.audit_opened.result NoCulprit c.audit_opened.ensures.ended)
+
+pub returns-clause-too_few : goal.returns-clause-too_few
+unfolding IsTooLittlePrinted
+returns-clause-too_few g c =
+    let opened = c.in_ok-sources-2.ensures in
+    IfOk-weaker c.audit_opened.result _ _ (λ end printed is.
+    let p = printed is in
+    of_words _ _ (λ s. s.connector) _ _ _ _ _ _ _ _ _ _ _ _ c.in_ok-sources.ensures.spelled c.deref-2.ensures.value opened.opened opened.tries p.run p.are p.with p.proofs p.more_than_a_third p.wrote refl)
+    (ended_as _ _ _ _ _ _ c.audit_opened.result TooFewSound c.audit_opened.ensures.ended)

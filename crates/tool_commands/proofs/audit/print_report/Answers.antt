@@ -8,6 +8,7 @@ returns-in-Ok-clause-printed g c =
       evidence = done.ok.0;
       report = c.in-Ok.report;
       run = done.ok.1;
+      are = tt;
       with = refl;
       proofs = done.accepted;
       more_than_a_third = done.more_than_a_third;

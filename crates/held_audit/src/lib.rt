@@ -1,0 +1,7 @@
+//! An audit of sources that says which of them are sound. Needs threads.
+#![tactic(auto)]
+
+mod audit;
+
+pub use audit::{HeldAudit, audit_held};
+pub use source_audit::RunError;

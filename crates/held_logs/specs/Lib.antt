@@ -1,0 +1,3 @@
+pub use Rattle.evidence.specs.Logs
+pub mod Held
+pub mod Judged
