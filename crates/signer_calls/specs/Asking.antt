@@ -8,7 +8,8 @@ use Rattle.http_uri.specs.Uri.{uri_authority, uri_path, uri_query, uri_scheme}
 use Rattle.replica_lines.specs.Requests.{IsOfBlock}
 use Rattle.replica_lines.specs.declared.request.Request.{Request as Asked}
 use Rattle.replica_lines.specs.declared.request.Request.TheVariants as asks
-use Rattle.signer_calls.specs.Doors.{HasBytesType, HasGoodHost}
+use Rattle.host_rule.specs.HostRules.{HasGoodHost}
+use Rattle.signer_calls.specs.Doors.{HasBytesType}
 use Rattle.signer_calls.specs.LogParts.{IsPart}
 use Rattle.signer_calls.specs.Places.{IsPlace, has_no_id, is_nowhere, is_posted, methods_of, takes_query}
 use Rattle.signer_calls.specs.SpelledVotes.{SpellsVote}

@@ -5,12 +5,13 @@ ghost use Rattle.http.specs.Request.{head_of};
 ghost use Rattle.signer_calls.specs.Asking.{AsksFor, HasContentType, HasGoodTarget, HasNoOrigin, HasRightMethod, IsAdmitted, IsAskedAt, IsRefusedAt, IsThere, LogAsked, NamesHost, PassesDoor, VoteAsked, query_in};
 
 use crate::call::{Call, CallRefusal};
-use crate::door::{has_bytes_type, has_good_host};
+use crate::door::has_bytes_type;
 use crate::log_part::part_in;
 use crate::place::{Methods, Place, is_same, place_of};
 use crate::rules::Rules;
 use crate::vote_reading::vote_in;
 use bytes::Bytes;
+use host_rule::has_good_host;
 use http::Request;
 use replica_lines::{Request as Asked, block_in};
 use std::alloc::{AllocError, Global};

@@ -6,7 +6,7 @@ use Rattle.program_parts.specs.declared.program_fault.ProgramFault.{ProgramFault
 use Rattle.watch_command.specs.declared.fault.FolderFile.{FolderFile}
 use Rattle.watch_command.specs.declared.fault.FolderFile.TheVariants.{Lock, Verdict}
 use Rattle.watch_command.specs.declared.fault.WatchFault.{WatchFault}
-use Rattle.watch_command.specs.declared.fault.WatchFault.TheVariants.{Sources, FileIn, Threads}
+use Rattle.watch_command.specs.declared.fault.WatchFault.TheVariants.{Sources, FileIn, Listen, Threads}
 
 -- a file behind its folder
 abbrev pub name_behind : FolderFile → List ℕ
@@ -17,6 +17,7 @@ name_behind (Verdict replica) = codes "/verdict-" ++ decimal replica ++ codes ".
 abbrev pub own_line : WatchFault → List ℕ
 own_line (Sources fault) = source_fault_line fault
 own_line (FileIn folder file) = file_line folder.now (name_behind file)
+own_line Listen = codes "fault listen\n"
 own_line Threads = codes "fault threads\n"
 
 abbrev pub watch_fault_line : ProgramFault WatchFault → List ℕ

@@ -4,22 +4,28 @@ ghost use Rattle.std.specs.Prelude.{◌≢◌, IfErr};
 
 use crate::fault::{Fault, fault_of_evidence};
 use crate::shop::{Delivery, Shop, Told};
+use crate::showing::{
+    Seen, show_commits, show_conflict, show_culprit, show_kept, show_round, show_source,
+    show_stored,
+};
 use crate::verdict_files::{Kept, VerdictFolder};
 use culprit_search::{Commit, Conflict, Report, Verdict};
 use log_format::Status;
 use program_parts::ProgramFault;
+use source_reading::FrameDigest;
 use std::alloc::AllocError;
 use std::fs::{File, Files};
 use std::sync::Wait;
 use std::sync::atomic::Ordering;
 use std::thread::Threads;
-use std::time::{Clock, Duration, SystemTime, UNIX_EPOCH};
+use std::time::{Clock, Duration};
 use watch_collector::{Collector, Part};
 use watch_lines::{
     put_commit, put_conflict, put_culprit, put_kept, put_source, put_source_alarm, put_unstored,
     stamp, utc_text,
 };
 use watch_search::audit_so_far;
+use watch_service::seconds_now;
 
 /// A source is set aside once so many of its votes were not good: a correct replica's log has none.
 const MOST_BAD_VOTES: usize = 64;
@@ -33,6 +39,10 @@ struct SourceState {
     // The collector's number for each of its logs, and how it ended when that was told last.
     logs: Vec<(usize, Option<Status>)>,
     bad: usize,
+    // How often it went back.
+    times_back: u64,
+    // What the frames of its first log digest to.
+    digest: FrameDigest,
 }
 
 // Where the verdict on a replica is.
@@ -99,7 +109,12 @@ impl<'c> Desk<'c> {
             replicas.push(target.replica)?;
             let mut logs = Vec::new(shop.alloc);
             logs.push((i, None))?;
-            sources.push(SourceState { logs, bad: 0 })?;
+            sources.push(SourceState {
+                logs,
+                bad: 0,
+                times_back: 0,
+                digest: [0; 32],
+            })?;
         }
         Ok(Desk {
             collector: Collector::new(shop.alloc, shop.committee, &replicas)?,
@@ -151,10 +166,31 @@ impl<'c> Desk<'c> {
             }
         }
         self.store_pending(shop, folder)?;
+        // What was read is shown before what it proves.
+        self.show(shop);
         if grew {
             self.audit(shop, folder, &stamp)?;
+            self.show(shop);
         }
         Ok(())
+    }
+
+    // Shows what is known of the sources, and that there was a round.
+    fn show<T: Wait + Clock>(&self, shop: &Shop<'_, '_, 'c, T>) {
+        for (i, state) in self.sources.iter().enumerate() {
+            let mut seen = Seen {
+                status: None,
+                frames: 0,
+                entries: 0,
+                digest: state.digest,
+                times_back: state.times_back,
+            };
+            for (number, told) in &state.logs {
+                seen.add(*told, self.collector.reports().get(*number));
+            }
+            show_source(shop, i, &seen);
+        }
+        show_round(shop, self.round, !self.pending.is_empty());
     }
 
     // Adds what was told of a source. Answers whether evidence grew.
@@ -169,6 +205,9 @@ impl<'c> Desk<'c> {
         let source = delivery.source;
         match delivery.told {
             Told::WentBack => {
+                if let Some(state) = self.sources.get_mut(source) {
+                    state.times_back = state.times_back.saturating_add(1);
+                }
                 say_alarm(shop, stamp, b"went-back", source)?;
                 Ok(false)
             }
@@ -177,7 +216,12 @@ impl<'c> Desk<'c> {
                 let _number = self.number_of(shop, source, usize::MAX)?;
                 Ok(false)
             }
-            Told::Part(log, part) => self.take_part(shop, stamp, source, log, &part),
+            Told::Part(log, part, digest) => {
+                if let Some(state) = self.sources.get_mut(source) {
+                    state.digest = digest;
+                }
+                self.take_part(shop, stamp, source, log, &part)
+            }
         }
     }
 
@@ -283,6 +327,9 @@ impl<'c> Desk<'c> {
         for verdict in report.verdicts() {
             self.name(shop, folder, stamp, verdict)?;
         }
+        // Last, so that no conflict is shown without its culprits.
+        show_commits(shop, &self.commits)?;
+        show_conflict(shop, &self.conflict);
         Ok(())
     }
 
@@ -346,10 +393,11 @@ impl<'c> Desk<'c> {
         if folder.store(&path, verdict.as_bytes()).is_ok() {
             *state = VerdictState::Stored;
             shop.queue.say(shop.rt, line);
-            return Ok(());
+            return show_culprit(shop, verdict, &path, false);
         }
         *state = VerdictState::Unstored;
         shop.queue.say(shop.rt, line);
+        show_culprit(shop, verdict, &path, true)?;
         let mut line = Vec::new(shop.alloc);
         put_unstored(&mut line, stamp, path.as_bytes())?;
         shop.queue.say(shop.rt, line);
@@ -377,6 +425,7 @@ impl<'c> Desk<'c> {
             if let Some(state) = self.verdicts.get_mut(usize::from(verdict.replica)) {
                 *state = VerdictState::Stored;
             }
+            show_stored(shop, verdict.replica);
         }
         self.pending = left;
         Ok(())
@@ -398,6 +447,7 @@ fn kept_verdicts<T: Files<File = File> + Wait + Clock>(
             Kept::Verdict(second) => {
                 let path = folder.path_of(replica, second)?;
                 put_kept(&mut line, &stamp, replica, path.as_bytes())?;
+                show_kept(shop, replica, folder.bytes_of(&path)?, &path)?;
                 VerdictState::Stored
             }
             Kept::Other => {
@@ -434,15 +484,4 @@ fn stamp_now<T: Wait + Clock>(
 ) -> Result<Vec<u8>, AllocError> {
     let time = utc_text(shop.alloc, seconds_now(shop.rt))?;
     stamp(shop.alloc, &time, round)
-}
-
-// The seconds since 1970, or 0 where the clock does not tell them.
-fn seconds_now(clock: &impl Clock) -> u64 {
-    let Ok(now) = SystemTime::now(clock) else {
-        return 0;
-    };
-    match now.duration_since(UNIX_EPOCH) {
-        Ok(since) => since.as_secs(),
-        Err(_) => 0,
-    }
 }

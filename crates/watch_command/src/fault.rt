@@ -20,6 +20,8 @@ pub enum WatchFault<'a> {
     Sources(SourceFault),
     /// This file of the folder at this path can't be made, read or locked.
     FileIn(&'a str, FolderFile),
+    /// The place for HTTP can't be listened at.
+    Listen,
     /// A thread can't be made.
     Threads,
 }
@@ -60,6 +62,7 @@ impl FaultLine for WatchFault<'_> {
             WatchFault::FileIn(folder, file) => {
                 write_file_fault(out, folder, file.behind().as_bytes())
             }
+            WatchFault::Listen => write_all(out, b"fault listen\n"),
             WatchFault::Threads => write_all(out, b"fault threads\n"),
         }
     }

@@ -5,14 +5,15 @@ use crate::shop::{Delivery, Place, Shop, Target, Told};
 use evidence::EvidenceRefusal;
 use log_format::{Frames, Status};
 use log_transfer::{FetchError, FileConnector, Pull, ServerConnector, Step};
-use source_reading::{End, MOST_FRAMES_ASKED, SourceLogs, ask, digest_of};
+use source_reading::{End, FrameDigest, MOST_FRAMES_ASKED, SourceLogs, ask, digest_of};
 use std::fs::{File, Files};
 use std::net::{Net, SocketAddr, TcpStream};
 use std::sync::Wait;
 use std::sync::atomic::Ordering;
 use std::time::{Clock, Instant};
 use watch_collector::PartMaker;
-use wire::MOST_ENTRIES;
+use watch_service::seconds_now;
+use wire::{MOST_ENTRIES, put};
 
 /// Reads a source until the watch ends, or it is set aside; a file to its end.
 pub(crate) fn follow<'c, T: Files<File = File> + Wait + Clock + Net<Stream = TcpStream>>(
@@ -43,6 +44,7 @@ fn follow_server<'c, T: Wait + Clock + Net<Stream = TcpStream>>(
         has_told_beyond: false,
         read_whole: None,
         is_anew: false,
+        digest: [0; 32],
     };
     for _ in shop.rt.forever() {
         if shop.is_ending() || target.aside.load(Ordering::SeqCst) {
@@ -72,6 +74,8 @@ struct Reader {
     read_whole: Option<Instant>,
     // All of it is read anew, and no other source's.
     is_anew: bool,
+    // What the frames of its first log digest to.
+    digest: FrameDigest,
 }
 
 impl Reader {
@@ -127,6 +131,7 @@ impl Reader {
         };
         let frames = Frames::of(shop.alloc, &answer.text)?;
         let status = status_of(frames.status(), answer.end);
+        note_answer(shop, self.source, status);
         if !self.logs.goes_on(first_digest(&frames)) {
             return self.part_ways(shop, status);
         }
@@ -178,6 +183,7 @@ impl Reader {
             }
             if maker.frames() < MOST_ENTRIES {
                 maker.add(shop.alloc, frame)?;
+                self.note_frame(shop, log, frame);
             }
         }
         if maker.frames() > 0 || self.status != Some(status) {
@@ -195,8 +201,21 @@ impl Reader {
         status: Status,
     ) -> Result<PartMaker<'c>, EvidenceRefusal> {
         let part = maker.finish(shop.alloc, status)?;
-        self.tell(shop, Told::Part(self.log, part));
+        self.tell(shop, Told::Part(self.log, part, self.digest));
         Ok(PartMaker::new(shop.alloc, shop.committee, self.replica)?)
+    }
+
+    // Notes a frame that is new.
+    fn note_frame<T: Wait + Clock>(
+        &mut self,
+        shop: &Shop<'_, '_, '_, T>,
+        log: usize,
+        frame: &[u8],
+    ) {
+        if log == 0 {
+            self.digest = digest_with(&self.digest, frame);
+        }
+        note_frame(shop, self.source);
     }
 
     fn tell_status<'c, T: Wait + Clock>(
@@ -236,6 +255,32 @@ fn first_digest(frames: &Frames) -> Option<source_reading::FrameDigest> {
     Some(digest_of(frames.payload(0)))
 }
 
+// What some frames digest to, and one more.
+fn digest_with(before: &FrameDigest, frame: &[u8]) -> FrameDigest {
+    let mut both = [0; 64];
+    put(&mut both, 0, before);
+    put(&mut both, 32, &digest_of(frame));
+    digest_of(&both)
+}
+
+// A source answered.
+fn note_answer<T: Wait + Clock>(shop: &Shop<'_, '_, '_, T>, source: usize, status: Status) {
+    if let Some(target) = shop.targets.get(source)
+        && status != Status::Failed
+    {
+        target
+            .answered
+            .store(seconds_now(shop.rt), Ordering::SeqCst);
+    }
+}
+
+// A frame came of it.
+fn note_frame<T: Wait + Clock>(shop: &Shop<'_, '_, '_, T>, source: usize) {
+    if let Some(target) = shop.targets.get(source) {
+        target.framed.store(seconds_now(shop.rt), Ordering::SeqCst);
+    }
+}
+
 // How an answer ends: what says too little failed where the connection did.
 fn status_of(status: Status, end: End) -> Status {
     match (status, end) {
@@ -253,13 +298,18 @@ fn read_file_once<'c, T: Files<File = File> + Wait + Clock>(
 ) -> Result<(), EvidenceRefusal> {
     let mut pull = Pull::new(FileConnector::new(shop.rt, path), 1);
     let mut frame = Vec::new(shop.alloc);
+    let mut digest = [0; 32];
     for _ in 0..=MOST_ENTRIES {
         let mut maker = PartMaker::new(shop.alloc, shop.committee, replica)?;
-        let ended = fill_part(shop, &mut pull, &mut frame, &mut maker)?;
+        let ended = fill_part(shop, &mut pull, &mut frame, &mut digest, &mut maker)?;
+        note_answer(shop, source, ended.unwrap_or(Status::Whole));
+        if maker.frames() > 0 {
+            note_frame(shop, source);
+        }
         let part = maker.finish(shop.alloc, ended.unwrap_or(Status::Whole))?;
         shop.hand_over(Delivery {
             source,
-            told: Told::Part(0, part),
+            told: Told::Part(0, part, digest),
         });
         if ended.is_some() || shop.is_ending() {
             break;
@@ -273,6 +323,7 @@ fn fill_part<'c, 'x, T: Files<File = File> + Wait + Clock>(
     shop: &Shop<'_, '_, 'c, T>,
     pull: &mut Pull<FileConnector<'x, T>>,
     frame: &mut Vec<u8>,
+    digest: &mut FrameDigest,
     maker: &mut PartMaker<'c>,
 ) -> Result<Option<Status>, EvidenceRefusal> {
     for _ in 0..MOST_ENTRIES {
@@ -280,7 +331,10 @@ fn fill_part<'c, 'x, T: Files<File = File> + Wait + Clock>(
             break;
         }
         match pull.next(frame) {
-            Ok(Step::Frame) => maker.add(shop.alloc, frame)?,
+            Ok(Step::Frame) => {
+                maker.add(shop.alloc, frame)?;
+                *digest = digest_with(digest, frame);
+            }
             Ok(Step::End(status)) => return Ok(Some(status)),
             Err(FetchError::Memory) => return Err(EvidenceRefusal::Memory),
         }

@@ -5,10 +5,13 @@
 mod collecting;
 mod fault;
 mod following;
+mod link;
 mod patience;
 mod program;
 mod queue;
+mod serving;
 mod shop;
+mod showing;
 mod verdict_files;
 mod words;
 

@@ -10,7 +10,9 @@ use crate::fault::{Fault, WatchFault, fault_of_evidence};
 use crate::following::follow;
 use crate::patience::addresses_of;
 use crate::queue::Queue;
-use crate::shop::{Place, Shop, Target};
+use crate::serving::{Server, answer_all};
+use crate::shop::{Place, Shop, Target, answerers_of};
+use crate::showing::first_snapshot;
 use crate::verdict_files::VerdictFolder;
 use crate::words::{Words, read_words};
 use blocks::CommitteeView;
@@ -20,12 +22,14 @@ use program_parts::{
 use std::alloc::{AllocError, Global};
 use std::fs::{File, Files};
 use std::net::{Net, TcpListener, TcpStream};
+use std::random::RandomSource;
 use std::sync::Wait;
-use std::sync::atomic::AtomicBool;
+use std::sync::atomic::{AtomicBool, AtomicU64};
 use std::thread::Threads;
 use std::time::Clock;
 use std::{io, thread};
 use streams::Sink;
+use watch_snapshot::Snapshot;
 
 /// The watch ended, and had found no culprit.
 pub const DONE: u8 = 0;
@@ -49,6 +53,7 @@ pub struct Host<'a, T> {
 enum Job {
     Follow(usize),
     Collect,
+    Answer,
 }
 
 /// Runs a watch as the words say, until what they say ends it, or until it is killed. Answers the exit status: 3 where there were
@@ -60,6 +65,7 @@ pub fn run_watch<
         + Wait
         + Clock
         + Net<Listener = TcpListener, Stream = TcpStream>
+        + RandomSource
         + Sync,
     W: Sink + Send,
     E: Sink,
@@ -83,6 +89,7 @@ fn run<
         + Wait
         + Clock
         + Net<Listener = TcpListener, Stream = TcpStream>
+        + RandomSource
         + Sync,
     W: Sink + Send,
 >(host: &'h Host<'h, T>, words: &'a [String], out: &mut W) -> Result<u8, Fault<'a>>
@@ -117,8 +124,11 @@ fn targets_of<'a, T: Net<Listener = TcpListener, Stream = TcpStream>>(
     for (i, word) in words.sources.iter().enumerate() {
         match place_of(host, word) {
             Ok(place) => targets.push(Target {
+                word: words.source_words.get(i).copied().unwrap_or(""),
                 replica: word.replica,
                 place,
+                answered: AtomicU64::new(0),
+                framed: AtomicU64::new(0),
                 aside: AtomicBool::new(false),
             })?,
             Err(error) => {
@@ -149,6 +159,7 @@ fn watch<
         + Wait
         + Clock
         + Net<Listener = TcpListener, Stream = TcpStream>
+        + RandomSource
         + Sync,
     W: Sink + Send,
 >(
@@ -162,6 +173,7 @@ where
     T::Dir: Send,
 {
     let queue = Queue::new(host.alloc);
+    let server = server_of(host, words, committee, targets, &queue)?;
     let shop = Shop::new(
         host.rt,
         host.alloc,
@@ -170,8 +182,10 @@ where
         targets,
         &queue,
         host.input_ended,
+        server.as_ref(),
     )?;
-    let mut jobs = Some(jobs_of(host.alloc, targets.len())?);
+    let answerers = answerers_of(server.as_ref());
+    let mut jobs = Some(jobs_of(host.alloc, targets.len(), answerers)?);
     let (worked, printed) = thread::join_mut(
         host.rt,
         &mut || work_all(&shop, jobs.take()),
@@ -186,11 +200,43 @@ where
     }
 }
 
-fn jobs_of(alloc: Global, sources: usize) -> Result<Vec<Job>, AllocError> {
+// Where what the watch knows is told, if it is. The line that says so is the first that is printed.
+fn server_of<T: Wait + Clock + Net<Listener = TcpListener, Stream = TcpStream> + RandomSource>(
+    host: &Host<'_, T>,
+    words: &Words<'_>,
+    committee: &CommitteeView<'_>,
+    targets: &[Target<'_>],
+    queue: &Queue,
+) -> Result<Option<Server>, Fault<'static>> {
+    let Some(address) = words.listen else {
+        return Ok(None);
+    };
+    let seen = first_snapshot(host.rt, host.alloc, committee, words, targets)?;
+    match listen(host, address, seen, queue) {
+        Ok(server) => Ok(Some(server)),
+        Err(error) => Err(Fault::unless_memory(&error, Fault::Own(WatchFault::Listen))),
+    }
+}
+
+fn listen<T: Wait + Net<Listener = TcpListener, Stream = TcpStream> + RandomSource>(
+    host: &Host<'_, T>,
+    address: &str,
+    seen: Snapshot,
+    queue: &Queue,
+) -> io::Result<Server> {
+    let server = Server::listen(host.rt, address, seen)?;
+    queue.say(host.rt, server.line(host.alloc)?);
+    Ok(server)
+}
+
+fn jobs_of(alloc: Global, sources: usize, answerers: usize) -> Result<Vec<Job>, AllocError> {
     let mut jobs = Vec::new(alloc);
     jobs.push(Job::Collect)?;
     for source in 0..sources {
         jobs.push(Job::Follow(source))?;
+    }
+    for _ in 0..answerers {
+        jobs.push(Job::Answer)?;
     }
     Ok(jobs)
 }
@@ -214,6 +260,7 @@ fn work_all<
         + Wait
         + Clock
         + Net<Listener = TcpListener, Stream = TcpStream>
+        + RandomSource
         + Sync,
 >(shop: &Shop<'_, '_, '_, T>, jobs: Option<Vec<Job>>) -> Result<bool, Fault<'static>>
 where
@@ -242,6 +289,7 @@ fn work<
         + Wait
         + Clock
         + Net<Listener = TcpListener, Stream = TcpStream>
+        + RandomSource
         + Sync,
 >(shop: &Shop<'_, '_, '_, T>, job: Job) -> Result<bool, Fault<'static>> {
     if !shop.begin() {
@@ -252,6 +300,12 @@ fn work<
             let outcome = collect(shop);
             shop.end();
             outcome
+        }
+        Job::Answer => {
+            if let Some(server) = shop.server {
+                answer_all(shop, server);
+            }
+            Ok(false)
         }
         Job::Follow(source) => match follow(shop, source) {
             Ok(()) => Ok(false),

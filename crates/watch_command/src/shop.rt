@@ -1,11 +1,15 @@
 //! What the threads of a watch share.
 
+ghost use Rattle.std.specs.Prelude.{◌≤◌};
+
 use crate::queue::Queue;
+use crate::serving::{ANSWERERS, Server};
 use crate::words::Words;
 use blocks::CommitteeView;
+use source_reading::FrameDigest;
 use std::alloc::{AllocError, Global};
 use std::net::SocketAddr;
-use std::sync::atomic::{AtomicBool, AtomicU32, Ordering};
+use std::sync::atomic::{AtomicBool, AtomicU32, AtomicU64, Ordering};
 use std::sync::{Condvar, Mutex, Wait};
 use std::thread;
 use std::time::{Clock, Duration};
@@ -22,8 +26,8 @@ const TICK_MILLISECONDS: u64 = 250;
 /// What the thread of a source tells.
 #[derive(Drop)]
 pub(crate) enum Told<'c> {
-    /// More came of this log of the source, or how it ends changed.
-    Part(usize, Part<'c>),
+    /// More came of this log of the source, or how it ends changed. With what the frames of its first log digest to.
+    Part(usize, Part<'c>, FrameDigest),
     /// Its log went back.
     WentBack,
     /// It gave one log too many.
@@ -37,6 +41,16 @@ pub(crate) struct Delivery<'c> {
     pub told: Told<'c>,
 }
 
+/// How many threads answer over HTTP.
+pub(crate) fn answerers_of(server: Option<&Server>) -> usize
+    ensures { result ≤ 8 }
+{
+    match server {
+        Some(_) => ANSWERERS,
+        None => 0,
+    }
+}
+
 /// Where a source's log comes from.
 #[derive(Drop)]
 pub(crate) enum Place<'a> {
@@ -47,8 +61,14 @@ pub(crate) enum Place<'a> {
 /// A source of a watch.
 #[derive(Drop)]
 pub(crate) struct Target<'a> {
+    /// The word that names it.
+    pub word: &'a str,
     pub replica: u16,
     pub place: Place<'a>,
+    /// When it last answered, in seconds since 1970, or 0.
+    pub answered: AtomicU64,
+    /// When a frame last came of it.
+    pub framed: AtomicU64,
     /// No more of it is read.
     pub aside: AtomicBool,
 }
@@ -98,6 +118,8 @@ pub(crate) struct Shop<'a, 'w, 'c, T> {
     pub targets: &'a [Target<'w>],
     pub queue: &'a Queue,
     pub input_ended: &'a AtomicBool,
+    /// Where what the watch knows is told, if it is.
+    pub server: Option<&'a Server>,
     counter: Mutex<Counter<'c>>,
     came: Condvar,
     taken: Condvar,
@@ -118,6 +140,7 @@ impl<'a, 'w, 'c, T: Wait + Clock> Shop<'a, 'w, 'c, T> {
         targets: &'a [Target<'w>],
         queue: &'a Queue,
         input_ended: &'a AtomicBool,
+        server: Option<&'a Server>,
     ) -> Result<Shop<'a, 'w, 'c, T>, AllocError> {
         let mut places = Vec::new(alloc);
         for _ in 0..targets.len() {
@@ -125,7 +148,8 @@ impl<'a, 'w, 'c, T: Wait + Clock> Shop<'a, 'w, 'c, T> {
         }
         let wanted = u32::try_from(targets.len())
             .unwrap_or(u32::MAX)
-            .saturating_add(1);
+            .saturating_add(1)
+            .saturating_add(answerers_of(server) as u32);
         Ok(Shop {
             rt,
             alloc,
@@ -134,6 +158,7 @@ impl<'a, 'w, 'c, T: Wait + Clock> Shop<'a, 'w, 'c, T> {
             targets,
             queue,
             input_ended,
+            server,
             counter: Mutex::new(Counter { places }),
             came: Condvar::new(),
             taken: Condvar::new(),
@@ -151,6 +176,9 @@ impl<'a, 'w, 'c, T: Wait + Clock> Shop<'a, 'w, 'c, T> {
     /// All threads are to end.
     pub fn end(&self) {
         self.ending.store(true, Ordering::SeqCst);
+        if let Some(server) = self.server {
+            server.close();
+        }
         self.came.notify_all();
         self.taken.notify_all();
     }

@@ -128,6 +128,15 @@ impl<'a, F: Files<File = File>> VerdictFolder<'_, 'a, F> {
         }
     }
 
+    /// The bytes of a verdict that is kept at this path, or none where it can't be read.
+    pub fn bytes_of(&self, path: &str) -> Result<Vec<u8>, AllocError> {
+        match read_file(self.files, self.alloc, path, MOST_OF_A_SHORT_FILE) {
+            Ok(bytes) => Ok(bytes),
+            Err(InputFault::Memory) => Err(AllocError),
+            Err(InputFault::Unreadable) => Ok(Vec::new(self.alloc)),
+        }
+    }
+
     fn remove_unfinished(&self, path: &str) -> Result<(), AllocError> {
         let beside = format!(in self.alloc; "{path}.new")?;
         if let Ok(found) = fs::symlink_metadata(self.files, &beside)

@@ -29,12 +29,18 @@ pub(crate) struct Words<'a> {
     pub committee: &'a str,
     pub folder: &'a str,
     pub sources: Vec<SourceWord<'a>>,
+    /// The words of the sources, as they were given.
+    pub source_words: Vec<&'a str>,
     /// How many milliseconds lie between two rounds of a source.
     pub every: u32,
     /// After how many seconds all of a log is read anew.
     pub reread: u64,
     pub until_culprit: bool,
     pub until_input_ends: bool,
+    /// Where what the watch knows is told over HTTP, if it is.
+    pub listen: Option<&'a str>,
+    /// The names that a `Host` may have there, besides `localhost` and addresses.
+    pub hosts: Vec<String>,
 }
 
 /// Reads the words, without the program's name. Refused as usage where they are not written as docs/hs_watch.md says, and else
@@ -69,9 +75,14 @@ fn with_places<'a>(alloc: Global, grammar: Grammar<'a>) -> Result<Grammar<'a>, A
 }
 
 fn with_switches<'a>(alloc: Global, grammar: Grammar<'a>) -> Result<Grammar<'a>, AllocError> {
+    let host = Arg::new(alloc, "HOST")
+        .long("host")
+        .action(ArgAction::Append);
     grammar
         .arg(Arg::new(alloc, "SECONDS").long("every"))?
         .arg(Arg::new(alloc, "REREAD").long("reread"))?
+        .arg(Arg::new(alloc, "ADDRESS").long("listen"))?
+        .arg(host)?
         .arg(switch(alloc, "until-culprit"))?
         .arg(switch(alloc, "until-input-ends"))
 }
@@ -99,15 +110,43 @@ fn given<'a>(alloc: Global, matches: &ArgMatches<'a>) -> Result<Words<'a>, Fault
     {
         return Err(ProgramFault::Usage);
     }
-    Ok(Words {
+    let words = Words {
         committee,
         folder,
         sources: sources_in(alloc, sources)?,
+        source_words: sources.to_vec(alloc)?,
         every,
         reread,
         until_culprit: is_set(matches, "until-culprit"),
         until_input_ends: is_set(matches, "until-input-ends"),
-    })
+        listen: matches.get_str("ADDRESS"),
+        hosts: hosts_in(alloc, matches)?,
+    };
+    judged(words)
+}
+
+// The place for HTTP is not empty, and where there is none no host is named.
+fn judged<'a>(words: Words<'a>) -> Result<Words<'a>, Fault<'a>>
+    ensures refused { IfErr result (λ fault. fault ≢ ProgramFault.Output) }
+{
+    if words.listen == Some("") || (words.listen.is_none() && !words.hosts.is_empty()) {
+        return Err(ProgramFault::Usage);
+    }
+    Ok(words)
+}
+
+// The names, in lower case, as the names in requests are compared.
+fn hosts_in<'a>(alloc: Global, matches: &ArgMatches<'a>) -> Result<Vec<String>, Fault<'a>>
+    ensures refused { IfErr result (λ fault. fault ≢ ProgramFault.Output) }
+{
+    let mut hosts = Vec::new(alloc);
+    for name in matches.get_strs("HOST").unwrap_or(&[]) {
+        if name.is_empty() {
+            return Err(ProgramFault::Usage);
+        }
+        hosts.push(name.to_ascii_lowercase(alloc)?)?;
+    }
+    Ok(hosts)
 }
 
 fn is_set(matches: &ArgMatches<'_>, name: &str) -> bool {

@@ -1,0 +1,98 @@
+-- The page of a watch.
+use Rattle.std.specs.Prelude.{◌≡◌, ◌<◌, ◌++◌, ◌==◌, ℕ, Bool, true, false, List, Option, codes, decimal, length, if◌then◌else◌}
+use Rattle.std.specs.List.{flat_map}
+use Rattle.hex.specs.Hex.{encode_lower}
+use Rattle.watch_lines.specs.Times.{IsUtcText}
+use Rattle.watch_snapshot.specs.Standings.{answering_of, standing_of}
+use Rattle.watch_snapshot.specs.Times.{is_late}
+use Rattle.blocks.specs.declared.ballot.Ballot.{Ballot}
+use Rattle.watch_snapshot.specs.declared.snapshot.Culprit.{Culprit}
+use Rattle.watch_snapshot.specs.declared.snapshot.Fork.{Fork}
+use Rattle.watch_snapshot.specs.declared.snapshot.Snapshot.{Snapshot}
+use Rattle.watch_snapshot.specs.declared.source.SourceSeen.{SourceSeen}
+use Rattle.watch_snapshot.specs.declared.snapshot.Standing.{Standing}
+use Rattle.watch_page.specs.Rows.{source_row, commit_row, conflict_text, culprit_row}
+use Rattle.watch_page.specs.Words.{advice_text, class_text, icon_text, level_of, share_text, state_text}
+use Rattle.watch_page.specs.declared.words.Level.{Level}
+
+-- ---- the head
+
+-- it reloads, or never does
+unfoldable pub reload_text : (is_still : Bool) → List ℕ
+reload_text true = codes ""
+reload_text false = codes "<meta http-equiv=\"refresh\" content=\"10; url=/\">\n"
+
+-- colours for light and for dark, and a banner that a page shows by itself 40 seconds after it was loaded
+unfoldable pub style_text : List ℕ
+style_text = codes "body{font-family:Arial,Helvetica,sans-serif;margin:1rem auto;max-width:70rem;padding:0 1rem;color:#1a1a1a;background:#fff}h1{padding:.6rem .8rem;border:3px solid;font-size:1.4rem}.alarm h1{color:#b00020;background:#fde3e3}.warning h1{color:#7a4a00;background:#fff3d6}.fine h1{color:#115c2d;background:#e2f4e8}.banner{padding:.5rem .8rem;border:2px dashed #b00020;color:#b00020;font-weight:bold}.later{visibility:hidden;animation:later 0s 40s forwards}@keyframes later{to{visibility:visible}}.wide{overflow-x:auto}table{border-collapse:collapse}th,td{border:1px solid #888;padding:.25rem .5rem;text-align:left}code{overflow-wrap:anywhere}@media(prefers-color-scheme:dark){body{color:#eee;background:#16181c}a{color:#8ab4f8}.alarm h1{color:#ff9aa6;background:#3d1218}.warning h1{color:#ffcf70;background:#382a0c}.fine h1{color:#8fe0ab;background:#10301c}.banner{color:#ff9aa6;border-color:#ff9aa6}}"
+
+unfoldable pub title_text : Standing → (k m : ℕ) → (is_still : Bool) → List ℕ
+title_text standing k m is_still =
+    codes "<!DOCTYPE html>\n<html lang=\"en\">\n<head>\n<meta charset=\"utf-8\">\n<meta name=\"viewport\" content=\"width=device-width, initial-scale=1\">\n"
+    ++ reload_text is_still ++ codes "<title>" ++ state_text standing k m
+
+unfoldable pub looks_text : Level → List ℕ
+looks_text level =
+    codes "</title>\n<link rel=\"icon\" href=\"data:image/svg+xml,%3Csvg xmlns='http://www.w3.org/2000/svg' viewBox='0 0 8 8'%3E" ++ icon_text level
+    ++ codes "%3C/svg%3E\">\n<style>" ++ style_text ++ codes "</style>\n</head>\n<body class=\"" ++ class_text level ++ codes "\">\n"
+
+-- ---- the body
+
+-- a round that is too old is said at once; of a page that is kept it is said by its style
+unfoldable pub banner_text : (is_old : Bool) → List ℕ
+banner_text true = codes "<p class=\"banner\">This watch has had no round for too long: what stands here is old.</p>\n"
+banner_text false = codes "<p class=\"banner later\">This page is old: load it again.</p>\n"
+
+unfoldable pub links_text : (is_still : Bool) → List ℕ
+links_text true = codes "<p>This page stays as it is. <a href=\"/\">One that reloads every 10 seconds</a></p>\n"
+links_text false = codes "<p>This page reloads every 10 seconds. <a href=\"/?still\">One that stays</a></p>\n"
+
+unfoldable pub found_text : List Culprit → List ℕ
+found_text culprits = codes "<h2>Culprits</h2>\n<ul>\n" ++ flat_map culprit_row culprits ++ codes "</ul>\n"
+
+-- it never says less than this
+unfoldable pub none_text : (k m : ℕ) → (time : List ℕ) → List ℕ
+none_text k m time =
+    codes "<h2>Culprits</h2>\n<p>None was found in what " ++ share_text k m ++ codes " sources gave to this watcher until " ++ time ++ codes ".</p>\n"
+
+unfoldable pub culprits_text : Snapshot → (k m : ℕ) → (time : List ℕ) → List ℕ
+culprits_text s k m time = if length s.culprits.items == 0 then none_text k m time else found_text s.culprits.items
+
+unfoldable pub first_text : Standing → (k m : ℕ) → (time : List ℕ) → (round : ℕ) → List ℕ
+first_text standing k m time round =
+    codes "<h1>" ++ state_text standing k m ++ codes "</h1>\n<p>" ++ advice_text standing ++ codes "</p>\n<p>Round " ++ decimal round ++ codes ", " ++ time
+    ++ codes "; " ++ share_text k m ++ codes " sources answer.</p>\n"
+
+unfoldable pub sources_text : (every second : ℕ) → List SourceSeen → List ℕ
+sources_text every second sources =
+    codes "<h2>Sources</h2>\n<div class=\"wide\"><table>\n<tr><th>Source</th><th>Replica</th><th></th><th>Log</th><th>Entries</th><th>Last answer</th><th>Last frame</th></tr>\n"
+    ++ flat_map (source_row every second) sources ++ codes "</table></div>\n"
+
+unfoldable pub commits_text : (count : ℕ) → List Ballot → Option Fork → List ℕ
+commits_text count commits conflict =
+    codes "<h2>Commits</h2>\n" ++ conflict_text conflict ++ codes "<p>Proved commits: " ++ decimal count ++ codes ". The last of them:</p>\n<ul>\n"
+    ++ flat_map commit_row commits ++ codes "</ul>\n"
+
+unfoldable pub foot_text : (chain : List ℕ) → List ℕ
+foot_text chain =
+    codes "<p>Chain <code>" ++ encode_lower chain ++ codes "</code></p>\n<p>A verdict is checked with hs_check or check.html, of a copy of this project that its reader trusts: this watcher is the accuser, and hands out no judge.</p>\n</body>\n</html>\n"
+
+-- ---- the whole
+
+unfoldable pub body_text : Snapshot → (second : ℕ) → (is_still : Bool) → (time : List ℕ) → List ℕ
+body_text s second is_still time =
+    culprits_text s (answering_of s second) (length s.sources.items) time ++ commits_text s.commit_count s.commits.items s.conflict
+    ++ sources_text s.every second s.sources.items ++ links_text is_still ++ foot_text s.chain
+
+unfoldable pub front_text : Snapshot → (second : ℕ) → (is_still : Bool) → (time : List ℕ) → List ℕ
+front_text s second is_still time =
+    title_text (standing_of s second) (answering_of s second) (length s.sources.items) is_still ++ looks_text (level_of (standing_of s second))
+    ++ banner_text (is_late s.stamped s.every second) ++ first_text (standing_of s second) (answering_of s second) (length s.sources.items) time s.round
+
+abbrev pub page_text : Snapshot → (second : ℕ) → (is_still : Bool) → (time : List ℕ) → List ℕ
+page_text s second is_still time = front_text s second is_still time ++ body_text s second is_still time
+
+-- the page, with the time of the last round in UTC
+abbrev pub IsPage : Snapshot → (second : ℕ) → (is_still : Bool) → List ℕ → Type 0
+IsPage s second is_still text =
+    (time : List ℕ) × (s.stamped < 253402300800 → IsUtcText s.stamped time) × (text ≡ page_text s second is_still time)

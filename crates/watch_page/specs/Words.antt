@@ -1,0 +1,55 @@
+-- What the page of a watch says first. The words say all that colours do.
+use Rattle.std.specs.Prelude.{◌++◌, ℕ, List, codes, decimal}
+use Rattle.watch_page.specs.declared.words.Level.{Level}
+use Rattle.watch_page.specs.declared.words.Level.TheVariants.{Alarm, Warning, Fine}
+use Rattle.watch_snapshot.specs.declared.snapshot.Standing.{Standing}
+use Rattle.watch_snapshot.specs.declared.snapshot.Standing.TheVariants.{Conflict, Culprits, WentBack, SetAside, NotStored, NothingRead, SomeAnswer, AllAnswer}
+
+-- so many of so many
+unfoldable pub share_text : (k m : ℕ) → List ℕ
+share_text k m = decimal k ++ codes " of " ++ decimal m
+
+-- the state in a line, of which the page is titled
+unfoldable pub state_text : Standing → (k m : ℕ) → List ℕ
+state_text Conflict k m = codes "Conflict: two commits disagree"
+state_text Culprits k m = codes "Culprits were found"
+state_text WentBack k m = codes "A log went back"
+state_text SetAside k m = codes "A source was set aside"
+state_text NotStored k m = codes "A verdict is not stored"
+state_text NothingRead k m = codes "No source answers"
+state_text SomeAnswer k m = share_text k m ++ codes " sources answer"
+state_text AllAnswer k m = codes "All sources answer"
+
+-- how bad it is
+unfoldable pub level_of : Standing → Level
+level_of Conflict = Alarm
+level_of Culprits = Alarm
+level_of WentBack = Alarm
+level_of SetAside = Warning
+level_of NotStored = Warning
+level_of NothingRead = Warning
+level_of SomeAnswer = Warning
+level_of AllAnswer = Fine
+
+-- the class of the page's colours
+unfoldable pub class_text : Level → List ℕ
+class_text Alarm = codes "alarm"
+class_text Warning = codes "warning"
+class_text Fine = codes "fine"
+
+-- the icon: a red square, an amber triangle, a green disc
+unfoldable pub icon_text : Level → List ℕ
+icon_text Alarm = codes "%3Crect width='8' height='8' fill='%23b00020'/%3E"
+icon_text Warning = codes "%3Cpath d='M4 0L8 8H0Z' fill='%23b26a00'/%3E"
+icon_text Fine = codes "%3Ccircle cx='4' cy='4' r='4' fill='%23187a3c'/%3E"
+
+-- what to do
+unfoldable pub advice_text : Standing → List ℕ
+advice_text Conflict = codes "Two blocks are committed of which neither is the other's ancestor. Stop what rests on this ledger, keep the logs, and send the verdicts to the other operators."
+advice_text Culprits = codes "Each verdict below shows by two signed votes that its replica broke a voting rule. Send it to the other operators, who check it with hs_check or check.html of their own copy of this project."
+advice_text WentBack = codes "A replica runs on an older copy of its log, and may vote twice without knowing it. Ask its operator to stop it."
+advice_text SetAside = codes "64 votes of a source were not good: it is another committee's log, another replica's, or a liar's. Compare the word of the source with the committee's file."
+advice_text NotStored = codes "The disk of this watch is full, or a file stands where a verdict is to be. The verdicts below can be fetched from this page."
+advice_text NothingRead = codes "No replica hands out its log to this watch. See whether this machine has a network, and whether the servers of the logs run."
+advice_text SomeAnswer = codes "Ask the operators of the sources that do not answer. What they hide from this watch, it cannot see."
+advice_text AllAnswer = codes "Each source answers this watch. With the file of another committee it would find nothing: compare the chain id below."

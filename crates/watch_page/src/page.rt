@@ -1,0 +1,290 @@
+//! The page of a watch.
+
+ghost use Rattle.std.specs.Prelude.{◌≡◌, ◌++◌, IfOk, OnOk};
+ghost use Rattle.watch_page.specs.Pages.{IsPage, banner_text, body_text, commits_text, culprits_text, first_text, foot_text, found_text, front_text, links_text, looks_text, none_text, page_text, reload_text, sources_text, style_text, title_text};
+
+use crate::rows::{put_commits, put_conflict, put_culprits, put_sources};
+use crate::words::{Level, level_of, put_advice, put_class, put_icon, put_share, put_state};
+use blocks::{Ballot, Id};
+use printed_lines::{put_id, put_number};
+use std::alloc::{AllocError, Global};
+use watch_lines::utc_text;
+use watch_snapshot::{Culprit, Fork, Snapshot, SourceSeen, Standing, is_late};
+use wire::append;
+
+// ---- the head
+
+#[tactic(auto, unfolding(crate::specs::Pages::reload_text))]
+fn put_reload(text: &mut Vec<u8>, is_still: bool) -> Result<(), AllocError>
+    ensures { OnOk result (text.new.items ≡ text.old.items ++ reload_text is_still) }
+{
+    if is_still {
+        return append(text, b"");
+    }
+    append(
+        text,
+        b"<meta http-equiv=\"refresh\" content=\"10; url=/\">\n",
+    )
+}
+
+#[tactic(auto, unfolding(crate::specs::Pages::style_text))]
+fn put_style(text: &mut Vec<u8>) -> Result<(), AllocError>
+    ensures { OnOk result (text.new.items ≡ text.old.items ++ style_text) }
+{
+    append(
+        text,
+        b"body{font-family:Arial,Helvetica,sans-serif;margin:1rem auto;max-width:70rem;padding:0 1rem;color:#1a1a1a;background:#fff}h1{padding:.6rem .8rem;border:3px solid;font-size:1.4rem}.alarm h1{color:#b00020;background:#fde3e3}.warning h1{color:#7a4a00;background:#fff3d6}.fine h1{color:#115c2d;background:#e2f4e8}.banner{padding:.5rem .8rem;border:2px dashed #b00020;color:#b00020;font-weight:bold}.later{visibility:hidden;animation:later 0s 40s forwards}@keyframes later{to{visibility:visible}}.wide{overflow-x:auto}table{border-collapse:collapse}th,td{border:1px solid #888;padding:.25rem .5rem;text-align:left}code{overflow-wrap:anywhere}@media(prefers-color-scheme:dark){body{color:#eee;background:#16181c}a{color:#8ab4f8}.alarm h1{color:#ff9aa6;background:#3d1218}.warning h1{color:#ffcf70;background:#382a0c}.fine h1{color:#8fe0ab;background:#10301c}.banner{color:#ff9aa6;border-color:#ff9aa6}}",
+    )
+}
+
+fn put_title(
+    text: &mut Vec<u8>,
+    standing: Standing,
+    k: usize,
+    m: usize,
+    is_still: bool,
+) -> Result<(), AllocError>
+    ensures { OnOk result (text.new.items
+        ≡ text.old.items ++ title_text standing k m is_still) }
+{
+    append(
+        text,
+        b"<!DOCTYPE html>\n<html lang=\"en\">\n<head>\n<meta charset=\"utf-8\">\n<meta name=\"viewport\" content=\"width=device-width, initial-scale=1\">\n",
+    )?;
+    put_reload(text, is_still)?;
+    append(text, b"<title>")?;
+    put_state(text, standing, k, m)?;
+    Ok(())
+}
+
+fn put_looks(text: &mut Vec<u8>, level: Level) -> Result<(), AllocError>
+    ensures { OnOk result (text.new.items ≡ text.old.items ++ looks_text level) }
+{
+    append(
+        text,
+        b"</title>\n<link rel=\"icon\" href=\"data:image/svg+xml,%3Csvg xmlns='http://www.w3.org/2000/svg' viewBox='0 0 8 8'%3E",
+    )?;
+    put_icon(text, level)?;
+    append(text, b"%3C/svg%3E\">\n<style>")?;
+    put_style(text)?;
+    append(text, b"</style>\n</head>\n<body class=\"")?;
+    put_class(text, level)?;
+    append(text, b"\">\n")?;
+    Ok(())
+}
+
+// ---- the body
+
+#[tactic(auto, unfolding(crate::specs::Pages::banner_text))]
+fn put_banner(text: &mut Vec<u8>, is_old: bool) -> Result<(), AllocError>
+    ensures { OnOk result (text.new.items ≡ text.old.items ++ banner_text is_old) }
+{
+    if is_old {
+        return append(
+            text,
+            b"<p class=\"banner\">This watch has had no round for too long: what stands here is old.</p>\n",
+        );
+    }
+    append(
+        text,
+        b"<p class=\"banner later\">This page is old: load it again.</p>\n",
+    )
+}
+
+#[tactic(auto, unfolding(crate::specs::Pages::links_text))]
+fn put_links(text: &mut Vec<u8>, is_still: bool) -> Result<(), AllocError>
+    ensures { OnOk result (text.new.items ≡ text.old.items ++ links_text is_still) }
+{
+    if is_still {
+        return append(
+            text,
+            b"<p>This page stays as it is. <a href=\"/\">One that reloads every 10 seconds</a></p>\n",
+        );
+    }
+    append(
+        text,
+        b"<p>This page reloads every 10 seconds. <a href=\"/?still\">One that stays</a></p>\n",
+    )
+}
+
+fn put_found(text: &mut Vec<u8>, culprits: &[Culprit]) -> Result<(), AllocError>
+    ensures { OnOk result (text.new.items ≡ text.old.items ++ found_text culprits.now) }
+{
+    append(text, b"<h2>Culprits</h2>\n<ul>\n")?;
+    put_culprits(text, culprits)?;
+    append(text, b"</ul>\n")?;
+    Ok(())
+}
+
+fn put_none(text: &mut Vec<u8>, k: usize, m: usize, time: &[u8]) -> Result<(), AllocError>
+    ensures { OnOk result (text.new.items ≡ text.old.items ++ none_text k m time.now) }
+{
+    append(text, b"<h2>Culprits</h2>\n<p>None was found in what ")?;
+    put_share(text, k, m)?;
+    append(text, b" sources gave to this watcher until ")?;
+    append(text, time)?;
+    append(text, b".</p>\n")?;
+    Ok(())
+}
+
+#[tactic(auto, unfolding(crate::specs::Pages::culprits_text))]
+fn put_all_culprits(
+    text: &mut Vec<u8>,
+    seen: &Snapshot,
+    k: usize,
+    m: usize,
+    time: &[u8],
+) -> Result<(), AllocError>
+    ensures { OnOk result (text.new.items
+        ≡ text.old.items ++ culprits_text seen.now k m time.now) }
+{
+    if seen.culprits.len() == 0 {
+        return put_none(text, k, m, time);
+    }
+    put_found(text, &seen.culprits)
+}
+
+fn put_first(
+    text: &mut Vec<u8>,
+    standing: Standing,
+    k: usize,
+    m: usize,
+    time: &[u8],
+    round: u64,
+) -> Result<(), AllocError>
+    ensures { OnOk result (text.new.items
+        ≡ text.old.items ++ first_text standing k m time.now round) }
+{
+    append(text, b"<h1>")?;
+    put_state(text, standing, k, m)?;
+    append(text, b"</h1>\n<p>")?;
+    put_advice(text, standing)?;
+    append(text, b"</p>\n<p>Round ")?;
+    put_number(text, round)?;
+    append(text, b", ")?;
+    append(text, time)?;
+    append(text, b"; ")?;
+    put_share(text, k, m)?;
+    append(text, b" sources answer.</p>\n")?;
+    Ok(())
+}
+
+fn put_all_sources(
+    text: &mut Vec<u8>,
+    every: u32,
+    second: u64,
+    sources: &[SourceSeen],
+) -> Result<(), AllocError>
+    ensures { OnOk result (text.new.items
+        ≡ text.old.items ++ sources_text every second sources.now) }
+{
+    append(
+        text,
+        b"<h2>Sources</h2>\n<div class=\"wide\"><table>\n<tr><th>Source</th><th>Replica</th><th></th><th>Log</th><th>Entries</th><th>Last answer</th><th>Last frame</th></tr>\n",
+    )?;
+    put_sources(text, every, second, sources)?;
+    append(text, b"</table></div>\n")?;
+    Ok(())
+}
+
+fn put_all_commits(
+    text: &mut Vec<u8>,
+    count: u64,
+    commits: &[Ballot],
+    conflict: &Option<Fork>,
+) -> Result<(), AllocError>
+    ensures { OnOk result (text.new.items
+        ≡ text.old.items ++ commits_text count commits.now conflict.now) }
+{
+    append(text, b"<h2>Commits</h2>\n")?;
+    put_conflict(text, conflict)?;
+    append(text, b"<p>Proved commits: ")?;
+    put_number(text, count)?;
+    append(text, b". The last of them:</p>\n<ul>\n")?;
+    put_commits(text, commits)?;
+    append(text, b"</ul>\n")?;
+    Ok(())
+}
+
+fn put_foot(text: &mut Vec<u8>, chain: &Id) -> Result<(), AllocError>
+    ensures { OnOk result (text.new.items ≡ text.old.items ++ foot_text chain.now) }
+{
+    append(text, b"<p>Chain <code>")?;
+    put_id(text, chain)?;
+    append(
+        text,
+        b"</code></p>\n<p>A verdict is checked with hs_check or check.html, of a copy of this project that its reader trusts: this watcher is the accuser, and hands out no judge.</p>\n</body>\n</html>\n",
+    )?;
+    Ok(())
+}
+
+// ---- the whole
+
+#[tactic(auto, unfolding(crate::specs::Pages::front_text))]
+fn put_front(
+    text: &mut Vec<u8>,
+    seen: &Snapshot,
+    second: u64,
+    is_still: bool,
+    time: &[u8],
+) -> Result<(), AllocError>
+    ensures { OnOk result (text.new.items
+        ≡ text.old.items ++ front_text seen.now second is_still time.now) }
+{
+    let k = seen.answering(second);
+    let m = seen.sources.len();
+    let standing = seen.standing(second);
+    put_title(text, standing, k, m, is_still)?;
+    put_looks(text, level_of(standing))?;
+    put_banner(text, is_late(seen.stamped, seen.every, second))?;
+    put_first(text, standing, k, m, time, seen.round)
+}
+
+#[tactic(auto, unfolding(crate::specs::Pages::body_text))]
+fn put_body(
+    text: &mut Vec<u8>,
+    seen: &Snapshot,
+    second: u64,
+    is_still: bool,
+    time: &[u8],
+) -> Result<(), AllocError>
+    ensures { OnOk result (text.new.items
+        ≡ text.old.items ++ body_text seen.now second is_still time.now) }
+{
+    let k = seen.answering(second);
+    put_all_culprits(text, seen, k, seen.sources.len(), time)?;
+    put_all_commits(text, seen.commit_count, &seen.commits, &seen.conflict)?;
+    put_all_sources(text, seen.every, second, &seen.sources)?;
+    put_links(text, is_still)?;
+    put_foot(text, &seen.chain)
+}
+
+// .. with this time of its last round.
+fn page_at(
+    alloc: Global,
+    seen: &Snapshot,
+    second: u64,
+    is_still: bool,
+    time: &[u8],
+) -> Result<Vec<u8>, AllocError>
+    ensures { IfOk result (λ text. text.items ≡ page_text seen.now second is_still time.now) }
+{
+    let mut text = Vec::new(alloc);
+    put_front(&mut text, seen, second, is_still, time)?;
+    put_body(&mut text, seen, second, is_still, time)?;
+    Ok(text)
+}
+
+/// The page of what a watch knew, as it is at this second: one that reloads, or one that stays. It has no script.
+pub fn page_of(
+    alloc: Global,
+    seen: &Snapshot,
+    second: u64,
+    is_still: bool,
+) -> Result<Vec<u8>, AllocError>
+    ensures { IfOk result (λ text. IsPage seen.now second is_still text.items) }
+{
+    let time = utc_text(alloc, seen.stamped)?;
+    let text = page_at(alloc, seen, second, is_still, &time)?;
+    Ok(text)
+}

@@ -1,0 +1,124 @@
+//! What the page says first.
+
+ghost use Rattle.std.specs.Prelude.{◌≡◌, ◌++◌, OnOk};
+ghost use Rattle.watch_page.specs.Words.{advice_text, class_text, icon_text, level_of, share_text, state_text};
+
+use printed_lines::put_number;
+use std::alloc::AllocError;
+use watch_snapshot::Standing;
+use wire::append;
+
+/// How bad it is.
+#[derive(Clone, Copy, Debug, PartialEq, Eq)]
+pub enum Level {
+    Alarm,
+    Warning,
+    Fine,
+}
+
+#[tactic(auto, unfolding(crate::specs::Words::share_text))]
+pub(crate) fn put_share(text: &mut Vec<u8>, k: usize, m: usize) -> Result<(), AllocError>
+    ensures { OnOk result (text.new.items ≡ text.old.items ++ share_text k m) }
+{
+    put_number(text, k)?;
+    append(text, b" of ")?;
+    put_number(text, m)
+}
+
+#[tactic(auto, unfolding(crate::specs::Words::state_text))]
+pub(crate) fn put_state(
+    text: &mut Vec<u8>,
+    standing: Standing,
+    k: usize,
+    m: usize,
+) -> Result<(), AllocError>
+    ensures { OnOk result (text.new.items ≡ text.old.items ++ state_text standing k m) }
+{
+    match standing {
+        Standing::Conflict => append(text, b"Conflict: two commits disagree"),
+        Standing::Culprits => append(text, b"Culprits were found"),
+        Standing::WentBack => append(text, b"A log went back"),
+        Standing::SetAside => append(text, b"A source was set aside"),
+        Standing::NotStored => append(text, b"A verdict is not stored"),
+        Standing::NothingRead => append(text, b"No source answers"),
+        Standing::SomeAnswer => {
+            put_share(text, k, m)?;
+            append(text, b" sources answer")
+        }
+        Standing::AllAnswer => append(text, b"All sources answer"),
+    }
+}
+
+#[tactic(auto, unfolding(crate::specs::Words::level_of))]
+pub(crate) fn level_of(standing: Standing) -> Level
+    ensures { result ≡ level_of standing }
+{
+    match standing {
+        Standing::Conflict | Standing::Culprits | Standing::WentBack => Level::Alarm,
+        Standing::SetAside | Standing::NotStored | Standing::NothingRead | Standing::SomeAnswer =>
+            Level::Warning,
+        Standing::AllAnswer => Level::Fine,
+    }
+}
+
+#[tactic(auto, unfolding(crate::specs::Words::class_text))]
+pub(crate) fn put_class(text: &mut Vec<u8>, level: Level) -> Result<(), AllocError>
+    ensures { OnOk result (text.new.items ≡ text.old.items ++ class_text level) }
+{
+    match level {
+        Level::Alarm => append(text, b"alarm"),
+        Level::Warning => append(text, b"warning"),
+        Level::Fine => append(text, b"fine"),
+    }
+}
+
+#[tactic(auto, unfolding(crate::specs::Words::icon_text))]
+pub(crate) fn put_icon(text: &mut Vec<u8>, level: Level) -> Result<(), AllocError>
+    ensures { OnOk result (text.new.items ≡ text.old.items ++ icon_text level) }
+{
+    match level {
+        Level::Alarm => append(text, b"%3Crect width='8' height='8' fill='%23b00020'/%3E"),
+        Level::Warning => append(text, b"%3Cpath d='M4 0L8 8H0Z' fill='%23b26a00'/%3E"),
+        Level::Fine => append(text, b"%3Ccircle cx='4' cy='4' r='4' fill='%23187a3c'/%3E"),
+    }
+}
+
+#[tactic(auto, unfolding(crate::specs::Words::advice_text))]
+pub(crate) fn put_advice(text: &mut Vec<u8>, standing: Standing) -> Result<(), AllocError>
+    ensures { OnOk result (text.new.items ≡ text.old.items ++ advice_text standing) }
+{
+    match standing {
+        Standing::Conflict => append(
+            text,
+            b"Two blocks are committed of which neither is the other's ancestor. Stop what rests on this ledger, keep the logs, and send the verdicts to the other operators.",
+        ),
+        Standing::Culprits => append(
+            text,
+            b"Each verdict below shows by two signed votes that its replica broke a voting rule. Send it to the other operators, who check it with hs_check or check.html of their own copy of this project.",
+        ),
+        Standing::WentBack => append(
+            text,
+            b"A replica runs on an older copy of its log, and may vote twice without knowing it. Ask its operator to stop it.",
+        ),
+        Standing::SetAside => append(
+            text,
+            b"64 votes of a source were not good: it is another committee's log, another replica's, or a liar's. Compare the word of the source with the committee's file.",
+        ),
+        Standing::NotStored => append(
+            text,
+            b"The disk of this watch is full, or a file stands where a verdict is to be. The verdicts below can be fetched from this page.",
+        ),
+        Standing::NothingRead => append(
+            text,
+            b"No replica hands out its log to this watch. See whether this machine has a network, and whether the servers of the logs run.",
+        ),
+        Standing::SomeAnswer => append(
+            text,
+            b"Ask the operators of the sources that do not answer. What they hide from this watch, it cannot see.",
+        ),
+        Standing::AllAnswer => append(
+            text,
+            b"Each source answers this watch. With the file of another committee it would find nothing: compare the chain id below.",
+        ),
+    }
+}

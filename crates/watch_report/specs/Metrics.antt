@@ -1,0 +1,67 @@
+-- The metrics of a watch, as Prometheus reads them (text format 0.0.4). Each line ends with a line feed.
+use Rattle.std.specs.Prelude.{◌++◌, ℕ, Bool, true, false, List, codes, decimal, is_some, length, string_bytes}
+use Rattle.std.specs.List.{flat_map}
+use Rattle.escaped_text.specs.Escapes.{escaped}
+use Rattle.escaped_text.specs.declared.Inside.TheVariants.{Label}
+use Rattle.watch_snapshot.specs.declared.snapshot.Snapshot.{Snapshot}
+use Rattle.watch_snapshot.specs.declared.source.SourceSeen.{SourceSeen}
+use Rattle.watch_report.specs.declared.metrics.Family.{Family}
+use Rattle.watch_report.specs.declared.metrics.Family.TheVariants.{WentBack, SetAside, LastAnswer, LastFrame}
+
+unfoldable pub number_of : Bool → ℕ
+number_of true = 1
+number_of false = 0
+
+-- ---- of the whole
+
+unfoldable pub findings_text : (culprits conflict commits : ℕ) → List ℕ
+findings_text culprits conflict commits =
+    codes "# HELP hs_watch_culprits How many culprits there are.\n# TYPE hs_watch_culprits gauge\nhs_watch_culprits " ++ decimal culprits
+    ++ codes "\n# HELP hs_watch_conflict Whether commits conflict.\n# TYPE hs_watch_conflict gauge\nhs_watch_conflict " ++ decimal conflict
+    ++ codes "\n# HELP hs_watch_commits How many commits are proved.\n# TYPE hs_watch_commits gauge\nhs_watch_commits " ++ decimal commits ++ codes "\n"
+
+unfoldable pub rounds_text : (unstored stamped started : ℕ) → List ℕ
+rounds_text unstored stamped started =
+    codes "# HELP hs_watch_unstored Whether something could not be stored.\n# TYPE hs_watch_unstored gauge\nhs_watch_unstored " ++ decimal unstored
+    ++ codes "\n# HELP hs_watch_round_timestamp_seconds When the last round was.\n# TYPE hs_watch_round_timestamp_seconds gauge\nhs_watch_round_timestamp_seconds " ++ decimal stamped
+    ++ codes "\n# HELP process_start_time_seconds When the process began, in seconds since 1970.\n# TYPE process_start_time_seconds gauge\nprocess_start_time_seconds " ++ decimal started
+    ++ codes "\n# HELP hs_build_info The version of this program.\n# TYPE hs_build_info gauge\nhs_build_info{version=\"0.9.0\"} 1\n"
+
+-- ---- of each source
+
+abbrev pub front_of : Family → List ℕ
+front_of WentBack = codes "# HELP hs_watch_source_went_back_total How often a source's log went back.\n# TYPE hs_watch_source_went_back_total counter\n"
+front_of SetAside = codes "# HELP hs_watch_source_set_aside Whether no more of a source is read.\n# TYPE hs_watch_source_set_aside gauge\n"
+front_of LastAnswer = codes "# HELP hs_watch_source_last_answer_timestamp_seconds When a source last answered, or 0.\n# TYPE hs_watch_source_last_answer_timestamp_seconds gauge\n"
+front_of LastFrame = codes "# HELP hs_watch_source_last_frame_timestamp_seconds When a frame last came of a source, or 0.\n# TYPE hs_watch_source_last_frame_timestamp_seconds gauge\n"
+
+abbrev pub name_of : Family → List ℕ
+name_of WentBack = codes "hs_watch_source_went_back_total"
+name_of SetAside = codes "hs_watch_source_set_aside"
+name_of LastAnswer = codes "hs_watch_source_last_answer_timestamp_seconds"
+name_of LastFrame = codes "hs_watch_source_last_frame_timestamp_seconds"
+
+abbrev pub value_of : Family → SourceSeen → ℕ
+value_of WentBack s = s.times_back
+value_of SetAside s = number_of s.is_aside
+value_of LastAnswer s = s.last_answer
+value_of LastFrame s = s.last_frame
+
+-- its number, its replica and its word, which may have any characters
+unfoldable pub labels_of : SourceSeen → List ℕ
+labels_of s =
+    codes "{number=\"" ++ decimal s.number ++ codes "\",replica=\"" ++ decimal s.replica
+    ++ codes "\",source=\"" ++ escaped Label (string_bytes s.word) ++ codes "\"} "
+
+unfoldable pub sample : Family → SourceSeen → List ℕ
+sample family s = name_of family ++ labels_of s ++ decimal (value_of family s) ++ codes "\n"
+
+abbrev pub family_text : Family → List SourceSeen → List ℕ
+family_text family sources = front_of family ++ flat_map (sample family) sources
+
+-- ---- all
+
+unfoldable pub metrics_text : Snapshot → List ℕ
+metrics_text s =
+    findings_text (length s.culprits.items) (number_of (is_some s.conflict)) s.commit_count ++ rounds_text (number_of s.is_unstored) s.stamped s.started
+    ++ family_text WentBack s.sources.items ++ family_text SetAside s.sources.items ++ family_text LastAnswer s.sources.items ++ family_text LastFrame s.sources.items

@@ -1,0 +1,186 @@
+//! The metrics of a watch, as Prometheus reads them.
+
+ghost use Rattle.std.specs.Prelude.{◌≡◌, ◌++◌, IfOk, OnOk};
+ghost use Rattle.std.specs.List.{flat_map};
+ghost use Rattle.watch_report.specs.Metrics.{family_text, findings_text, front_of, labels_of, metrics_text, name_of, number_of, rounds_text, sample, value_of};
+
+use escaped_text::{Inside, put_escaped};
+use printed_lines::put_number;
+use std::alloc::{AllocError, Global};
+use watch_snapshot::{Snapshot, SourceSeen};
+use wire::append;
+
+/// What is told of each source.
+#[derive(Clone, Copy, Debug, PartialEq, Eq)]
+pub enum Family {
+    /// How often its log went back.
+    WentBack,
+    /// Whether no more of it is read.
+    SetAside,
+    /// When it last answered.
+    LastAnswer,
+    /// When a frame last came of it.
+    LastFrame,
+}
+
+impl Family {
+    fn front(self) -> &'static [u8]
+        ensures { result.now ≡ front_of self }
+    {
+        match self {
+            Family::WentBack =>
+                b"# HELP hs_watch_source_went_back_total How often a source's log went back.\n# TYPE hs_watch_source_went_back_total counter\n",
+            Family::SetAside =>
+                b"# HELP hs_watch_source_set_aside Whether no more of a source is read.\n# TYPE hs_watch_source_set_aside gauge\n",
+            Family::LastAnswer =>
+                b"# HELP hs_watch_source_last_answer_timestamp_seconds When a source last answered, or 0.\n# TYPE hs_watch_source_last_answer_timestamp_seconds gauge\n",
+            Family::LastFrame =>
+                b"# HELP hs_watch_source_last_frame_timestamp_seconds When a frame last came of a source, or 0.\n# TYPE hs_watch_source_last_frame_timestamp_seconds gauge\n",
+        }
+    }
+
+    fn name(self) -> &'static [u8]
+        ensures { result.now ≡ name_of self }
+    {
+        match self {
+            Family::WentBack => b"hs_watch_source_went_back_total",
+            Family::SetAside => b"hs_watch_source_set_aside",
+            Family::LastAnswer => b"hs_watch_source_last_answer_timestamp_seconds",
+            Family::LastFrame => b"hs_watch_source_last_frame_timestamp_seconds",
+        }
+    }
+
+    fn value(self, source: &SourceSeen) -> u64
+        ensures { result ≡ value_of self source.now }
+    {
+        match self {
+            Family::WentBack => source.times_back,
+            Family::SetAside => u64::from(number_of(source.is_aside)),
+            Family::LastAnswer => source.last_answer,
+            Family::LastFrame => source.last_frame,
+        }
+    }
+}
+
+#[tactic(auto, unfolding(crate::specs::Metrics::number_of))]
+fn number_of(is_so: bool) -> u8
+    ensures { result ≡ number_of is_so }
+{
+    if is_so { 1 } else { 0 }
+}
+
+fn put_findings(
+    text: &mut Vec<u8>,
+    culprits: usize,
+    conflict: u8,
+    commits: u64,
+) -> Result<(), AllocError>
+    ensures { OnOk result (text.new.items
+        ≡ text.old.items ++ findings_text culprits conflict commits) }
+{
+    append(
+        text,
+        b"# HELP hs_watch_culprits How many culprits there are.\n# TYPE hs_watch_culprits gauge\nhs_watch_culprits ",
+    )?;
+    put_number(text, culprits)?;
+    append(
+        text,
+        b"\n# HELP hs_watch_conflict Whether commits conflict.\n# TYPE hs_watch_conflict gauge\nhs_watch_conflict ",
+    )?;
+    put_number(text, conflict)?;
+    append(
+        text,
+        b"\n# HELP hs_watch_commits How many commits are proved.\n# TYPE hs_watch_commits gauge\nhs_watch_commits ",
+    )?;
+    put_number(text, commits)?;
+    append(text, b"\n")?;
+    Ok(())
+}
+
+fn put_rounds(
+    text: &mut Vec<u8>,
+    unstored: u8,
+    stamped: u64,
+    started: u64,
+) -> Result<(), AllocError>
+    ensures { OnOk result (text.new.items
+        ≡ text.old.items ++ rounds_text unstored stamped started) }
+{
+    append(
+        text,
+        b"# HELP hs_watch_unstored Whether something could not be stored.\n# TYPE hs_watch_unstored gauge\nhs_watch_unstored ",
+    )?;
+    put_number(text, unstored)?;
+    append(
+        text,
+        b"\n# HELP hs_watch_round_timestamp_seconds When the last round was.\n# TYPE hs_watch_round_timestamp_seconds gauge\nhs_watch_round_timestamp_seconds ",
+    )?;
+    put_number(text, stamped)?;
+    append(
+        text,
+        b"\n# HELP process_start_time_seconds When the process began, in seconds since 1970.\n# TYPE process_start_time_seconds gauge\nprocess_start_time_seconds ",
+    )?;
+    put_number(text, started)?;
+    append(
+        text,
+        b"\n# HELP hs_build_info The version of this program.\n# TYPE hs_build_info gauge\nhs_build_info{version=\"0.9.0\"} 1\n",
+    )?;
+    Ok(())
+}
+
+#[tactic(auto, unfolding(crate::specs::Metrics::labels_of))]
+fn put_labels(text: &mut Vec<u8>, source: &SourceSeen) -> Result<(), AllocError>
+    ensures { OnOk result (text.new.items ≡ text.old.items ++ labels_of source.now) }
+{
+    append(text, b"{number=\"")?;
+    put_number(text, source.number)?;
+    append(text, b"\",replica=\"")?;
+    put_number(text, source.replica)?;
+    append(text, b"\",source=\"")?;
+    put_escaped(text, Inside::Label, source.word.as_bytes())?;
+    append(text, b"\"} ")
+}
+
+#[tactic(auto, unfolding(crate::specs::Metrics::sample))]
+fn put_sample(text: &mut Vec<u8>, family: Family, source: &SourceSeen) -> Result<(), AllocError>
+    ensures { OnOk result (text.new.items ≡ text.old.items ++ sample family source.now) }
+{
+    append(text, family.name())?;
+    put_labels(text, source)?;
+    put_number(text, family.value(source))?;
+    append(text, b"\n")
+}
+
+fn put_samples(text: &mut Vec<u8>, family: Family, sources: &[SourceSeen]) -> Result<(), AllocError>
+    ensures { OnOk result (text.new.items
+        ≡ text.old.items ++ flat_map (sample family) sources.now) }
+{
+    for source in sources {
+        put_sample(text, family, source)?;
+    }
+    Ok(())
+}
+
+fn put_family(text: &mut Vec<u8>, family: Family, sources: &[SourceSeen]) -> Result<(), AllocError>
+    ensures { OnOk result (text.new.items ≡ text.old.items ++ family_text family sources.now) }
+{
+    append(text, family.front())?;
+    put_samples(text, family, sources)
+}
+
+/// The metrics of what a watch knew.
+#[tactic(auto, unfolding(crate::specs::Metrics::metrics_text))]
+pub fn metrics_of(alloc: Global, seen: &Snapshot) -> Result<Vec<u8>, AllocError>
+    ensures { IfOk result (λ text. text.items ≡ metrics_text seen.now) }
+{
+    let mut text = Vec::new(alloc);
+    let conflict = number_of(seen.conflict.is_some());
+    put_findings(&mut text, seen.culprits.len(), conflict, seen.commit_count)?;
+    let unstored = number_of(seen.is_unstored);
+    put_rounds(&mut text, unstored, seen.stamped, seen.started)?;
+    put_family(&mut text, Family::WentBack, &seen.sources)?;
+    put_family(&mut text, Family::SetAside, &seen.sources)?;
+    put_family(&mut text, Family::LastAnswer, &seen.sources)?;
+    put_family(&mut text, Family::LastFrame, &seen.sources)?;
+    Ok(text)
+}

@@ -1,0 +1,49 @@
+-- Responses: their fields, and what the short ones say.
+use Rattle.std.specs.Prelude.{◌++◌, ◌∷◌, [], ℕ, List, codes, if◌then◌else◌}
+use Rattle.http1.specs.Fields.{Header}
+use Rattle.http_server.specs.declared.response.Response.{Response}
+use Rattle.http_server.specs.Response.{IsResponse}
+use Rattle.watch_snapshot.specs.Times.{is_late}
+use Rattle.watch_snapshot.specs.declared.snapshot.Snapshot.{Snapshot}
+use Rattle.watch_service.specs.declared.writing.Kind.{Kind}
+use Rattle.watch_service.specs.declared.writing.Kind.TheVariants.{Text, Json, Metrics, Verdict, Html, Refused}
+
+abbrev pub type_text : Kind → List ℕ
+type_text Text = codes "text/plain; charset=utf-8"
+type_text Json = codes "application/json"
+type_text Metrics = codes "text/plain; version=0.0.4; charset=utf-8"
+type_text Verdict = codes "application/octet-stream"
+type_text Html = codes "text/html; charset=utf-8"
+type_text Refused = codes "text/plain; charset=utf-8"
+
+-- nothing is stored on the way, nothing is read as another type, and nothing runs or is fetched in a page but its own style and icon
+abbrev pub common_fields : List Header
+common_fields =
+    (codes "cache-control", codes "no-store")
+    ∷ (codes "content-security-policy", codes "default-src 'none'; style-src 'sha256-hhnSe7Op4tbhiIUxPVudEHfax0d53dZ47L1SEfFJjSs='; img-src 'self' data:; base-uri 'none'; form-action 'none'; frame-ancestors 'none'")
+    ∷ (codes "x-content-type-options", codes "nosniff")
+    ∷ (codes "referrer-policy", codes "no-referrer")
+    ∷ (codes "connection", codes "close") ∷ []
+
+-- a verdict is saved and not shown; a refused method is told with those that are allowed
+abbrev pub own_fields : Kind → List Header
+own_fields Verdict = (codes "content-disposition", codes "attachment") ∷ []
+own_fields Refused = (codes "allow", codes "GET, HEAD") ∷ []
+own_fields _ = []
+
+abbrev pub fields_of : Kind → List Header
+fields_of kind = (codes "content-type", type_text kind) ∷ common_fields ++ own_fields kind
+
+-- the response has this status, a body of this kind, and this body
+abbrev pub IsTold : ℕ → Kind → List ℕ → Response → Type 0
+IsTold status kind body response = IsResponse status (fields_of kind) body response
+
+-- ---- health
+
+-- the watch is well where its last round is not too old and all could be stored
+unfoldable pub health_status : Snapshot → (second : ℕ) → ℕ
+health_status s second = if is_late s.stamped s.every second then 503 else (if s.is_unstored then 503 else 200)
+
+unfoldable pub health_text : Snapshot → (second : ℕ) → List ℕ
+health_text s second =
+    if is_late s.stamped s.every second then codes "late\n" else (if s.is_unstored then codes "unstored\n" else codes "ok\n")

@@ -1,0 +1,160 @@
+//! What a watch knew at one moment.
+
+ghost use Rattle.std.specs.Prelude.{◌≡◌};
+ghost use Rattle.std.specs.List.{list_any};
+ghost use Rattle.watch_snapshot.specs.Standings.{answering_of, reading_of, standing_of, went_back};
+
+use crate::source::SourceSeen;
+use blocks::{Ballot, Id};
+
+/// Two committed blocks of which neither is the other's ancestor.
+#[derive(Clone, Copy, Debug, PartialEq, Eq)]
+pub struct Fork {
+    /// The id of the lower one.
+    pub first: Id,
+    /// The id of the other one.
+    pub second: Id,
+}
+
+/// By which two votes a culprit broke a rule.
+#[derive(Clone, Copy, Debug, PartialEq, Eq)]
+pub struct Pair {
+    /// The number of the rule, 1 or 2.
+    pub rule: u8,
+    /// For which block it voted first.
+    pub earlier: Ballot,
+    /// For which it voted then.
+    pub later: Ballot,
+}
+
+/// A replica that broke a rule.
+#[derive(Drop)]
+pub struct Culprit {
+    /// The replica's number.
+    pub replica: u16,
+    /// How much it counts.
+    pub weight: u64,
+    /// By which votes; none where its verdict was there before the watch began.
+    pub pair: Option<Pair>,
+    /// The bytes of its verdict.
+    pub verdict: Vec<u8>,
+    /// Where the verdict's file is, or is to be.
+    pub path: String,
+    /// It could not be stored there yet.
+    pub is_unstored: bool,
+}
+
+/// What a watch knew at one moment. Times are seconds since 1970.
+#[derive(Drop)]
+pub struct Snapshot {
+    /// When the watch began.
+    pub started: u64,
+    /// The number of its last round.
+    pub round: u64,
+    /// When that was.
+    pub stamped: u64,
+    /// How many milliseconds lie between two rounds of a source.
+    pub every: u32,
+    /// The chain's id.
+    pub chain: Id,
+    /// Something could not be stored.
+    pub is_unstored: bool,
+    /// The sources, in the order in which they are named.
+    pub sources: Vec<SourceSeen>,
+    /// The last commits, by rising view and id.
+    pub commits: Vec<Ballot>,
+    /// How many commits there are in all.
+    pub commit_count: u64,
+    /// The first two commits that conflict.
+    pub conflict: Option<Fork>,
+    /// The culprits, in the order in which they were found.
+    pub culprits: Vec<Culprit>,
+    /// How much the culprits count together.
+    pub weight: u64,
+    /// How much all replicas count together.
+    pub total: u64,
+}
+
+/// The worst that holds of what a watch knew.
+#[derive(Clone, Copy, Debug, PartialEq, Eq)]
+pub enum Standing {
+    /// Two commits conflict.
+    Conflict,
+    /// There are culprits.
+    Culprits,
+    /// A source's log went back.
+    WentBack,
+    /// A source was set aside.
+    SetAside,
+    /// Something could not be stored.
+    NotStored,
+    /// No source answers.
+    NothingRead,
+    /// Some sources answer, and not all.
+    SomeAnswer,
+    /// All sources answer.
+    AllAnswer,
+}
+
+impl Snapshot {
+    /// How many of the sources answer at this second.
+    pub fn answering(&self, second: u64) -> usize
+        ensures { result ≡ answering_of self.now second }
+    {
+        let every = self.every;
+        self.sources
+            .iter()
+            .filter(|source| source.answers(every, second))
+            .count()
+    }
+
+    fn has_gone_back(&self) -> bool
+        ensures { result ≡ list_any went_back self.now.sources.items }
+    {
+        self.sources.iter().any(|source| source.went_back())
+    }
+
+    fn has_aside(&self) -> bool
+        ensures { result ≡ list_any (λ o. o.is_aside) self.now.sources.items }
+    {
+        self.sources.iter().any(|source| source.is_aside)
+    }
+
+    /// The worst that holds of it at this second.
+    #[tactic(auto, unfolding(crate::specs::Standings::standing_of))]
+    pub fn standing(&self, second: u64) -> Standing
+        ensures { result ≡ standing_of self.now second }
+    {
+        if self.conflict.is_some() {
+            return Standing::Conflict;
+        }
+        if !self.culprits.is_empty() {
+            return Standing::Culprits;
+        }
+        if self.has_gone_back() {
+            return Standing::WentBack;
+        }
+        if self.has_aside() {
+            return Standing::SetAside;
+        }
+        self.reading(second)
+    }
+
+    // .. where nothing is wrong with what came.
+    #[tactic(auto, unfolding(crate::specs::Standings::reading_of))]
+    fn reading(&self, second: u64) -> Standing
+        ensures { result ≡ reading_of self.now second }
+    {
+        let answering = self.answering(second);
+        if self.is_unstored {
+            return Standing::NotStored;
+        }
+        if answering == 0 {
+            return Standing::NothingRead;
+        }
+        if answering < self.sources.len() {
+            return Standing::SomeAnswer;
+        }
+        Standing::AllAnswer
+    }
+}
