@@ -4,6 +4,7 @@ ghost use Rattle.std.specs.Prelude.{◌≡◌, ◌≤◌, length};
 ghost use Rattle.replica_command.specs.Folders.{name_in_folder};
 
 use key_files::KeyFile;
+use put_back_file::PUT_BACK;
 use std::alloc::{AllocError, AllocFailed};
 
 /// A file of a replica's folder.
@@ -13,6 +14,8 @@ pub enum ReplicaFile {
     Lock,
     /// A file of its key.
     Key(KeyFile),
+    /// The file that says that its log was put back to a backup. That it is there is the fault.
+    PutBack,
 }
 
 impl ReplicaFile {
@@ -24,6 +27,7 @@ impl ReplicaFile {
         match self {
             ReplicaFile::Lock => "lock",
             ReplicaFile::Key(file) => file.name(),
+            ReplicaFile::PutBack => PUT_BACK,
         }
     }
 }

@@ -13,6 +13,8 @@ use lmots::{PRIVATE_SEED_LEN, PrivateSeed};
 use lms_tree::SigningTree;
 use parallel_keys::generate_parallel;
 use program_parts::{InputFault, read_at_most};
+use put_back_file::PUT_BACK;
+use safe_files::is_nothing_at;
 use stable_log::FileDisk;
 use std::alloc::Global;
 use std::fs::{File, Files, OpenOptions, Permissions};
@@ -37,7 +39,7 @@ pub struct ReplicaFolder<'a, F: Files<File = File>> {
 
 impl<F: Files<File = File>> ReplicaFolder<'_, F> {
     /// Asks for the folder's lock, and makes its file where there is none, for its owner alone. The lock is given up when the
-    /// file that is answered is dropped, or the process ends.
+    /// file that is answered is dropped, or the process ends. A folder whose log was found to be put back is refused for good.
     pub fn lock(&self) -> Result<File, ReplicaFault>
         ensures { IfErr result (λ fault. fault ≢ ReplicaFault.Output) }
     {
@@ -47,8 +49,23 @@ impl<F: Files<File = File>> ReplicaFolder<'_, F> {
         // Who else could open it could hold its lock. Where this may not be set it stays as it is.
         let _ = file.set_permissions(Permissions::from_mode(OWNER_ALONE));
         match file.try_lock() {
-            Ok(()) => Ok(file),
+            Ok(()) => {
+                self.see_nothing_put_back()?;
+                Ok(file)
+            }
             Err(_) => Err(ReplicaFault::File(ReplicaFile::Lock)),
+        }
+    }
+
+    // Whether nothing says that the log was put back.
+    fn see_nothing_put_back(&self) -> Result<(), ReplicaFault>
+        ensures { IfErr result (λ fault. fault ≢ ReplicaFault.Output) }
+    {
+        let folder = self.path;
+        let path = format!(in self.alloc; "{folder}/{PUT_BACK}")?;
+        match is_nothing_at(self.files, &path) {
+            Ok(true) => Ok(()),
+            _ => Err(ReplicaFault::File(ReplicaFile::PutBack)),
         }
     }
 

@@ -27,6 +27,7 @@ fn main(rt: HostRuntime) -> io::Result<()> {
                         &mut MemoryFeed::new(input),
                         out,
                         faults,
+                        &mut MemorySink::new(rt.alloc()),
                     ))
                 }
                 _ => None,

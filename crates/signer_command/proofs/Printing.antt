@@ -62,6 +62,13 @@ announced_part Unsaid before after failures failures' places text is said =
 announced_part Over before after failures failures' places text is said =
     whole_printed before after places (subst (λ (t : List ℕ). Wrote before after t) is said.0)
 
+-- where nothing hindered it, all of it was
+pub announced_whole : (announced : Announced) (before after : Option (List ℕ)) (failures failures' : ℕ) (places : Places) (text : List ℕ)
+    → announced ≡ Over → text ≡ listening_text places → IsAnnounced announced before after failures failures' text → Wrote before after (listening_text places)
+announced_whole announced before after failures failures' places text over is said =
+    let all = subst (λ (a : Announced). IsAnnounced a before after failures failures' text) over said in
+    subst (λ (t : List ℕ). Wrote before after t) is all.0
+
 -- behind the lines, for want of memory or of a receipt
 pub given_up_behind : (fault : Fault) (before after : Option (List ℕ)) → (fault ≡ program.Memory) ⊎ (fault ≡ program.Own Receipts) → IsPart before after → IsGivenUp fault before after
 given_up_behind fault before after (inl is) part = subst (λ (f : Fault). IsGivenUp f before after) (sym is) part

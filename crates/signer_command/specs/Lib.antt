@@ -2,4 +2,5 @@ pub mod FaultLines
 pub mod Lines
 pub mod Notes
 pub mod Sockets
+pub mod Approved
 pub mod Ends

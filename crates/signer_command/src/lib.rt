@@ -6,6 +6,7 @@ mod announcing;
 mod calls_read;
 mod fault;
 mod handing_out;
+mod home;
 mod link;
 mod listening;
 mod notes;
@@ -14,7 +15,8 @@ mod pool;
 mod program;
 mod socket_file;
 mod stay;
+mod successor;
 mod words;
 
 pub use fault::{Fault, SignerFault};
-pub use program::{DONE, Host, run_signer};
+pub use program::{DONE, Host, PUT_BACK, run_signer};

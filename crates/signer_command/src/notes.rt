@@ -13,7 +13,10 @@ use streams::{Sink, write_all};
 /// How long a body may be that is told itself.
 const LONGEST_BODY: usize = 80;
 
-/// Tells of calls, and once that a disk stopped the desk. What the sink does not take is lost.
+/// With what the answer begins that tells that the log was put back. No other answer to a call does.
+const PUT_BACK: &[u8] = b"stopped vote view ";
+
+/// Tells of calls, and once that a disk stopped the desk or the log was put back. What the sink does not take is lost.
 #[derive(Drop)]
 pub(crate) struct Notes<'a, T: Wait, S: Sink> {
     rt: &'a T,
@@ -22,6 +25,7 @@ pub(crate) struct Notes<'a, T: Wait, S: Sink> {
     /// Whether each call gets a line.
     verbose: bool,
     has_stopped: AtomicBool,
+    was_put_back: AtomicBool,
 }
 
 impl<'a, T: Wait, S: Sink> Notes<'a, T, S> {
@@ -32,10 +36,12 @@ impl<'a, T: Wait, S: Sink> Notes<'a, T, S> {
             sink: Mutex::new(sink),
             verbose,
             has_stopped: AtomicBool::new(false),
+            was_put_back: AtomicBool::new(false),
         }
     }
 
-    fn tell(&self, line: &[u8]) {
+    /// Tells a line.
+    pub fn tell(&self, line: &[u8]) {
         let mut sink = self.sink.lock(self.rt);
         if write_all(&mut *sink, line).is_err() {
             // Nothing is left to tell it by.
@@ -52,6 +58,9 @@ impl<T: Wait, S: Sink> Witness for Notes<'_, T, S> {
         }
         if stops(call) && !self.has_stopped.swap(true, Ordering::SeqCst) {
             self.tell(b"stopped desk 5\n");
+        }
+        if call.body.starts_with(PUT_BACK) && !self.was_put_back.swap(true, Ordering::SeqCst) {
+            self.tell(call.body);
         }
     }
 }

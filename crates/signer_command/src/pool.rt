@@ -4,6 +4,7 @@ ghost use Rattle.std.specs.Prelude.{◌≡◌};
 
 use crate::calls_read::CallsRead;
 use crate::handing_out::{Asker, hand_out};
+use crate::home::Home;
 use crate::link::{Answering, Asking, Link};
 use crate::listening::Place;
 use crate::notes::Notes;
@@ -13,10 +14,11 @@ use blocks::CommitteeView;
 use good_votes::{GoodVotes, SideBySide};
 use http_server::{Config, Connection};
 use http1::Limits;
-use signing_service::{Commits, Rules, Signer, Tallies, serve_calls};
+use signing_service::{Commits, PutBack, Rules, Signer, Tallies, serve_calls};
 use stable_log::Disk;
 use std::alloc::{AllocError, Global};
 use std::cell::Cell;
+use std::fs::{File, Files};
 use std::net::TcpStream;
 use std::sync::Wait;
 use std::sync::atomic::{AtomicBool, AtomicU32, Ordering};
@@ -56,6 +58,8 @@ pub(crate) struct Shop<'a, N: DeskNaming, T: Wait, S: Sink, D: Disk> {
     pub commits: &'a Commits<N>,
     pub tallies: &'a Tallies,
     pub good: &'a GoodVotes,
+    pub put_back: &'a PutBack<N, D>,
+    pub home: &'a Home<'a, T, S>,
     pub sockets: &'a Sockets,
     pub notes: &'a Notes<'a, T, S>,
     pub start: &'a Start,
@@ -109,13 +113,16 @@ impl Start {
 /// are gone, and those that have begun are to end.
 pub(crate) fn work_all<
     N: DeskNaming + Send + Sync,
-    T: Threads + Wait + Clock + Sync,
+    T: Threads + Wait + Clock + Files<File = File> + Sync,
     S: Sink + Send,
     D: Disk + Send,
 >(
     shop: &Shop<'_, N, T, S, D>,
     jobs: Option<Vec<Job<N>>>,
-) -> Result<Vec<Option<Session<N>>>, AllocError> {
+) -> Result<Vec<Option<Session<N>>>, AllocError>
+where
+    T::Dir: Send,
+{
     let Some(jobs) = jobs else {
         return Ok(Vec::new(shop.alloc));
     };
@@ -127,7 +134,7 @@ pub(crate) fn work_all<
 }
 
 // Takes connections until the signer ends.
-fn work<N: DeskNaming, T: Threads + Wait + Clock, S: Sink, D: Disk>(
+fn work<N: DeskNaming, T: Threads + Wait + Clock + Files<File = File>, S: Sink, D: Disk>(
     shop: &Shop<'_, N, T, S, D>,
     job: Job<N>,
 ) -> Option<Session<N>> {
@@ -157,7 +164,7 @@ fn work<N: DeskNaming, T: Threads + Wait + Clock, S: Sink, D: Disk>(
     }
 }
 
-fn take_calls<'x, N: DeskNaming, T: Threads + Wait + Clock, S: Sink, D: Disk>(
+fn take_calls<'x, N: DeskNaming, T: Threads + Wait + Clock + Files<File = File>, S: Sink, D: Disk>(
     shop: &'x Shop<'x, N, T, S, D>,
     place: &Place,
     rules: &'x Rules,
@@ -172,8 +179,10 @@ fn take_calls<'x, N: DeskNaming, T: Threads + Wait + Clock, S: Sink, D: Disk>(
         shop.committee,
         shop.replica,
         &checker,
+        shop.home,
         rules,
         shop.commits,
+        shop.put_back,
         shop.tallies,
         shop.notes,
         session,
@@ -194,9 +203,16 @@ fn take_calls<'x, N: DeskNaming, T: Threads + Wait + Clock, S: Sink, D: Disk>(
 }
 
 // Answers the calls of one stream.
-fn answer_stream<'a, 'x, N: DeskNaming, T: Threads + Wait + Clock, S: Sink, D: Disk>(
+fn answer_stream<
+    'a,
+    'x,
+    N: DeskNaming,
+    T: Threads + Wait + Clock + Files<File = File>,
+    S: Sink,
+    D: Disk,
+>(
     shop: &Shop<'_, N, T, S, D>,
-    signer: &mut Signer<'a, N, T, D, SideBySide<'x, T>, Notes<'x, T, S>>,
+    signer: &mut Signer<'a, N, T, D, SideBySide<'x, T>, Home<'x, T, S>, Notes<'x, T, S>>,
     manner: Manner,
     stream: &TcpStream,
 ) -> io::Result<()> {

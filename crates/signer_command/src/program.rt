@@ -5,7 +5,7 @@ ghost use Rattle.streams.specs.Streams.{Wrote, WrotePart};
 ghost use Rattle.printed_lines.specs.Printed.{Told};
 ghost use Rattle.program_parts.specs.FaultLines.{fault_line};
 ghost use Rattle.program_parts.specs.Writes.{CountsOutput, CountsWrites};
-ghost use Rattle.signer_command.specs.Ends.{Fault as FaultValue, IsGivenUp, IsRun, IsStay, ended_of, status_of};
+ghost use Rattle.signer_command.specs.Ends.{Fault as FaultValue, IsGivenUp, IsRun, IsStay, ended_of, fault_status, status_of};
 ghost use Rattle.signer_command.specs.FaultLines.{own_line};
 ghost use Rattle.signer_command.specs.Lines.{closed_line};
 ghost use Rattle.signer_command.specs.declared.program.Ended.TheVariants.{Done, Stopped};
@@ -20,7 +20,7 @@ use blocks::CommitteeView;
 use itoa::Buffer;
 use printed_lines::Line;
 use program_parts::{FAULT, ProgramFault, parse_committee, read_committee, write_out};
-use replica_command::ReplicaFolder;
+use replica_command::{ReplicaFile, ReplicaFolder};
 use signing_service::Rules;
 use stable_log::{Disk, FileDisk};
 use std::alloc::{AllocError, Global};
@@ -38,6 +38,9 @@ use vote_desk::{Closed, Parts};
 
 /// The input ended, and no disk had failed.
 pub const DONE: u8 = 0;
+
+/// The replica's log was put back to a backup, which an earlier run wrote down in its folder: no start is of use any more.
+pub const PUT_BACK: u8 = 4;
 
 /// The bits of a folder's mode by which others than its owner write in it.
 const OTHERS_WRITE: u32 = 0o022;
@@ -81,7 +84,8 @@ impl Ended {
 }
 
 /// Runs a signer as the words say, until its input ends where they say so, and else until it is killed. Answers the exit
-/// status: 0 where the input ended, 2 where a disk had stopped the desk by then, or at a fault, whose line then goes to `faults`.
+/// status: 0 where the input ended, 2 where a disk had stopped the desk by then, or at a fault, whose line then goes to `faults`,
+/// 4 where that fault is that the log was put back.
 /// What is told of calls, and of a disk that stops the desk, goes to `notes`.
 pub fn run_signer<
     T: Files<File = File>
@@ -96,12 +100,16 @@ pub fn run_signer<
     E: Sink,
     S: Sink + Send,
 >(host: &Host<'_, T>, words: &[String], input: &mut R, out: &mut W, faults: &mut E, notes: S) -> u8
-    ensures status { (result ≡ 0) ⊎ (result ≡ 2) }
+where
+    T::Dir: Send,
+    ensures status { (result ≡ 0) ⊎ (result ≡ 2) ⊎ (result ≡ 4) }
     ensures done { result ≡ 0 → IsRun ⟦<FileDisk as Disk>⟧ (W.text out.old) (W.text out.new) Done }
-    ensures quiet { result ≢ 2 → (faults.new ≡ faults.old) × (W.failed out.new ≡ W.failed out.old) }
-    ensures told { result ≡ 2 → ((faults.new ≡ faults.old) × (W.failed out.new ≡ W.failed out.old)
+    ensures quiet { result ≡ 0 → (faults.new ≡ faults.old) × (W.failed out.new ≡ W.failed out.old) }
+    ensures told { result ≢ 0 → ((result ≡ 2) × (faults.new ≡ faults.old)
+        × (W.failed out.new ≡ W.failed out.old)
         × IsRun ⟦<FileDisk as Disk>⟧ (W.text out.old) (W.text out.new) Stopped)
-        ⊎ ((fault : FaultValue) × CountsOutput fault (W.failed out.old) (W.failed out.new)
+        ⊎ ((fault : FaultValue) × (result ≡ fault_status fault)
+        × CountsOutput fault (W.failed out.old) (W.failed out.new)
         × IsGivenUp fault (W.text out.old) (W.text out.new)
         × Told (E.text faults.old) (E.text faults.new) (E.failed faults.old) (E.failed faults.new)
         (fault_line own_line fault)) }
@@ -110,8 +118,19 @@ pub fn run_signer<
         Ok(ended) => ended.status(),
         Err(fault) => {
             fault.tell(faults);
-            FAULT
+            fault_status(&fault)
         }
+    }
+}
+
+// The exit status of a signer that gives up.
+fn fault_status(fault: &Fault<'_>) -> u8
+    ensures value { result ≡ fault_status fault.now }
+    ensures known { (result ≡ 2) ⊎ (result ≡ 4) }
+{
+    match fault {
+        ProgramFault::Own(SignerFault::FileIn(_, ReplicaFile::PutBack)) => PUT_BACK,
+        _ => FAULT,
     }
 }
 
@@ -134,6 +153,8 @@ fn run<
     out: &mut W,
     notes: S,
 ) -> Result<Ended, Fault<'a>>
+where
+    T::Dir: Send,
     ensures done { IfOk result (IsRun ⟦<FileDisk as Disk>⟧ (W.text out.old) (W.text out.new)) }
     ensures given_up { IfErr result (λ fault. IsGivenUp fault (W.text out.old) (W.text out.new)) }
     ensures counted { CountsWrites result (W.failed out.old) (W.failed out.new) }
@@ -203,6 +224,8 @@ fn stand_by<
     input: &mut R,
     out: &mut W,
 ) -> Result<Closed<FileDisk>, Fault<'a>>
+where
+    T::Dir: Send,
     ensures done { IfOk result (IsStay (W.text out.old) (W.text out.new)) }
     ensures given_up { IfErr result (λ fault. IsGivenUp fault (W.text out.old) (W.text out.new)) }
     ensures counted { CountsWrites result (W.failed out.old) (W.failed out.new) }
@@ -216,6 +239,8 @@ fn stand_by<
         alloc: host.alloc,
         sessions: sessions_of(words),
         while_input: words.while_input,
+        successor: words.successor,
+        folder: words.folder,
         sockets: &sockets,
         notes,
     };

@@ -10,15 +10,18 @@ ghost use Rattle.signer_command.specs.Sockets.{places_of};
 
 use crate::announcing::{Announced, announce, text_of};
 use crate::fault::{Fault, SignerFault};
+use crate::home::Home;
 use crate::listening::Place;
 use crate::notes::Notes;
 use crate::pool::{Job, Shop, Start, work_all};
+use crate::successor::Successor;
 use blocks::CommitteeView;
 use good_votes::GoodVotes;
 use program_parts::ProgramFault;
-use signing_service::{Commits, Rules, Tallies};
+use signing_service::{Commits, PutBack, Rules, Tallies};
 use stable_log::{Disk, FileDisk};
 use std::alloc::{AllocError, Global};
+use std::fs::{File, Files};
 use std::hash::RandomState;
 use std::marker::Brand;
 use std::sync::Wait;
@@ -51,6 +54,10 @@ pub(crate) struct Room<'a, T: Wait, S: Sink> {
     pub sessions: u8,
     /// Whether the end of the input ends the stay.
     pub while_input: bool,
+    /// Where the file of the committee that may come next is.
+    pub successor: Option<&'a str>,
+    /// Where the replica's folder is.
+    pub folder: &'a str,
     pub sockets: &'a Sockets,
     pub notes: &'a Notes<'a, T, S>,
     pub ghost least: { 1 ≤ sessions },
@@ -58,7 +65,13 @@ pub(crate) struct Room<'a, T: Wait, S: Sink> {
 }
 
 /// One stay at a desk of its own. Where calls are taken is said once they are.
-pub(crate) fn stay_once<'a, T: Threads + Wait + Clock + Sync, S: Sink + Send, R: Feed, W: Sink>(
+pub(crate) fn stay_once<
+    'a,
+    T: Threads + Wait + Clock + Files<File = File> + Sync,
+    S: Sink + Send,
+    R: Feed,
+    W: Sink,
+>(
     room: &Room<'_, T, S>,
     committee: &CommitteeView<'_>,
     replica: u16,
@@ -66,6 +79,8 @@ pub(crate) fn stay_once<'a, T: Threads + Wait + Clock + Sync, S: Sink + Send, R:
     input: &mut R,
     out: &mut W,
 ) -> Result<Closed<FileDisk>, Fault<'a>>
+where
+    T::Dir: Send,
     ensures receipts { IfOk result (λ closed.
         AreReceipts (length parts.log.steps) closed.parts.log.steps closed.receipts.items) }
     ensures said { OnOk result (Wrote (W.text out.old) (W.text out.new)
@@ -88,7 +103,7 @@ pub(crate) fn stay_once<'a, T: Threads + Wait + Clock + Sync, S: Sink + Send, R:
 fn stay<
     'a,
     N: DeskNaming + Send + Sync,
-    T: Threads + Wait + Clock + Sync,
+    T: Threads + Wait + Clock + Files<File = File> + Sync,
     S: Sink + Send,
     D: Disk + Send,
     R: Feed,
@@ -102,6 +117,8 @@ fn stay<
     input: &mut R,
     out: &mut W,
 ) -> Result<Closed<D>, Fault<'a>>
+where
+    T::Dir: Send,
     requires name { blank.name ≡ N.name }
     requires ledger { (blank.parts ≡ N.parts) × (N.parts ≡ room.now.sessions) }
     requires committee { committee.now ≡ N.committee }
@@ -130,7 +147,7 @@ fn stay<
 // Lets a thread with each session take calls, until they are to end. Answers what they hand back.
 fn answer_all<
     N: DeskNaming + Send + Sync,
-    T: Threads + Wait + Clock + Sync,
+    T: Threads + Wait + Clock + Files<File = File> + Sync,
     S: Sink + Send,
     D: Disk + Send,
     R: Feed,
@@ -144,6 +161,8 @@ fn answer_all<
     input: &mut R,
     out: &mut W,
 ) -> Result<Vec<Option<Session<N>>>, Fault<'static>>
+where
+    T::Dir: Send,
     requires committee { committee.now ≡ N.committee }
     requires replica { replica ≡ N.replica }
     ensures said { OnOk result (Wrote (W.text out.old) (W.text out.new)
@@ -156,6 +175,12 @@ fn answer_all<
     };
     let (commits, tallies) = (Commits::new(), Tallies::new(seconds_now(room.rt)));
     let good = GoodVotes::new(room.alloc);
+    let put_back = PutBack::new();
+    let successor = Successor::new(room.rt, room.alloc, committee, room.successor, room.notes);
+    let home = Home {
+        successor,
+        folder: room.folder,
+    };
     let start = Start::of(u32::try_from(jobs.len()).unwrap_or(u32::MAX));
     let shop = Shop {
         rt: room.rt,
@@ -166,6 +191,8 @@ fn answer_all<
         commits: &commits,
         tallies: &tallies,
         good: &good,
+        put_back: &put_back,
+        home: &home,
         sockets: room.sockets,
         notes: room.notes,
         start: &start,
@@ -214,7 +241,7 @@ fn open<N: DeskNaming, T: Wait, S: Sink, D: Disk>(
 // The threads at work, until they are to end, and beside them what says that calls are taken.
 fn work_and_announce<
     N: DeskNaming + Send + Sync,
-    T: Threads + Wait + Clock + Sync,
+    T: Threads + Wait + Clock + Files<File = File> + Sync,
     S: Sink + Send,
     D: Disk + Send,
     R: Feed,
@@ -227,6 +254,8 @@ fn work_and_announce<
     input: &mut R,
     out: &mut W,
 ) -> (Announced, Result<Vec<Option<Session<N>>>, AllocError>)
+where
+    T::Dir: Send,
     ensures { IsAnnounced result.0 (W.text out.old) (W.text out.new) (W.failed out.old)
         (W.failed out.new) text.now }
 {

@@ -61,6 +61,7 @@ pub(crate) struct Words<'a> {
     pub listen: Where<'a>,
     pub read: Option<&'a str>,
     pub serve: Option<&'a str>,
+    pub successor: Option<&'a str>,
     pub sessions: Sessions,
     pub furthest: u64,
     pub hosts: Vec<String>,
@@ -105,6 +106,7 @@ fn with_values<'a>(alloc: Global, grammar: Grammar<'a>) -> Result<Grammar<'a>, A
         .arg(Arg::new(alloc, "WHERE").long("listen"))?
         .arg(Arg::new(alloc, "READ").long("read"))?
         .arg(Arg::new(alloc, "SERVE").long("serve"))?
+        .arg(Arg::new(alloc, "FILE").long("successor"))?
         .arg(Arg::new(alloc, "N").long("sessions"))?
         .arg(Arg::new(alloc, "D").long("furthest"))?
         .arg(host)
@@ -145,6 +147,7 @@ fn given<'a>(alloc: Global, matches: &ArgMatches<'a>) -> Result<Words<'a>, Fault
         listen: listen_in(matches.get_str("WHERE"))?,
         read: matches.get_str("READ"),
         serve: matches.get_str("SERVE"),
+        successor: matches.get_str("FILE"),
         sessions,
         furthest,
         hosts: hosts_in(alloc, matches)?,
@@ -155,7 +158,7 @@ fn given<'a>(alloc: Global, matches: &ArgMatches<'a>) -> Result<Words<'a>, Fault
     judged(words)
 }
 
-// No place is empty, and the ledger's group is let in at a path that was named alone: the replica's folder is its own.
+// No place and no path is empty, and the ledger's group is let in at a path that was named alone: the replica's folder is its own.
 fn judged<'a>(words: Words<'a>) -> Result<Words<'a>, Fault<'a>>
     ensures { IfErr result (λ fault. fault ≢ ProgramFault.Output) }
 {
@@ -164,7 +167,7 @@ fn judged<'a>(words: Words<'a>) -> Result<Words<'a>, Fault<'a>>
     if words.committee.is_empty() || words.folder.is_empty() || (words.group && !has_path) {
         return Err(ProgramFault::Usage);
     }
-    if is_empty(words.read) || is_empty(words.serve) {
+    if is_empty(words.read) || is_empty(words.serve) || is_empty(words.successor) {
         return Err(ProgramFault::Usage);
     }
     Ok(words)

@@ -2,6 +2,7 @@
 use Rattle.std.specs.Prelude.{◌≡◌, ◌⊎◌, ◌<◌, ◌≤◌, ◌+◌, ◌++◌, [], ℕ, List, Option, Some, None, IfSome, codes, min}
 use Rattle.blocks.specs.Replica.{Stored}
 use Rattle.blocks.specs.declared.ballot.Ballot.{Ballot}
+use Rattle.certificates.specs.declared.vote.SignedVote.{SignedVote}
 use Rattle.http.specs.declared.request.Request.{Request}
 use Rattle.http_server.specs.declared.response.Response.{Response}
 use Rattle.http_server.specs.Exchange.{Call as Exchanged}
@@ -22,12 +23,15 @@ use Rattle.vote_desk.specs.declared.parts.DeskStatus.{DeskStatus}
 use Rattle.vote_desk.specs.declared.reply.Answer.TheVariants.{Voted}
 use Rattle.vote_desk.specs.declared.reply.Receipt.{Receipt}
 use Rattle.replica_lines.specs.OutcomeLines.{answer_text}
-use Rattle.replica_lines.specs.declared.outcome.Outcome.{Outcome}
 use Rattle.replica_lines.specs.declared.outcome.Outcome.TheVariants as came
 use Rattle.replica_lines.specs.declared.request.Request.{Request as Asked}
 use Rattle.replica_lines.specs.declared.request.Request.TheVariants as asks
-use Rattle.replica_answers.specs.Answers.{IsAnswerTo}
-use Rattle.replica_answers.specs.SessionReceipts.{HasReceipt, receipts_after}
+use Rattle.signer_answers.specs.Approvals.{Telling}
+use Rattle.signer_answers.specs.BlockAnswers.{IsSignerAnswer}
+use Rattle.signer_answers.specs.Guards.{IsPutBack}
+use Rattle.signer_answers.specs.Tellings.{HasItsReceipt, receipts_behind}
+use Rattle.signer_answers.specs.declared.told.Told.{Told}
+use Rattle.signer_answers.specs.declared.told.Told.TheVariants as tell
 use Rattle.signer_calls.specs.Asking.{AsksFor}
 use Rattle.signing_service.specs.Commits.{IsCommitOf}
 use Rattle.signing_service.specs.Healths.{IsHealthTold}
@@ -36,7 +40,7 @@ use Rattle.signing_service.specs.Metrics.{IsMetricsTold}
 use Rattle.signing_service.specs.Refusals.{IsRefusalTold}
 use Rattle.signing_service.specs.Responses.{IsLine, fields_of_kind}
 use Rattle.signing_service.specs.Statuses.{IsStatusTold}
-use Rattle.signing_service.specs.ToldLines.{desk_status, named_desk_line, outcome_status, told_line}
+use Rattle.signing_service.specs.ToldLines.{desk_status, named_desk_line, outcome_status, put_back_line, told_line}
 use Rattle.signer_calls.specs.declared.call.Call.{Call}
 use Rattle.signer_calls.specs.declared.call.Call.TheVariants as call
 use Rattle.signer_calls.specs.declared.call.CallRefusal.TheVariants as refused
@@ -51,9 +55,14 @@ use Rattle.signing_service.specs.declared.writing.Kind.TheVariants.{Octets}
 abbrev pub IsDeskTold : DeskError → Response → Type 0
 IsDeskTold refusal response = IsLine (desk_status refusal) (named_desk_line refusal) response
 
--- the response tells an outcome, or that the view lies too far ahead
-abbrev pub IsOutcomeTold : Option Outcome → Response → Type 0
-IsOutcomeTold (Some outcome) response = IsLine (outcome_status outcome) (told_line outcome) response
+-- the response tells that the log was put back
+abbrev pub IsPutBackTold : Ballot → Response → Type 0
+IsPutBackTold ballot response = IsLine 503 (put_back_line ballot) response
+
+-- the response tells an outcome, or that the log was put back, or that the view lies too far ahead
+abbrev pub IsOutcomeTold : Option Told → Response → Type 0
+IsOutcomeTold (Some (tell.Came outcome)) response = IsLine (outcome_status outcome) (told_line outcome) response
+IsOutcomeTold (Some (tell.PutBack ballot)) response = IsPutBackTold ballot response
 IsOutcomeTold None response = IsRefusalTold refused.Far response
 
 -- the response tells a vote of the log
@@ -65,9 +74,9 @@ abbrev pub parent_view_of : Asked → ℕ
 parent_view_of (asks.Block header certificate) = header.parent_view
 parent_view_of _ = 0
 
--- the block that an outcome commits
-abbrev pub committed_by : Outcome → Option (List ℕ)
-committed_by (came.Replied reply) = reply.committed
+-- the block that is committed by what was told
+abbrev pub committed_by : Told → Option (List ℕ)
+committed_by (tell.Came (came.Replied reply)) = reply.committed
 committed_by _ = None
 
 -- what a refused export means to a caller
@@ -77,8 +86,8 @@ from_export export.Device = desk.Device
 from_export _ = desk.Memory
 
 -- the receipts of a session after what it was told
-abbrev pub receipts_told : List Receipt → Option Outcome → List Receipt
-receipts_told receipts (Some outcome) = receipts_after receipts outcome
+abbrev pub receipts_told : List Receipt → Option Told → List Receipt
+receipts_told receipts (Some it) = receipts_behind receipts it
 receipts_told receipts None = receipts
 
 -- ---- by some desk
@@ -104,10 +113,17 @@ module _ {D : Type 0} (disk : Ghosts D) (committee : List ℕ) (replica : ℕ) (
   IsNear furthest (asks.Timeout view) = SomeOne (λ d. view ≤ d.core.state.vote_view + furthest)
   IsNear furthest _ = Unit {0}
 
-  -- what comes of a block or a timeout; none where its view lies too far, and then nothing is delivered
-  abbrev pub IsOutcomeOf : ℕ → Asked → Option Outcome → Type 0
-  IsOutcomeOf furthest asked (Some outcome) = IsNear furthest asked × IsAnswerTo disk committee replica opening asked outcome
-  IsOutcomeOf furthest asked None = IsFar furthest asked
+  -- the log was put back
+  abbrev pub WasPutBack : Ballot → Type 0
+  WasPutBack ballot = IsPutBack disk committee replica opening ballot
+
+  -- what comes of a block or a timeout: that the log was put back, or its answer; none where its view lies too far, and then
+  -- nothing is delivered
+  abbrev pub IsOutcomeOf : ℕ → Telling → Asked → Option Told → Type 0
+  IsOutcomeOf furthest tells asked (Some (tell.PutBack ballot)) = WasPutBack ballot
+  IsOutcomeOf furthest tells asked (Some (tell.Came outcome)) =
+      IsNear furthest asked × IsSignerAnswer disk committee replica opening tells asked (tell.Came outcome)
+  IsOutcomeOf furthest tells asked None = IsFar furthest asked
 
   -- the log's vote in this view, or that there is none, or why it cannot be read
   abbrev pub IsVoteTold : ℕ → Response → Type 0
@@ -130,53 +146,65 @@ module _ {D : Type 0} (disk : Ghosts D) (committee : List ℕ) (replica : ℕ) (
       × IsResponse 200 (fields_of_kind Octets) text response)
       ⊎ ((e : ExportError) × SomeMove (RefusesExport disk part.first (min part.most MOST_FRAMES_AT_ONCE) e) × IsDeskTold (from_export e) response)
 
-  -- how a desk is
+  -- that the log was put back
+  abbrev pub IsStopTold : Response → Type 0
+  IsStopTold response = (ballot : Ballot) × WasPutBack ballot × IsPutBackTold ballot response
+
+  -- .. or how a desk is
   abbrev pub IsDeskHealthTold : Response → Type 0
-  IsDeskHealthTold response = (status : DeskStatus) × SomeOne (λ d. status ≡ status_of d) × IsHealthTold status response
+  IsDeskHealthTold response =
+      IsStopTold response ⊎ ((status : DeskStatus) × SomeOne (λ d. status ≡ status_of d) × IsHealthTold status response)
+
+  -- .. or whether a vote is good
+  abbrev pub IsVoteJudged : SignedVote → Response → Type 0
+  IsVoteJudged vote response = IsStopTold response ⊎ IsJudgementTold committee vote response
 
   -- what a desk is at, and a block that some block with a good certificate commits, or none that is known
   abbrev pub IsDeskStatusTold : Response → Type 0
   IsDeskStatusTold response =
-      (status : DeskStatus) × (committed : Option Ballot) × SomeOne (λ d. status ≡ status_of d)
-      × IfSome committed (IsCommitOf committee) × IsStatusTold committee replica status committed response
+      (status : DeskStatus) × (put_back committed : Option Ballot) × SomeOne (λ d. status ≡ status_of d)
+      × IfSome put_back WasPutBack × IfSome committed (IsCommitOf committee)
+      × IsStatusTold committee replica status put_back committed response
 
   -- .. and some numbers of what was told
   abbrev pub IsDeskMetricsTold : Response → Type 0
   IsDeskMetricsTold response =
-      (numbers : Numbers) × (status : DeskStatus) × (committed : Option Ballot) × SomeOne (λ d. status ≡ status_of d)
-      × IfSome committed (IsCommitOf committee) × IsMetricsTold numbers status committed response
+      (numbers : Numbers) × (status : DeskStatus) × (put_back committed : Option Ballot) × SomeOne (λ d. status ≡ status_of d)
+      × IfSome put_back WasPutBack × IfSome committed (IsCommitOf committee)
+      × IsMetricsTold numbers status put_back committed response
 
   -- ---- a call
 
   -- what a call is told, and the outcome among it
-  abbrev pub IsCallTold : Rules → Call → Option Outcome → Response → Type 0
-  IsCallTold rules (call.Replica asked) told response = IsOutcomeOf rules.furthest asked told × IsOutcomeTold told response
-  IsCallTold rules (call.Judge vote) told response = (told ≡ None) × IsJudgementTold committee vote response
-  IsCallTold rules (call.VoteIn view) told response = (told ≡ None) × IsVoteTold view response
-  IsCallTold rules (call.Header id) told response = (told ≡ None) × IsHeaderTold id response
-  IsCallTold rules (call.Log part) told response = (told ≡ None) × IsPartTold part response
-  IsCallTold rules call.Status told response = (told ≡ None) × IsDeskStatusTold response
-  IsCallTold rules call.Live told response = (told ≡ None) × IsLine 200 (codes "ok\n") response
-  IsCallTold rules call.Health told response = (told ≡ None) × IsDeskHealthTold response
-  IsCallTold rules call.Metrics told response = (told ≡ None) × IsDeskMetricsTold response
-  IsCallTold rules (call.Refused refusal) told response = (told ≡ None) × IsRefusalTold refusal response
+  abbrev pub IsCallTold : Rules → Telling → Call → Option Told → Response → Type 0
+  IsCallTold rules tells (call.Replica asked) told response =
+      IsOutcomeOf rules.furthest tells asked told × IsOutcomeTold told response
+  IsCallTold rules tells (call.Judge vote) told response = (told ≡ None) × IsVoteJudged vote response
+  IsCallTold rules tells (call.VoteIn view) told response = (told ≡ None) × IsVoteTold view response
+  IsCallTold rules tells (call.Header id) told response = (told ≡ None) × IsHeaderTold id response
+  IsCallTold rules tells (call.Log part) told response = (told ≡ None) × IsPartTold part response
+  IsCallTold rules tells call.Status told response = (told ≡ None) × IsDeskStatusTold response
+  IsCallTold rules tells call.Live told response = (told ≡ None) × IsLine 200 (codes "ok\n") response
+  IsCallTold rules tells call.Health told response = (told ≡ None) × IsDeskHealthTold response
+  IsCallTold rules tells call.Metrics told response = (told ≡ None) × IsDeskMetricsTold response
+  IsCallTold rules tells (call.Refused refusal) told response = (told ≡ None) × IsRefusalTold refusal response
 
   -- the response tells what the call is told, and the receipt of a vote is added to the session
-  pub record IsCallServed (rules : Rules) (asked : Call) (before : List Receipt) (response : Response) (after : List Receipt) : Type 0 where
-    pub told : Option Outcome
-    pub tells : IsCallTold rules asked told response
+  pub record IsCallServed (rules : Rules) (tells : Telling) (asked : Call) (before : List Receipt) (response : Response) (after : List Receipt) : Type 0 where
+    pub told : Option Told
+    pub answers : IsCallTold rules tells asked told response
     pub receipts : after ≡ receipts_told before told
 
   -- .. to a request, by what it asks for
-  pub record IsServed (rules : Rules) (before : List Receipt) (request : Request (List ℕ)) (response : Response) (after : List Receipt) : Type 0 where
+  pub record IsServed (rules : Rules) (tells : Telling) (before : List Receipt) (request : Request (List ℕ)) (response : Response) (after : List Receipt) : Type 0 where
     pub asked : Call
     pub asks : AsksFor rules request asked
-    pub served : IsCallServed rules asked before response after
+    pub served : IsCallServed rules tells asked before response after
 
   -- the response tells what the request's call is told, and the receipt of a vote is among these
-  pub record IsBacked (rules : Rules) (receipts : List Receipt) (exchanged : Exchanged) : Type 0 where
+  pub record IsBacked (rules : Rules) (tells : Telling) (receipts : List Receipt) (exchanged : Exchanged) : Type 0 where
     pub asked : Call
     pub asks : AsksFor rules exchanged.0 asked
-    pub told : Option Outcome
-    pub tells : IsCallTold rules asked told exchanged.1
-    pub backed : IfSome told (HasReceipt receipts)
+    pub told : Option Told
+    pub answers : IsCallTold rules tells asked told exchanged.1
+    pub backed : IfSome told (HasItsReceipt receipts)

@@ -69,7 +69,7 @@ rooms_text status stopped =
     field_text (codes "\n# HELP hs_signer_entries_left How many more it has room for.\n# TYPE hs_signer_entries_left gauge\nhs_signer_entries_left ") status.left.entries
     ++ field_text (codes "\n# HELP hs_signer_indices_left How many votes the keys can still sign.\n# TYPE hs_signer_indices_left gauge\nhs_signer_indices_left ") status.left.indices
     ++ field_text (codes "\n# HELP hs_signer_headers How many headers are held.\n# TYPE hs_signer_headers gauge\nhs_signer_headers ") status.headers
-    ++ field_text (codes "\n# HELP hs_signer_stopped Whether a disk failed.\n# TYPE hs_signer_stopped gauge\nhs_signer_stopped ") stopped
+    ++ field_text (codes "\n# HELP hs_signer_stopped Whether a disk failed, or the log was put back.\n# TYPE hs_signer_stopped gauge\nhs_signer_stopped ") stopped
 
 abbrev pub process_text : Numbers → List ℕ
 process_text numbers =
@@ -83,6 +83,12 @@ metrics_text numbers status committed stopped =
     ++ doors_text numbers ++ arguments_text numbers ++ views_text status committed
     ++ rooms_text status stopped ++ process_text numbers ++ codes "\n"
 
-abbrev pub IsMetricsTold : Numbers → DeskStatus → Option Ballot → Response → Type 0
-IsMetricsTold numbers status committed response =
-    IsResponse 200 (fields_of_kind Metrics) (metrics_text numbers status (committed_view committed) (number_of status.stopped)) response
+-- a disk failed, or the log was put back
+abbrev pub is_stopped : DeskStatus → Option Ballot → Bool
+is_stopped status (Some ballot) = true
+is_stopped status None = status.stopped
+
+abbrev pub IsMetricsTold : Numbers → DeskStatus → (put_back committed : Option Ballot) → Response → Type 0
+IsMetricsTold numbers status put_back committed response =
+    IsResponse 200 (fields_of_kind Metrics)
+    (metrics_text numbers status (committed_view committed) (number_of (is_stopped status put_back))) response

@@ -21,15 +21,20 @@ name_text chain replica =
     codes "{\"format\":\"wezhgula-status-1\",\"chain\":\"" ++ encode_lower chain ++ codes "\",\"replica\":" ++ decimal replica
 
 -- why no block gets a vote, in a word
-abbrev pub state_name : Option DeskError → List ℕ
-state_name None = codes "voting"
-state_name (Some desk.LogFull) = codes "full"
-state_name (Some (desk.Core refusal)) = codes "full"
-state_name (Some desk.KeySpent) = codes "spent"
-state_name (Some _) = codes "stopped"
+abbrev pub trouble_name : Option DeskError → List ℕ
+trouble_name None = codes "voting"
+trouble_name (Some desk.LogFull) = codes "full"
+trouble_name (Some (desk.Core refusal)) = codes "full"
+trouble_name (Some desk.KeySpent) = codes "spent"
+trouble_name (Some _) = codes "stopped"
 
-abbrev pub state_text : DeskStatus → List ℕ
-state_text status = codes ",\"state\":\"" ++ state_name (trouble_of status) ++ codes "\""
+-- .. but where the log was put back
+abbrev pub state_name : Option Ballot → Option DeskError → List ℕ
+state_name (Some ballot) trouble = codes "put back"
+state_name None trouble = trouble_name trouble
+
+abbrev pub state_text : DeskStatus → Option Ballot → List ℕ
+state_text status put_back = codes ",\"state\":\"" ++ state_name put_back (trouble_of status) ++ codes "\""
 
 abbrev pub views_text : DeskStatus → List ℕ
 views_text status =
@@ -46,11 +51,11 @@ committed_text None = codes "null"
 committed_text (Some ballot) = ballot_text ballot.view ballot.id
 
 -- the parts, one behind the other
-abbrev pub status_text : List ℕ → ℕ → DeskStatus → Option Ballot → List ℕ
-status_text chain replica status committed =
-    name_text chain replica ++ state_text status ++ views_text status ++ ballot_text status.lock.view status.lock.id
+abbrev pub status_text : List ℕ → ℕ → DeskStatus → (put_back committed : Option Ballot) → List ℕ
+status_text chain replica status put_back committed =
+    name_text chain replica ++ state_text status put_back ++ views_text status ++ ballot_text status.lock.view status.lock.id
     ++ counts_text status ++ codes ",\"committed\":" ++ committed_text committed ++ codes "}\n"
 
-abbrev pub IsStatusTold : List ℕ → ℕ → DeskStatus → Option Ballot → Response → Type 0
-IsStatusTold committee replica status committed response =
-    IsResponse 200 (fields_of_kind Json) (status_text (chain_id_of committee) replica status committed) response
+abbrev pub IsStatusTold : List ℕ → ℕ → DeskStatus → (put_back committed : Option Ballot) → Response → Type 0
+IsStatusTold committee replica status put_back committed response =
+    IsResponse 200 (fields_of_kind Json) (status_text (chain_id_of committee) replica status put_back committed) response

@@ -1,6 +1,8 @@
 -- The line that tells what came of a call, and its status.
-use Rattle.std.specs.Prelude.{ℕ, List, codes}
+use Rattle.std.specs.Prelude.{ℕ, List, ◌++◌, codes, decimal}
+use Rattle.hex.specs.Hex.{encode_lower}
 use Rattle.blocks.specs.HeaderReading.{header_refusal_number}
+use Rattle.blocks.specs.declared.ballot.Ballot.{Ballot}
 use Rattle.certificates.specs.BlockChecks.{block_refusal_number}
 use Rattle.certificates.specs.CertificateReading.{certificate_refusal_number}
 use Rattle.replica_core.specs.Admission.{core_refusal_number}
@@ -30,6 +32,11 @@ told_line (came.RefusedBlock refusal) =
     named_line (codes "refused block ") (block_refusal_number refusal) (block_refusal_name refusal)
 told_line (came.RefusedByDesk refusal) = named_desk_line refusal
 told_line outcome = outcome_line outcome
+
+-- "stopped vote view V id ID not in the log"
+abbrev pub put_back_line : Ballot → List ℕ
+put_back_line ballot =
+    codes "stopped vote view " ++ decimal ballot.view ++ codes " id " ++ encode_lower ballot.id ++ codes " not in the log\n"
 
 -- ---- statuses
 

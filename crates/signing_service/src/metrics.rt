@@ -2,7 +2,7 @@
 
 ghost use Rattle.std.specs.Prelude.{◌≡◌, ◌≤◌, ◌+◌, ◌++◌, []};
 ghost use Rattle.http_server.specs.Response.{IsResponse};
-ghost use Rattle.signing_service.specs.Metrics.{IsMetricsTold, committed_view, metrics_text, number_of, answers_text, refusals_text, times_text, calls_text, doors_text, arguments_text, views_text, rooms_text, process_text};
+ghost use Rattle.signing_service.specs.Metrics.{IsMetricsTold, committed_view, is_stopped, metrics_text, number_of, answers_text, refusals_text, times_text, calls_text, doors_text, arguments_text, views_text, rooms_text, process_text};
 ghost use Rattle.signing_service.specs.Responses.{HasRoom, fields_of_kind};
 
 use crate::tallies::Numbers;
@@ -19,17 +19,18 @@ pub(crate) fn tell_metrics(
     response: &mut Response,
     numbers: &Numbers,
     status: &DeskStatus,
+    put_back: &Option<Ballot>,
     committed: &Option<Ballot>,
 )
     requires { HasRoom (fields_of_kind Kind.Metrics) METRICS_ROOM response.old }
-    ensures { IsMetricsTold numbers.now status.now committed.now response.new }
+    ensures { IsMetricsTold numbers.now status.now put_back.now committed.now response.new }
 {
     put_metrics(
         &mut response.body,
         numbers,
         status,
         view_of(committed),
-        number_of(status.stopped),
+        number_of(is_stopped(status, put_back)),
     );
 }
 
@@ -56,6 +57,15 @@ fn view_of(committed: &Option<Ballot>) -> u64
     match committed {
         Some(ballot) => ballot.view,
         None => 0,
+    }
+}
+
+fn is_stopped(status: &DeskStatus, put_back: &Option<Ballot>) -> bool
+    ensures { result ≡ is_stopped status.now put_back.now }
+{
+    match put_back {
+        Some(_) => true,
+        None => status.stopped,
     }
 }
 
@@ -270,7 +280,7 @@ fn put_rooms(body: &mut Rope, status: &DeskStatus, stopped: u8)
     );
     put_field(
         body,
-        b"\n# HELP hs_signer_stopped Whether a disk failed.\n# TYPE hs_signer_stopped gauge\nhs_signer_stopped ",
+        b"\n# HELP hs_signer_stopped Whether a disk failed, or the log was put back.\n# TYPE hs_signer_stopped gauge\nhs_signer_stopped ",
         stopped,
     );
 }

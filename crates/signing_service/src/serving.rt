@@ -11,6 +11,7 @@ use crate::signer::Signer;
 use crate::witness::Witness;
 use good_votes::Checker;
 use http_server::{Connection, serve};
+use signer_answers::{Approver, Keeper};
 use stable_log::Disk;
 use std::io;
 use std::io::{Read, Write};
@@ -25,11 +26,12 @@ pub fn serve_calls<
     T: Wait + Clock,
     D: Disk,
     V: Checker,
+    A: Approver + Keeper,
     S: Witness,
     R: Read,
     W: Write,
 >(
-    signer: &mut Signer<'a, N, T, D, V, S>,
+    signer: &mut Signer<'a, N, T, D, V, A, S>,
     connection: &mut Connection,
     reader: &mut R,
     writer: &mut W,
@@ -39,7 +41,7 @@ pub fn serve_calls<
     // Each call has a reading, and was told what its call is told. The receipt of each vote that was told is in the
     // session: so the vote stands in the log.
     ensures backed { All (IsBacked D.Disk N.committee N.replica N.opening signer.old.rules.now
-        signer.new.session.receipts.items) (history connection.new).calls }
+        (A.tells signer.old.approver.now) signer.new.session.receipts.items) (history connection.new).calls }
     ensures grows { ReceiptsGrow signer.old.session.receipts.items
         signer.new.session.receipts.items }
 

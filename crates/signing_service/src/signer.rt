@@ -2,7 +2,7 @@
 
 ghost use Rattle.std.specs.Prelude.{◌≡◌, ◌<◌, ◌≤◌, ◌+◌, IsFalse, IsTrue, OnErr, OnOk, Option, codes};
 ghost use Rattle.http_server.specs.Response.{IsBlank};
-ghost use Rattle.signing_service.specs.CallAnswers.{IsCallServed, IsDeskHealthTold, IsDeskMetricsTold, IsDeskStatusTold, IsFar, IsHeaderTold, IsNear, IsOutcomeOf, IsPartTold, IsServed, IsVoteTold, SomeOne, committed_by, from_export, parent_view_of, receipts_told};
+ghost use Rattle.signing_service.specs.CallAnswers.{IsCallServed, IsDeskHealthTold, IsDeskMetricsTold, IsDeskStatusTold, IsFar, IsHeaderTold, IsNear, IsOutcomeOf, IsPartTold, IsServed, IsVoteJudged, IsVoteTold, SomeOne, committed_by, from_export, parent_view_of, receipts_told};
 ghost use Rattle.signing_service.specs.Refusals.{IsRefusalTold, refusal_fields};
 ghost use Rattle.signing_service.specs.Responses.{IsLine, IsReady};
 
@@ -13,16 +13,17 @@ use crate::metrics::{METRICS_ROOM, tell_metrics};
 use crate::refusing::{refuse, tell_refused};
 use crate::status::tell_status;
 use crate::tallies::Tallies;
-use crate::telling::{tell_desk, tell_outcome, tell_receipt, tell_text};
+use crate::telling::{tell_desk, tell_outcome, tell_put_back, tell_receipt, tell_text};
 use crate::witness::{Witness, seen_of};
 use crate::writing::{Kind, fill, make_ready, make_room};
 use blocks::{Ballot, CommitteeView, Id};
 use bytes::Bytes;
+use certificates::SignedVote;
 use good_votes::{Checker, Known};
 use http::Request;
 use http_server::{Response, Service};
-use replica_answers::answer;
 use replica_lines::{Outcome, Request as Asked};
+use signer_answers::{Approver, Keeper, PutBack, Told, answer};
 use signer_calls::{Call, CallRefusal, LogPart, Rules, call_of};
 use stable_log::Disk;
 use std::alloc::{AllocError, Global};
@@ -35,15 +36,25 @@ use vote_log::ExportError;
 
 /// A replica's desk as one caller sees it: each call is answered at once, by what the desk answers.
 #[derive(Drop)]
-pub struct Signer<'a, N: DeskNaming, R: Wait + Clock, D: Disk, V: Checker, W: Witness> {
+pub struct Signer<
+    'a,
+    N: DeskNaming,
+    R: Wait + Clock,
+    D: Disk,
+    V: Checker,
+    A: Approver + Keeper,
+    W: Witness,
+> {
     rt: &'a R,
     alloc: Global,
     desk: &'a Desk<N, D>,
     committee: &'a CommitteeView<'a>,
     verifier: &'a V,
+    approver: &'a A,
     rules: &'a Rules,
     replica: u16,
     commits: &'a Commits<N>,
+    put_back: &'a PutBack<N, D>,
     tallies: &'a Tallies,
     witness: &'a W,
     session: Session<N>,
@@ -51,14 +62,15 @@ pub struct Signer<'a, N: DeskNaming, R: Wait + Clock, D: Disk, V: Checker, W: Wi
     ghost replica_is: { replica ≡ N.replica },
 }
 
-impl<'a, N: DeskNaming, R: Wait + Clock, D: Disk, V: Checker, W: Witness> Signer<
+impl<
     'a,
-    N,
-    R,
-    D,
-    V,
-    W,
-> {
+    N: DeskNaming,
+    R: Wait + Clock,
+    D: Disk,
+    V: Checker,
+    A: Approver + Keeper,
+    W: Witness,
+> Signer<'a, N, R, D, V, A, W> {
     /// The side of the caller of this session. The witness is shown each call that was answered.
     pub fn new(
         rt: &'a R,
@@ -67,16 +79,19 @@ impl<'a, N: DeskNaming, R: Wait + Clock, D: Disk, V: Checker, W: Witness> Signer
         committee: &'a CommitteeView<'a>,
         replica: u16,
         verifier: &'a V,
+        approver: &'a A,
         rules: &'a Rules,
         commits: &'a Commits<N>,
+        put_back: &'a PutBack<N, D>,
         tallies: &'a Tallies,
         witness: &'a W,
         session: Session<N>,
-    ) -> Signer<'a, N, R, D, V, W>
+    ) -> Signer<'a, N, R, D, V, A, W>
         requires committee { committee.now ≡ N.committee }
         requires replica { replica ≡ N.replica }
         ensures session { result.session ≡ session }
         ensures rules { result.rules.now ≡ rules.now }
+        ensures approver { result.approver.now ≡ approver.now }
     {
         Signer {
             rt,
@@ -84,9 +99,11 @@ impl<'a, N: DeskNaming, R: Wait + Clock, D: Disk, V: Checker, W: Witness> Signer
             desk,
             committee,
             verifier,
+            approver,
             rules,
             replica,
             commits,
+            put_back,
             tallies,
             witness,
             session,
@@ -136,49 +153,52 @@ impl<'a, N: DeskNaming, R: Wait + Clock, D: Disk, V: Checker, W: Witness> Signer
         }
     }
 
-    // What comes of a block or a timeout, unless its view lies too far ahead.
-    fn outcome_of(&mut self, asked: Asked) -> Option<Outcome>
+    // What comes of a block or a timeout, unless the log was put back, or its view lies too far ahead.
+    fn outcome_of(&mut self, asked: Asked) -> Option<Told>
         ensures outcome { IsOutcomeOf D.Disk N.committee N.replica N.opening
-            self.old.rules.now.furthest asked result }
+            self.old.rules.now.furthest (A.tells self.old.approver.now) asked result }
         ensures receipts { self.new.session.receipts.items
             ≡ receipts_told self.old.session.receipts.items result }
-        ensures rules { self.new.rules ≡ self.old.rules }
+        ensures same { (self.new.rules ≡ self.old.rules) × (self.new.approver ≡ self.old.approver) }
     {
+        if let Some(ballot) = self.put_back.found(self.rt) {
+            return Some(Told::PutBack(ballot));
+        }
         if self.lies_far(&asked) {
             return None;
         }
         let known = self.known_of(&asked);
         let parent_view = parent_view_of(&asked);
-        let outcome = answer(
+        let told = answer(
             self.rt,
             self.desk,
             self.committee,
             &known,
+            self.approver,
+            self.put_back,
+            self.replica,
             &mut self.session,
             asked,
         );
-        if let Some(id) = committed_by(&outcome) {
+        if let Some(id) = committed_by(&told) {
             let view = parent_view.saturating_sub(2);
             self.commits.note(self.rt, Ballot { view, id });
         }
-        Some(outcome)
+        Some(told)
     }
 
     // .. counted, with the time that a block takes.
-    fn counted_outcome_of(&mut self, asked: Asked) -> Option<Outcome>
+    fn counted_outcome_of(&mut self, asked: Asked) -> Option<Told>
         ensures outcome { IsOutcomeOf D.Disk N.committee N.replica N.opening
-            self.old.rules.now.furthest asked result }
+            self.old.rules.now.furthest (A.tells self.old.approver.now) asked result }
         ensures receipts { self.new.session.receipts.items
             ≡ receipts_told self.old.session.receipts.items result }
-        ensures rules { self.new.rules ≡ self.old.rules }
+        ensures same { (self.new.rules ≡ self.old.rules) × (self.new.approver ≡ self.old.approver) }
     {
         let is_block = is_block(&asked);
         let began = Instant::now(self.rt);
         let outcome = self.outcome_of(asked);
-        match &outcome {
-            Some(outcome) => self.tallies.count_outcome(self.rt, outcome),
-            None => self.tallies.count_refusal(self.rt, CallRefusal::Far),
-        }
+        self.count(&outcome);
         if is_block {
             self.tallies
                 .count_block(self.rt, micros_since(self.rt, began));
@@ -186,18 +206,31 @@ impl<'a, N: DeskNaming, R: Wait + Clock, D: Disk, V: Checker, W: Witness> Signer
         outcome
     }
 
+    // Counts what is told of a block or a timeout. That the log was put back counts as the desk's refusal.
+    fn count(&self, told: &Option<Told>) {
+        match told {
+            Some(Told::Came(outcome)) => self.tallies.count_outcome(self.rt, outcome),
+            Some(Told::PutBack(_)) => {
+                let refused = Outcome::RefusedByDesk(DeskError::Stopped);
+                self.tallies.count_outcome(self.rt, &refused);
+            }
+            None => self.tallies.count_refusal(self.rt, CallRefusal::Far),
+        }
+    }
+
     // Does what is asked of the replica. Room for the answer is made first: behind that nothing fails.
     fn ask(&mut self, asked: Asked, response: &mut Response) -> Result<(), AllocError>
         requires { IsBlank response.old }
         ensures ok { OnOk result (IsCallServed D.Disk N.committee N.replica N.opening
-            self.old.rules.now (Call.Replica asked) self.old.session.receipts.items response.new
+            self.old.rules.now (A.tells self.old.approver.now) (Call.Replica asked) self.old.session.receipts.items response.new
             self.new.session.receipts.items) }
-        ensures rules { self.new.rules ≡ self.old.rules }
+        ensures same { (self.new.rules ≡ self.old.rules) × (self.new.approver ≡ self.old.approver) }
         ensures err { OnErr result (self.new ≡ self.old) }
     {
         make_ready(response, Kind::Text)?;
         match self.counted_outcome_of(asked) {
-            Some(outcome) => tell_outcome(response, &outcome),
+            Some(Told::Came(outcome)) => tell_outcome(response, &outcome),
+            Some(Told::PutBack(ballot)) => tell_put_back(response, &ballot),
             None => tell_refused(response, CallRefusal::Far),
         }
         Ok(())
@@ -275,8 +308,25 @@ impl<'a, N: DeskNaming, R: Wait + Clock, D: Disk, V: Checker, W: Witness> Signer
             (IsDeskHealthTold D.Disk N.committee N.replica N.opening response.new) }
     {
         make_ready(response, Kind::Text)?;
-        tell_health(response, &self.desk.status(self.rt));
+        match self.put_back.found(self.rt) {
+            Some(ballot) => tell_put_back(response, &ballot),
+            None => tell_health(response, &self.desk.status(self.rt)),
+        }
         Ok(())
+    }
+
+    // Tells whether a vote is good, unless the log was put back.
+    fn judge(&self, vote: &SignedVote, response: &mut Response) -> Result<(), AllocError>
+        requires { IsBlank response.old }
+        ensures { OnOk result
+            (IsVoteJudged D.Disk N.committee N.replica N.opening vote.now response.new) }
+    {
+        if let Some(ballot) = self.put_back.found(self.rt) {
+            make_ready(response, Kind::Text)?;
+            tell_put_back(response, &ballot);
+            return Ok(());
+        }
+        tell_judgement(self.committee, self.verifier, vote, response)
     }
 
     // Tells what the desk is at.
@@ -287,8 +337,16 @@ impl<'a, N: DeskNaming, R: Wait + Clock, D: Disk, V: Checker, W: Witness> Signer
     {
         make_ready(response, Kind::Json)?;
         let status = self.desk.status(self.rt);
+        let put_back = self.put_back.found(self.rt);
         let committed = self.commits.last(self.rt);
-        tell_status(response, self.committee, self.replica, &status, &committed);
+        tell_status(
+            response,
+            self.committee,
+            self.replica,
+            &status,
+            &put_back,
+            &committed,
+        );
         Ok(())
     }
 
@@ -301,8 +359,9 @@ impl<'a, N: DeskNaming, R: Wait + Clock, D: Disk, V: Checker, W: Witness> Signer
         make_room(response, Kind::Metrics, METRICS_ROOM)?;
         let numbers = self.tallies.numbers(self.rt);
         let status = self.desk.status(self.rt);
+        let put_back = self.put_back.found(self.rt);
         let committed = self.commits.last(self.rt);
-        tell_metrics(response, &numbers, &status, &committed);
+        tell_metrics(response, &numbers, &status, &put_back, &committed);
         Ok(())
     }
 
@@ -310,14 +369,14 @@ impl<'a, N: DeskNaming, R: Wait + Clock, D: Disk, V: Checker, W: Witness> Signer
     fn do_call(&mut self, call: Call, response: &mut Response) -> Result<(), AllocError>
         requires { IsBlank response.old }
         ensures ok { OnOk result (IsCallServed D.Disk N.committee N.replica N.opening
-            self.old.rules.now call self.old.session.receipts.items response.new
+            self.old.rules.now (A.tells self.old.approver.now) call self.old.session.receipts.items response.new
             self.new.session.receipts.items) }
-        ensures rules { self.new.rules ≡ self.old.rules }
+        ensures same { (self.new.rules ≡ self.old.rules) × (self.new.approver ≡ self.old.approver) }
         ensures err { OnErr result (self.new ≡ self.old) }
     {
         match call {
             Call::Replica(asked) => self.ask(asked, response),
-            Call::Judge(vote) => { tell_judgement(self.committee, self.verifier, &vote, response) },
+            Call::Judge(vote) => self.judge(&vote, response),
             Call::VoteIn(view) => self.tell_vote(view, response),
             Call::Header(id) => self.tell_header(&id, response),
             Call::Log(part) => self.hand_out(part, response),
@@ -330,12 +389,19 @@ impl<'a, N: DeskNaming, R: Wait + Clock, D: Disk, V: Checker, W: Witness> Signer
     }
 }
 
-impl<'a, N: DeskNaming, R: Wait + Clock, D: Disk, V: Checker, W: Witness> Service
-    for Signer<'a, N, R, D, V, W> {
+impl<
+    'a,
+    N: DeskNaming,
+    R: Wait + Clock,
+    D: Disk,
+    V: Checker,
+    A: Approver + Keeper,
+    W: Witness,
+> Service for Signer<'a, N, R, D, V, A, W> {
     ghost answers = { λ old request response new.
-        IsServed D.Disk N.committee N.replica N.opening old.rules.now
+        IsServed D.Disk N.committee N.replica N.opening old.rules.now (A.tells old.approver.now)
         old.session.receipts.items request response new.session.receipts.items
-        × (new.rules ≡ old.rules) };
+        × (new.rules ≡ old.rules) × (new.approver ≡ old.approver) };
 
     fn call(
         &mut self,
@@ -377,12 +443,12 @@ fn parent_view_of(asked: &Asked) -> u64
     }
 }
 
-// The block that an outcome commits.
-fn committed_by(outcome: &Outcome) -> Option<Id>
-    ensures { result ≡ committed_by outcome.now }
+// The block that is committed by what was told.
+fn committed_by(told: &Told) -> Option<Id>
+    ensures { result ≡ committed_by told.now }
 {
-    match outcome {
-        Outcome::Replied(reply) => reply.committed,
+    match told {
+        Told::Came(Outcome::Replied(reply)) => reply.committed,
         _ => None,
     }
 }

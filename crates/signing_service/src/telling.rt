@@ -5,9 +5,9 @@ ghost use Rattle.hex.specs.Hex.{encode_lower};
 ghost use Rattle.certificates.specs.Votes.{vote_text};
 ghost use Rattle.vote_desk.specs.declared.reply.Answer.TheVariants.{Voted};
 ghost use Rattle.replica_lines.specs.OutcomeLines.{answer_text, commit_text, numbered_line};
-ghost use Rattle.signing_service.specs.CallAnswers.{IsDeskTold, IsReceiptTold};
+ghost use Rattle.signing_service.specs.CallAnswers.{IsDeskTold, IsPutBackTold, IsReceiptTold};
 ghost use Rattle.signing_service.specs.Responses.{IsLine, IsReady, fields_of_kind, named_line};
-ghost use Rattle.signing_service.specs.ToldLines.{core_status, desk_status, named_desk_line, outcome_status, told_line};
+ghost use Rattle.signing_service.specs.ToldLines.{core_status, desk_status, named_desk_line, outcome_status, put_back_line, told_line};
 ghost use Rattle.signing_service.specs.declared.writing.TheConstants.{ROOM};
 
 use crate::names::{
@@ -15,7 +15,7 @@ use crate::names::{
     header_refusal_name,
 };
 use crate::writing::{Kind, put, put_number};
-use blocks::Id;
+use blocks::{Ballot, Id};
 use certificates::{SignedVote, VOTE_LEN};
 use http::StatusCode;
 use http_server::{Response, Rope};
@@ -31,6 +31,26 @@ pub(crate) fn tell_outcome(response: &mut Response, outcome: &Outcome)
 {
     response.status = outcome_status(outcome);
     put_outcome(&mut response.body, outcome);
+}
+
+// Tells that the log was put back.
+pub(crate) fn tell_put_back(response: &mut Response, ballot: &Ballot)
+    requires { IsReady (fields_of_kind Kind.Text) response.old }
+    ensures { IsPutBackTold ballot.now response.new }
+{
+    response.status = StatusCode::SERVICE_UNAVAILABLE;
+    put_put_back(&mut response.body, ballot);
+}
+
+fn put_put_back(body: &mut Rope, ballot: &Ballot)
+    requires { (body.old.items ≡ []) × (ROOM ≤ body.old.spare) }
+    ensures { body.new.items ≡ put_back_line ballot.now }
+{
+    put(body, b"stopped vote view ");
+    put_number(body, ballot.view);
+    put(body, b" id ");
+    put(body, &id_digits(&ballot.id));
+    put(body, b" not in the log\n");
 }
 
 // Tells why the desk refuses.

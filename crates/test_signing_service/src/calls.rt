@@ -9,7 +9,9 @@ use http_server::{Config, Connection};
 use key_index_store::IndexStore;
 use lmots::PrivateSeed;
 use lms_tree::SigningTree;
-use signing_service::{Commits, Rules, Seen, Signer, Tallies, Witness, serve_calls};
+use signing_service::{
+    Commits, NoSuccessor, PutBack, Rules, Seen, Signer, Tallies, Witness, serve_calls,
+};
 use stable_log::MemoryDisk;
 use std::alloc::{AllocError, Global};
 use std::hash::RandomState;
@@ -112,8 +114,21 @@ fn sent<N: DeskNaming, R: Threads + Wait + Clock>(
     let (commits, tallies) = (Commits::new(), Tallies::new(0));
     let good = GoodVotes::new(alloc);
     let checker = SideBySide::new(rt, &good);
+    let put_back = PutBack::new();
     let mut signer = Signer::new(
-        rt, alloc, &desk, committee, 0, &checker, rules, &commits, &tallies, counts, session,
+        rt,
+        alloc,
+        &desk,
+        committee,
+        0,
+        &checker,
+        &NoSuccessor,
+        rules,
+        &commits,
+        &put_back,
+        &tallies,
+        counts,
+        session,
     );
     let mut connection = Connection::new(alloc, keys, Config::default());
     let mut reader = input;

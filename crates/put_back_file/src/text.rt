@@ -1,0 +1,31 @@
+//! The bytes of the file.
+
+ghost use Rattle.std.specs.Prelude.{◌≡◌, IfOk};
+ghost use Rattle.put_back_file.specs.PutBackFiles.{put_back_text};
+
+use blocks::Header;
+use certificates::Certificate;
+use std::alloc::{AllocError, Global};
+use wire::append;
+
+/// The name of the file in a replica's folder.
+pub const PUT_BACK: &str = "put-back";
+
+/// What is written down where the block of this header came with this certificate, which has a vote that the log, of so many
+/// entries, lacks: docs/FORMATS.md lays it out. `AllocError` where memory was refused.
+pub fn put_back_text(
+    alloc: Global,
+    entries: u32,
+    header: &Header,
+    certificate: &Certificate,
+) -> Result<Vec<u8>, AllocError>
+    ensures { IfOk result (λ text. text.items
+        ≡ put_back_text entries header.now certificate.now) }
+{
+    let mut text = Vec::new(alloc);
+    append(&mut text, b"HSP1")?;
+    append(&mut text, &entries.to_be_bytes())?;
+    append(&mut text, &header.to_bytes())?;
+    append(&mut text, &certificate.write(alloc)?)?;
+    Ok(text)
+}

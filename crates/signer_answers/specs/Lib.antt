@@ -1,0 +1,4 @@
+pub mod Approvals
+pub mod Guards
+pub mod BlockAnswers
+pub mod Tellings

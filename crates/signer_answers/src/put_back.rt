@@ -1,0 +1,93 @@
+//! Whether a log was found to be put back.
+
+ghost use Rattle.std.specs.Prelude.{◌≡◌, IfSome, None, Some};
+ghost use Rattle.signer_answers.specs.Guards.{IsPutBack};
+
+use blocks::Ballot;
+use stable_log::Disk;
+use std::marker::{Model, PhantomData};
+use std::sync::{Mutex, Wait};
+use vote_desk::DeskNaming;
+
+/// Whether the log of a desk was found to be put back, since the start: one value for all its callers.
+#[derive(Drop)]
+pub struct PutBack<N: DeskNaming, D: Disk> {
+    stop: Mutex<Stop<N, D>>,
+}
+
+impl<N: DeskNaming, D: Disk> PutBack<N, D> {
+    /// Not yet.
+    pub fn new() -> PutBack<N, D> {
+        PutBack {
+            stop: Mutex::new(Stop::new()),
+        }
+    }
+
+    /// What the certificate was on that showed it first, if one did.
+    pub fn found<R: Wait>(&self, rt: &R) -> Option<Ballot>
+        ensures { IfSome result (IsPutBack D.Disk N.committee N.replica N.opening) }
+    {
+        let stop = self.stop.lock(rt);
+        let stop = &*stop;
+        stop.ballot()
+    }
+
+    // It was found. Answers whether for the first time.
+    pub(crate) fn find<R: Wait>(&self, rt: &R, ballot: Ballot) -> bool
+        requires { IsPutBack D.Disk N.committee N.replica N.opening ballot }
+    {
+        let mut stop = self.stop.lock(rt);
+        let stop = &mut *stop;
+        if stop.ballot().is_some() {
+            return false;
+        }
+        stop.set(ballot);
+        true
+    }
+}
+
+// What the certificate was on that showed it first, if one did.
+#[derive(Drop)]
+struct Stop<N: DeskNaming, D: Disk> {
+    ballot: Option<Ballot>,
+    named: PhantomData<N>,
+    stored: PhantomData<D>,
+}
+
+impl<N: DeskNaming, D: Disk> Model for Stop<N, D> {
+    ghost use Rattle.std.specs.Prelude.{Option, IfSome};
+    ghost use Rattle.blocks.specs.declared.ballot.Ballot.{Ballot};
+    ghost use Rattle.signer_answers.specs.Guards.{IsPutBack};
+
+    ghost Value = { Option Ballot };
+
+    ghost view = { λ s. s.ballot };
+
+    ghost invariant = { λ s. IfSome s.ballot (IsPutBack D.Disk N.committee N.replica N.opening) };
+}
+
+impl<N: DeskNaming, D: Disk> Stop<N, D> {
+    fn new() -> Stop<N, D>
+        ensures { result ≡ None }
+    {
+        Stop {
+            ballot: None,
+            named: PhantomData,
+            stored: PhantomData,
+        }
+    }
+
+    fn ballot(&self) -> Option<Ballot>
+        ensures value { result ≡ self.now }
+        ensures found { IfSome result (IsPutBack D.Disk N.committee N.replica N.opening) }
+    {
+        self.ballot
+    }
+
+    fn set(&mut self, ballot: Ballot)
+        requires { IsPutBack D.Disk N.committee N.replica N.opening ballot }
+        ensures { self.new ≡ Some ballot }
+    {
+        self.ballot = Some(ballot);
+    }
+}

@@ -1,0 +1,91 @@
+//! The file of the committee that may come next, which is read anew each time that it is asked for.
+
+ghost use Rattle.std.specs.Prelude.{◌≡◌, ◌≢◌, IfErr, IfOk, IfSome, None};
+ghost use Rattle.signer_command.specs.Approved.{IsApprovable};
+ghost use Rattle.successor_files.specs.Successors.{IsSuccessorPayload};
+
+use crate::notes::Notes;
+use blocks::CommitteeView;
+use program_parts::{MOST_OF_A_SHORT_FILE, read_at_most};
+use std::alloc::Global;
+use std::fs::{File, Files};
+use std::io::ErrorKind;
+use std::sync::{Mutex, Wait};
+use streams::Sink;
+use successor_files::{SuccessorRefusal, successor_payload};
+
+/// What `--successor` names, if it does.
+#[derive(Drop)]
+pub(crate) struct Successor<'a, T: Wait, S: Sink> {
+    pub rt: &'a T,
+    pub alloc: Global,
+    pub committee: &'a CommitteeView<'a>,
+    pub path: Option<&'a str>,
+    notes: &'a Notes<'a, T, S>,
+    /// Why the file was as if it were not there, as it was told last.
+    told: Mutex<Option<SuccessorRefusal>>,
+}
+
+impl<'a, T: Wait + Files<File = File>, S: Sink> Successor<'a, T, S> {
+    pub fn new(
+        rt: &'a T,
+        alloc: Global,
+        committee: &'a CommitteeView<'a>,
+        path: Option<&'a str>,
+        notes: &'a Notes<'a, T, S>,
+    ) -> Successor<'a, T, S> {
+        Successor {
+            rt,
+            alloc,
+            committee,
+            path,
+            notes,
+            told: Mutex::new(None),
+        }
+    }
+
+    // The payload that names the file at this path; none where there is no file.
+    fn payload_at(&self, path: &str) -> Result<Option<[u8; 32]>, SuccessorRefusal>
+        ensures { IfOk result (λ payload.
+            IfSome payload (IsSuccessorPayload self.now.committee.now)) }
+    {
+        let file = match File::open(self.rt, path) {
+            Ok(file) => file,
+            Err(error) if error.kind() == ErrorKind::NotFound => return Ok(None),
+            Err(_) => return Err(SuccessorRefusal::NotRead),
+        };
+        let Ok(bytes) = read_at_most(self.alloc, file, MOST_OF_A_SHORT_FILE) else {
+            return Err(SuccessorRefusal::NotRead);
+        };
+        match successor_payload(self.committee, &bytes) {
+            Ok(payload) => Ok(Some(payload)),
+            Err(refusal) => Err(refusal),
+        }
+    }
+
+    // Tells why the file is as if it were not there, unless that was told last.
+    fn tell(&self, refusal: SuccessorRefusal) {
+        let mut told = self.told.lock(self.rt);
+        if *told == Some(refusal) {
+            return;
+        }
+        *told = Some(refusal);
+        self.notes.tell(refusal.line().as_bytes());
+    }
+
+    /// The payload of the block that hands over to the committee of the file as it is now; none where there is none.
+    pub fn approved(&self) -> Option<[u8; 32]>
+        ensures { IsApprovable self.now.committee.now self.now.path result }
+    {
+        let Some(path) = self.path else {
+            return None;
+        };
+        match self.payload_at(path) {
+            Ok(payload) => payload,
+            Err(refusal) => {
+                self.tell(refusal);
+                None
+            }
+        }
+    }
+}

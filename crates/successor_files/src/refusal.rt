@@ -1,0 +1,42 @@
+//! Why a file is as if it were not there, and the line that says so.
+
+ghost use Rattle.std.specs.Prelude.{◌≡◌};
+ghost use Rattle.successor_files.specs.Successors.{successor_line};
+
+use blocks::CommitteeRefusal;
+use itoa::Buffer;
+use printed_lines::{Line, refusal_text};
+
+/// Why the file of the committee that may come next is as if it were not there.
+#[derive(Clone, Copy, Debug, PartialEq, Eq)]
+pub enum SuccessorRefusal {
+    /// It can't be opened or read.
+    NotRead,
+    /// It is no committee's.
+    Committee(CommitteeRefusal),
+    /// 8: the key of this number is a key of the old committee too, and it is the least such number.
+    OldKey(u16),
+}
+
+impl SuccessorRefusal {
+    /// `successor not read`, or `successor N NAME` with the number and the name that docs/REFUSALS.md gives it and what it
+    /// names.
+    pub fn line(self) -> Line
+        ensures { result ≡ successor_line self }
+    {
+        let mut line = Line::new();
+        match self {
+            SuccessorRefusal::NotRead => line.push(b"successor not read"),
+            SuccessorRefusal::Committee(refusal) => {
+                line.push(b"successor ");
+                line.push(refusal_text(refusal).as_bytes());
+            }
+            SuccessorRefusal::OldKey(key) => {
+                line.push(b"successor 8 OldKey ");
+                line.push(Buffer::new().format(key).as_bytes());
+            }
+        }
+        line.push(b"\n");
+        line
+    }
+}
