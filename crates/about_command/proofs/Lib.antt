@@ -1,2 +1,3 @@
 mod Pieces
 mod Sayings
+pub mod WordLists

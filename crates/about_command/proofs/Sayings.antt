@@ -1,5 +1,5 @@
 -- One row more is said.
-use Rattle.std.proofs.Common.{◌≡◌, ◌∙◌, ◌++◌, ℕ, Bool, true, false, List, ap, append_assoc}
+use Rattle.std.proofs.Common.{◌∙◌, ◌++◌, ℕ, Bool, true, false, List, ap, append_assoc}
 use Rattle.about_command.specs.Explaining.{AreSaid, IsSaid, said}
 
 pub said_more : (old mid new : List ℕ) (is_known : Bool) → AreSaid old mid is_known → IsSaid mid new true → AreSaid old new true

@@ -1,12 +1,13 @@
 //! What words ask for beside files, over handed-in words and streams.
 
-ghost use Rattle.std.specs.Prelude.{◌≡◌, ◌≢◌, List, ℕ, IfOk};
+ghost use Rattle.std.specs.Prelude.{◌≡◌, ◌≢◌, ◌↔◌, ◌∷◌, [], List, ℕ, IfErr, IfOk, IfSome, IsNone, IsTrue, codes};
 ghost use Rattle.streams.specs.Streams.{Wrote};
 ghost use Rattle.printed_lines.specs.Printed.{Told};
 ghost use Rattle.program_parts.specs.FaultLines.{fault_line, no_fault_line};
 ghost use Rattle.program_parts.specs.declared.no_fault.NoFault.{NoFault as OwnFaultValue};
 ghost use Rattle.program_parts.specs.declared.program_fault.ProgramFault.{ProgramFault as FaultValue};
-ghost use Rattle.about_command.specs.About.{Tells};
+ghost use Rattle.about_command.specs.About.{AskBesideFiles, AskForLine, AskForSheet, AskRightly, IsExplanation, IsOption, IsSheetOfFiles, Tells, statement_words, texts};
+ghost use Rattle.about_command.specs.Versions.{help_text, version_line};
 
 use crate::about::{put_help, put_version};
 use crate::explaining::put_explanations;
@@ -27,11 +28,19 @@ const TOLD: u8 = 0;
 const UNKNOWN: u8 = 1;
 
 /// Whether words ask for something beside files.
-pub fn asks_about(words: &[String]) -> bool {
-    let Some(option) = words.first() else {
-        return false;
-    };
-    ["--version", "--help", "--explain", "--statement"].contains(&option.as_str())
+pub fn asks_about(words: &[String]) -> bool
+    ensures { IsTrue result ↔ AskBesideFiles (texts words.now) }
+{
+    match words {
+        [option, ..] => is_option(option.as_str()),
+        [] => false,
+    }
+}
+
+fn is_option(word: &str) -> bool
+    ensures { IsTrue result ↔ IsOption word.now }
+{
+    matches!(word, "--version" | "--help" | "--explain" | "--statement")
 }
 
 /// Tells what the words ask for beside files, and answers the exit status: 0 where it was told, 1 where a line is not known or a verdict
@@ -44,9 +53,10 @@ pub fn run_about<F: Files<File = File>, W: Sink, E: Sink>(
     faults: &mut E,
 ) -> u8
     ensures told { result ≢ 2 → (text : List ℕ)
-        × Tells result text × Wrote (W.text out.old) (W.text out.new) text }
+        × Tells (texts words.now) result text × Wrote (W.text out.old) (W.text out.new) text }
     ensures silent { result ≢ 2 → faults.new ≡ faults.old }
     ensures given_up { result ≡ 2 → (fault : FaultValue OwnFaultValue)
+        × (fault ≡ ProgramFault.Usage → AskRightly (texts words.now) → ⊥)
         × Told (E.text faults.old) (E.text faults.new) (E.failed faults.old) (E.failed faults.new)
         (fault_line no_fault_line fault) }
 {
@@ -59,8 +69,10 @@ fn tell<'a, F: Files<File = File>, W: Sink>(
     words: &'a [String],
     out: &mut W,
 ) -> Result<u8, ProgramFault<'a, NoFault>>
-    ensures { IfOk result (λ status. (text : List ℕ)
-        × Tells status text × Wrote (W.text out.old) (W.text out.new) text) }
+    ensures told { IfOk result (λ status. (text : List ℕ)
+        × Tells (texts words.now) status text × Wrote (W.text out.old) (W.text out.new) text) }
+    ensures usage { IfErr result (λ fault. fault ≡ ProgramFault.Usage
+        → AskRightly (texts words.now) → ⊥) }
 {
     let sheet = answer(rt, alloc, words)?;
     write_out(out, &sheet.text)?;
@@ -72,24 +84,82 @@ fn answer<'a, F: Files<File = File>>(
     alloc: Global,
     words: &'a [String],
 ) -> Result<Sheet, ProgramFault<'a, NoFault>>
-    ensures { IfOk result (λ s. Tells s.status s.text.items) }
+    ensures told { IfOk result (λ s. Tells (texts words.now) s.status s.text.items) }
+    ensures usage { IfErr result (λ fault. fault ≡ ProgramFault.Usage
+        → AskRightly (texts words.now) → ⊥) }
+{
+    if are_alone(words, "--version") {
+        return Ok(version(alloc)?);
+    }
+    if are_alone(words, "--help") {
+        return Ok(help(alloc)?);
+    }
+    if let Some(paths) = paths_of(words) {
+        return read_sheet(rt, alloc, paths.verdict, paths.committee);
+    }
+    match line_of(words) {
+        Some(line) => Ok(explanation(alloc, line)?),
+        None => Err(ProgramFault::Usage),
+    }
+}
+
+// Whether the words are this one alone.
+fn are_alone(words: &[String], option: &str) -> bool
+    ensures { IsTrue result ↔ (texts words.now ≡ option.now ∷ []) }
 {
     match words {
-        [option] if option.as_str() == "--version" => Ok(version(alloc)?),
-        [option] if option.as_str() == "--help" => Ok(help(alloc)?),
-        [option, verdict, with, committee]
-            if option.as_str() == "--statement" && with.as_str() == "--committee" => {
-            read_sheet(rt, alloc, verdict.as_str(), committee.as_str())
+        [word] => word.as_str() == option,
+        _ => false,
+    }
+}
+
+// The files of a sheet.
+#[derive(Clone, Copy)]
+struct SheetPaths<'a> {
+    verdict: &'a str,
+    committee: &'a str,
+}
+
+// The paths behind `--statement` and `--committee`.
+fn paths_of<'a>(words: &'a [String]) -> Option<SheetPaths<'a>>
+    ensures none { IsNone result → AskForSheet (texts words.now) → ⊥ }
+    ensures some { IfSome result (λ p.
+        texts words.now ≡ statement_words p.verdict.now p.committee.now) }
+{
+    match words {
+        [option, verdict, with, committee] => {
+            if option.as_str() != "--statement" || with.as_str() != "--committee" {
+                return None;
+            }
+            Some(SheetPaths {
+                verdict: verdict.as_str(),
+                committee: committee.as_str(),
+            })
         }
-        [option, line @ ..] if option.as_str() == "--explain" && !line.is_empty() => {
-            Ok(explanation(alloc, line)?)
+        _ => None,
+    }
+}
+
+// The words behind `--explain`, if there is one.
+fn line_of<'a>(words: &'a [String]) -> Option<&'a [String]>
+    ensures none { IsNone result → AskForLine (texts words.now) → ⊥ }
+    ensures some { IfSome result (λ line. (texts line.now ≢ [])
+        × (texts words.now ≡ codes "--explain" ∷ texts line.now)) }
+{
+    match words {
+        [option, line @ ..] => {
+            if option.as_str() != "--explain" || line.is_empty() {
+                return None;
+            }
+            Some(line)
         }
-        _ => Err(ProgramFault::Usage),
+        [] => None,
     }
 }
 
 fn version(alloc: Global) -> Result<Sheet, AllocError>
-    ensures { IfOk result (λ s. Tells s.status s.text.items) }
+    ensures status { IfOk result (λ s. s.status ≡ 0) }
+    ensures text { IfOk result (λ s. s.text.items ≡ version_line) }
 {
     let mut text = Vec::new(alloc);
     put_version(&mut text)?;
@@ -97,7 +167,8 @@ fn version(alloc: Global) -> Result<Sheet, AllocError>
 }
 
 fn help(alloc: Global) -> Result<Sheet, AllocError>
-    ensures { IfOk result (λ s. Tells s.status s.text.items) }
+    ensures status { IfOk result (λ s. s.status ≡ 0) }
+    ensures text { IfOk result (λ s. s.text.items ≡ help_text) }
 {
     let mut text = Vec::new(alloc);
     put_help(&mut text)?;
@@ -111,7 +182,9 @@ fn read_sheet<'a, F: Files<File = File>>(
     verdict: &'a str,
     committee: &'a str,
 ) -> Result<Sheet, ProgramFault<'a, NoFault>>
-    ensures { IfOk result (λ s. Tells s.status s.text.items) }
+    ensures status { IfOk result (λ s. s.status ≢ 2) }
+    ensures sheet { IfOk result (λ s. IsSheetOfFiles s.status s.text.items) }
+    ensures asked { IfErr result (λ fault. fault ≢ ProgramFault.Usage) }
 {
     let committee = read_committee(rt, alloc, committee)?;
     let verdict = read_named(rt, alloc, verdict, MOST_OF_A_SHORT_FILE)?;
@@ -121,7 +194,8 @@ fn read_sheet<'a, F: Files<File = File>>(
 
 // What is said of a line, whose words stand one by one or in one of these words.
 fn explanation(alloc: Global, words: &[String]) -> Result<Sheet, AllocError>
-    ensures { IfOk result (λ s. Tells s.status s.text.items) }
+    ensures status { IfOk result (λ s. s.status ≢ 2) }
+    ensures said { IfOk result (λ s. IsExplanation s.status s.text.items) }
 {
     let mut line = String::new(alloc);
     for word in words {

@@ -16,10 +16,31 @@ hs_check | refused 8 NoRuleBroken | Its votes do not break the rule of its kind:
 hs_check | refused 9 SignatureE | The first vote's signature does not verify under the key that it names. | The verdict proves nothing.\n\
 hs_check | refused 10 SignatureW | The second vote's signature does not verify under the key that it names. | The verdict proves nothing.\n\
 hs_check | refused 11 KeyNumber | A vote names a key that the replica has not. | The verdict proves nothing.\n\
+hs_tool audit --why | SOURCE no such file | No file has that path. | Look for a slip in the path.\n\
+hs_tool audit --why | SOURCE a folder | The path is a folder's. | Name the export in it.\n\
+hs_tool audit --why | SOURCE can't be read | The file can't be opened or read, or the call of the server failed for a reason that has no word here. | Look at the rights of the file, or at the server.\n\
+hs_tool audit --why | SOURCE no such host | The address names no host. | Look for a slip, or write the number of the host.\n\
+hs_tool audit --why | SOURCE refused | Nobody listens at the address. | See that the replica hands out its log now (hs_signer --serve, hs_tool replica --serve).\n\
+hs_tool audit --why | SOURCE reset | The host broke the connection off. | Audit again; look at the server.\n\
+hs_tool audit --why | SOURCE timed out after N s | Nothing came for so many seconds. | Audit again; look at the way to the server.\n\
+hs_tool audit --why | SOURCE ends early | The stream ended before its end mark, as that of an empty file does. | Ask for that log again.\n\
+hs_tool audit --why | SOURCE not an export | The bytes are not laid out as an export. | hs_show FILE says what the file is.\n\
+hs_tool audit --why | SOURCE not an export (a journal: see export) | It is a replica's log.hsj. | Where no replica runs on it: hs_tool export LOG OUT, and audit OUT.\n\
+hs_tool audit --why | SOURCE not an export (a committee) | It is a committee's file. | Name the export.\n\
+hs_tool audit --why | SOURCE not an export (a verdict) | It is a verdict. | Name the export; hs_check judges verdicts.\n\
+hs_tool audit --why | SOURCE not an export (a seed) | It has the length of a key's seed. | Never hand a seed out. Name the export.\n\
+hs_tool audit --why | SOURCE the old form: see migrate | Its first frame begins as an entry from before votes named their keys. | hs_tool migrate OLD NEW COMMITTEE carries such a log over.\n\
+hs_tool audit --why | SOURCE K frames are no entries | So many whole frames spell no entry; the log of a correct replica has none. | Ask for another copy; suspect who handed this one out.\n\
+hs_tool audit --why | SOURCE V votes, G good: another committee, or another R? | The log names V different votes, of which G are good. | Compare chain ids (hs_show COMMITTEE), and see that it is the log of that replica.\n\
+hs_tool audit --why | verdict PATH | The verdict on a culprit stands at PATH. | Send it to everyone; each judges it by hs_check COMMITTEE PATH.\n\
+hs_signer | stopped vote view V id ID not in the log | A good certificate on that block has a vote of this replica that its log lacks: its folder was put back to a backup, or its key signs elsewhere too. It votes no more, and wrote DIR/put-back. | Leave put-back where it is, hand out the log, and tell the other operators: the replica counts as one of the f until there is a new committee.\n\
+hs_signer | successor not read | A block that hands over came, and the file of --successor can't be opened or read, or memory was refused. It is as if it were not there, and the block got no vote. | See to the file's mode: it is read anew at the next such block.\n\
+hs_signer | successor N NAME.. | The file of --successor is no committee's, by this refusal (1 to 7, as in fault committee), and is as if it were not there. | Lay the right file down by renaming it into its place; no restart is needed.\n\
+hs_signer | successor 8 OldKey K | Key K of the file of --successor is a key of this committee too: it would sign twice under one one-time key. The file is as if it were not there. | Have that replica make a new key in a new folder, and a new committee's file be made.\n\
 hs_check, hs_tool, hs_show, hs_draw, hs_signer, hs_watch, hs_follow | fault usage | The words are not those of the manual page. | Put the words right.\n\
 hs_check | fault hex | Standard input is not two lines of hex digits. | Give committee and verdict as two lines of hex digits, or name two files.\n\
 hs_tool keygen | fault hex | SEED is not 96 hex digits. | Put SEED right.\n\
-hs_check, hs_tool, hs_show, hs_draw, hs_signer, hs_watch, hs_follow | fault file PATH.. | The file can't be opened, read, made or written, or is there and must not be; of a replica's folder its lock may be held. | Look at the path, its mode and the disk. Never remove a replica's lock, and never write over a file in a replica's folder: the manual page says what was left.\n\
+hs_check, hs_tool, hs_show, hs_draw, hs_signer, hs_watch, hs_follow | fault file PATH.. | The file can't be opened, read, made or written, or is there and must not be; of a replica's folder its lock may be held, or put-back says that its log was put back to a backup. | Look at the path, its mode and the disk. Never remove a replica's lock, and never write over a file in a replica's folder: the manual page says what was left.\n\
 hs_check, hs_tool, hs_show, hs_draw, hs_signer, hs_watch, hs_follow | fault memory | Memory was refused. | Free memory, and look at the manual page for what was left.\n\
 hs_check, hs_tool, hs_show, hs_draw, hs_signer, hs_watch, hs_follow | fault output | The lines could not be written, or not all. | Look at where standard output goes: a disk that is full, a pipe that was closed.\n\
 hs_check, hs_tool, hs_show, hs_draw, hs_signer, hs_watch, hs_follow | fault committee 1 Length | The committee's file has not as many bytes as its replicas ask for. | Get the file from an operator you trust, and compare its chain id.\n\
@@ -44,7 +65,7 @@ hs_tool replica, hs_signer, hs_tool migrate | fault store 9 | An entry of the lo
 hs_tool export | fault store 9 | LOG is an index journal. | Name the replica's log.hsj.\n\
 hs_tool replica, hs_signer, hs_tool migrate | fault store 10 | The log's entries are not in a legal order, or are of another committee. | Compare COMMITTEE and DIR.\n\
 hs_tool replica, hs_signer | fault receipts | The votes that were given out are not those of the log. It can't come: it is a bug. | Stop the replica, keep its folder as it is, and report it.\n\
-hs_tool replica, hs_signer | fault listen | The address can't be listened on. | Put it right, or see which program listens there.\n\
+hs_tool replica, hs_signer, hs_watch | fault listen | The address can't be listened on. | Put it right, or see which program listens there (ss -ltnp).\n\
 hs_signer, hs_watch | fault threads | A thread can't be made. | Look at the limits of processes and of memory.\n\
 hs_tool replica, hs_signer | voted N HEX | The replica voted for the block: entry N of its log, synced before this was told. | Send the vote on. Its bytes stay the replica's only vote in that view.\n\
 hs_tool replica, hs_signer | voted N HEX committed ID | As voted; and by what this process was told the block ID is committed. | Send the vote on, and apply what ID's chain has.\n\
@@ -137,6 +158,9 @@ hs_watch | TIME round N culprit R kept PATH.. | A verdict on replica R was there
 hs_watch | TIME round N source I replica R STATUS frames F entries E | The log of source I ends otherwise than it did. | With Failed, Cut or Broken see that its server runs.\n\
 hs_watch | TIME round N went-back I replica R | The log of source I went back: its replica may have been put back to a backup. | Ask its operator. It accuses nobody.\n\
 hs_watch | TIME round N beyond I replica R | Source I gave a fifth log that fits none of the four before. | Ask its operator.\n\
+hs_watch | listening ADDRESS | What the watch knows is told over HTTP at this address of its machine. | Open it in a browser there; from another machine take ssh -L, or a proxy with TLS and a password.\n\
+hs_watch /health | late | Its last round is older than 30 seconds and twice --every. | See whether the process runs, and start it again.\n\
+hs_watch /health | unstored | A verdict is not stored, and is tried again each round. | Make room in OUTDIR; the verdict is at /verdict-R.hsx meanwhile.\n\
 hs_watch | TIME round N set-aside I replica R | 64 votes of source I were not good; no more of it is read. | It is of another committee or replica, or its server lies.\n\
 hs_watch | TIME round N unstored PATH.. | A verdict can't be stored there, or something else stands there. | Look at OUTDIR and the disk."
 }

@@ -1,6 +1,7 @@
 -- The blocks in a picture.
 use Rattle.std.specs.Prelude.{◌≡◌, ◌++◌, ℕ, List, [], Option, None, Some, codes, decimal}
-use Rattle.blocks.specs.Headers.{header_id}
+use Rattle.blocks.specs.Headers.{Header, header_id}
+use Rattle.handover.specs.Handovers.{IsHandover}
 use Rattle.draw_command.specs.Digits.{short_id, whole_id}
 use Rattle.draw_command.specs.Series.{AreOf}
 use Rattle.draw_command.specs.declared.layout.TheConstants.{BLOCK_HEIGHT, BLOCK_WIDTH}
@@ -103,6 +104,18 @@ IsMarked Certified text = text ≡ []
 IsMarked Committed text = text ≡ []
 IsMarked Conflicting text = (x : ℕ) × (y : ℕ) × (text ≡ conflict_mark x y)
 
+-- below a block that hands over to the next committee
+abbrev pub IsNext : Header → List ℕ → Type 0
+IsNext h text =
+    (IsHandover h → (x : ℕ) × (y : ℕ) × (text ≡ words_line x y (codes "hands over"))) × ((IsHandover h → ⊥) → text ≡ [])
+
+pub record AreMarks (b : Block) (text : List ℕ) : Type 0 where
+  pub above : List ℕ
+  pub is_above : IsMarked b.standing above
+  pub below : List ℕ
+  pub is_below : IsNext b.header below
+  pub text_is : text ≡ above ++ below
+
 -- ---- a block, wherever it stands
 
 unfoldable pub block_front : (class : List ℕ) → List ℕ
@@ -114,7 +127,7 @@ pub record IsBlock (replicas : ℕ) (total : Option ℕ) (k : ℕ) (b : Block) (
   pub lines : List ℕ
   pub are_lines : AreLines total b lines
   pub mark : List ℕ
-  pub is_marked : IsMarked b.standing mark
+  pub are_marks : AreMarks b mark
   pub text_is : text ≡ block_front (class_name b.standing) ++ title_text replicas total b ++ block_frame left top ++ lines ++ mark ++ codes "</g>\n"
 
 -- of so many replicas, whose weight is told where they have weights

@@ -1,13 +1,16 @@
 //! Views, blocks and the lines between them.
 
 ghost use Rattle.std.specs.Prelude.{◌≡◌, ◌++◌, OnOk, codes, string_bytes};
-ghost use Rattle.draw_command.specs.DrawnBlocks.{AreBlocks, AreLines, IsBlock, IsMarked, block_frame, block_front, class_name, conflict_mark, count_line, id_line, named_text, parent_text, standing_words, support_text, title_text, unless_genesis, votes_line, votes_weight, weight_line, words_line};
+ghost use Rattle.draw_command.specs.DrawnBlocks.{AreBlocks, AreLines, AreMarks, IsBlock, IsMarked, IsNext, block_frame, block_front, class_name, conflict_mark, count_line, id_line, named_text, parent_text, standing_words, support_text, title_text, unless_genesis, votes_line, votes_weight, weight_line, words_line};
 ghost use Rattle.draw_command.specs.Series.{Adds};
+ghost use Rattle.handover.specs.Handovers.{IsHandover};
 
 use crate::digits::{full, short};
 use crate::lanes::put_end;
 use crate::layout::{BLOCK_HEIGHT, BLOCK_WIDTH, HEAD, Layout, MARGIN};
 use crate::scene::{Block, Column, Link, Place, Scene, Standing};
+use blocks::Header;
+use handover::is_handover;
 use std::alloc::{AllocError, Global};
 use std::fmt::Write;
 
@@ -358,7 +361,7 @@ fn put_conflict_mark(text: &mut String, x: u64, y: u64) -> Result<(), AllocError
     )
 }
 
-fn put_mark(text: &mut String, standing: Standing, x: u64, top: u64) -> Result<(), AllocError>
+fn put_conflict(text: &mut String, standing: Standing, x: u64, top: u64) -> Result<(), AllocError>
     ensures { OnOk result (Adds (string_bytes text.old) (string_bytes text.new)
         (IsMarked standing)) }
 {
@@ -368,6 +371,26 @@ fn put_mark(text: &mut String, standing: Standing, x: u64, top: u64) -> Result<(
             (),
         ),
     }
+}
+
+fn put_next(text: &mut String, header: &Header, x: u64, top: u64) -> Result<(), AllocError>
+    ensures { OnOk result (Adds (string_bytes text.old) (string_bytes text.new)
+        (IsNext header.now)) }
+{
+    if is_handover(header) {
+        put_words_line(text, x, top.saturating_add(BLOCK_HEIGHT + 13), "hands over")
+    } else {
+        Ok(())
+    }
+}
+
+// What stands above and below a block.
+fn put_marks(text: &mut String, block: &Block, x: u64, top: u64) -> Result<(), AllocError>
+    ensures { OnOk result (Adds (string_bytes text.old) (string_bytes text.new)
+        (AreMarks block.now)) }
+{
+    put_conflict(text, block.standing, x, top)?;
+    put_next(text, block.header.header(), x, top)
 }
 
 #[tactic(auto, unfolding(crate::specs::DrawnBlocks::block_front))]
@@ -396,7 +419,7 @@ fn put_block(
     put_title(text, alloc, scene, block)?;
     put_block_frame(text, left, top)?;
     put_lines(text, alloc, scene.total, block, middle, top)?;
-    put_mark(text, block.standing, middle, top)?;
+    put_marks(text, block, middle, top)?;
     put_end(text)
 }
 

@@ -1,12 +1,12 @@
 -- The line of an entry from its pieces.
-use Rattle.std.proofs.Common.{◌≡◌, ◌≢◌, ℕ, List, ◌++◌, Option, Some, None, option_map, codes, refl, ap, ◌∙◌, append_assoc}
+use Rattle.std.proofs.Common.{◌≡◌, ◌≢◌, ℕ, List, ◌++◌, Option, Some, None, option_map, codes, refl, ap, ◌∙◌, append_assoc, inl}
 use Rattle.blocks.specs.Headers.{header_id}
 use Rattle.log_format.specs.EntryReading.{IsEntryRefusal, IsFirstFailed}
-use Rattle.log_format.specs.EntryText.{Entry, own_of, own_vote_of}
+use Rattle.log_format.specs.EntryText.{Entry, IsEntryOf, own_of, own_vote_of}
 use Rattle.log_format.specs.declared.entry.KeyedSignature.{KeyedSignature}
 use Rattle.log_format.specs.declared.entry.EntryRefusal.{EntryRefusal}
 use Rattle.log_format.specs.declared.entry.EntryRefusal.TheVariants.{Memory, Length, Kind, Header, Parent, OwnVote, Certificate}
-use Rattle.show_command.specs.Entries.{AreVoterParts, IsEntryLine, IsOwnPart, act_name}
+use Rattle.show_command.specs.Entries.{AddsOnly, AreVoterParts, IsBlockText, IsEntryLine, IsOwnPart, IsPayloadShown, act_name}
 use Rattle.show_command.specs.Lines.{entry_front, parent_part}
 use Rattle.show_command.specs.Series.{AddsText}
 use Rattle.show_command.specs.declared.mark.Mark.{Mark}
@@ -43,3 +43,15 @@ failed_first bytes Header other refused = refused
 failed_first bytes Parent other refused = refused
 failed_first bytes OwnVote other refused = refused
 failed_first bytes Certificate other refused = refused
+
+-- an entry's line, and behind it what is said of its block
+pub entry_and_block : (committee : Option (List ℕ)) (k : ℕ) (payload : List ℕ) (e : Entry) (t0 t1 t2 : List ℕ) (m0 m1 : List Mark)
+    → IsEntryOf payload e → AddsText t0 t1 m0 m1 (IsEntryLine committee k e) → AddsOnly t1 t2 (IsBlockText e.block)
+    → AddsText t0 t2 m0 m1 (IsPayloadShown committee k payload)
+entry_and_block committee k payload e t0 t1 t2 m0 m1 spelled (line, seen, is_line, added, marks) (more, is_block, more_added) = (
+  line ++ more,
+  seen,
+  inl (record { entry = e; spelled = spelled; line_text = line; line = is_line; block_text = more; block = is_block; text_is = refl }),
+  more_added ∙ ap (λ (t : List ℕ). t ++ more) added ∙ append_assoc t0 line more,
+  marks,
+)

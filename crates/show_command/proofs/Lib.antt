@@ -1,3 +1,4 @@
+pub mod LogTexts
 pub mod Longer
 pub mod EntryLines
 pub mod Tests

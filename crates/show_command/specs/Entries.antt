@@ -1,6 +1,7 @@
 -- What is shown of an entry of a log.
 use Rattle.std.specs.Prelude.{ℕ, ◌≡◌, ◌<◌, ◌++◌, ◌⊎◌, List, [], ◌∷◌, Option, None, Some, IsSomeAnd, codes, decimal}
 use Rattle.wire.specs.Pieces.{number_at}
+use Rattle.blocks.specs.Headers.{Header}
 use Rattle.blocks.specs.Committees.{n_of}
 use Rattle.certificates.specs.Certificates.{Certificate, vote_of}
 use Rattle.certificates.specs.Votes.{IsGoodVote}
@@ -10,7 +11,8 @@ use Rattle.log_format.specs.EntryText.{Entry, IsEntryOf, own_vote_of}
 use Rattle.log_format.specs.EntryReading.{IsFirstFailed, entry_refusal_number}
 use Rattle.log_format.specs.declared.entry.KeyedSignature.{KeyedSignature}
 use Rattle.log_format.specs.declared.entry.EntryRefusal.{EntryRefusal}
-use Rattle.show_command.specs.Lines.{entry_front, key_part, parent_part, refused_entry_line, voter_part}
+use Rattle.handover.specs.Handovers.{IsHandover}
+use Rattle.show_command.specs.Lines.{entry_front, handover_line, key_part, parent_part, payload_line, refused_entry_line, voter_part}
 use Rattle.show_command.specs.Marks.{IsMark}
 use Rattle.show_command.specs.Names.{entry_refusal_name}
 use Rattle.show_command.specs.Series.{AreOf}
@@ -78,11 +80,29 @@ pub record IsEntryLine (committee : Option (List ℕ)) (k : ℕ) (e : Entry) (te
   pub text_is : text ≡ entry_front k (act_name e.own) e.block ++ own_text ++ parent_part e.block ++ voters_text ++ codes "\n"
   pub marks_are : marks ≡ own_marks ++ voters_marks
 
+-- a text was added, of which this holds
+abbrev pub AddsOnly : List ℕ → List ℕ → (List ℕ → Type 0) → Type 0
+AddsOnly text text' Holds = (added : List ℕ) × Holds added × (text' ≡ text ++ added)
+
+-- what a block hands over to, if it hands over
+abbrev pub IsHandoverPart : Header → List ℕ → Type 0
+IsHandoverPart b text = (IsHandover b → text ≡ handover_line b.payload) × ((IsHandover b → ⊥) → text ≡ [])
+
+-- what is said of an entry's block: its payload, and to whom it hands over
+pub record IsBlockText (b : Header) (text : List ℕ) : Type 0 where
+  pub handover_text : List ℕ
+  pub handover : IsHandoverPart b handover_text
+  pub text_is : text ≡ payload_line b.payload ++ handover_text
+
 -- the bytes are the entry that is shown
 pub record IsEntryShown (committee : Option (List ℕ)) (k : ℕ) (payload text : List ℕ) (marks : List Mark) : Type 0 where
   pub entry : Entry
   pub spelled : IsEntryOf payload entry
-  pub line : IsEntryLine committee k entry text marks
+  pub line_text : List ℕ
+  pub line : IsEntryLine committee k entry line_text marks
+  pub block_text : List ℕ
+  pub block : IsBlockText entry.block block_text
+  pub text_is : text ≡ line_text ++ block_text
 
 -- the bytes are no entry, and the line says why
 pub record IsRefusalShown (k : ℕ) (payload text : List ℕ) (marks : List Mark) : Type 0 where

@@ -16,7 +16,7 @@ use Rattle.key_index_store.specs.Refusals.{HasNoBoundary}
 use Rattle.wire.specs.declared.limits.TheConstants.{MOST_KEYS}
 use Rattle.show_command.specs.Entries.{ArePayloadsShown}
 use Rattle.show_command.specs.Kinds.{kind_in}
-use Rattle.show_command.specs.Lines.{committee_file, good_count_line, export_line, indices_line, journal_line, shown_key_line, path_line, shown_refusal_line, seed_line, verdict_lines}
+use Rattle.show_command.specs.Lines.{committee_file, good_count_line, export_line, indices_line, journal_line, old_form_line, shown_key_line, path_line, shown_refusal_line, seed_line, verdict_lines}
 use Rattle.show_command.specs.Marks.{IsMark}
 use Rattle.show_command.specs.Names.{verdict_refusal_name}
 use Rattle.show_command.specs.declared.kind.Kind.{Kind}
@@ -40,12 +40,12 @@ pub record IsNoVerdictText (bytes text : List ℕ) : Type 0 where
 
 -- ---- a log
 
--- a first line, a line for each payload, and how many signatures are good
+-- a first line, what is shown of each payload, whether to migrate, and how many signatures are good
 pub record IsLogText (committee : Option (List ℕ)) (head : List ℕ) (payloads : List (List ℕ)) (text : List ℕ) : Type 0 where
   pub lines : List ℕ
   pub marks : List Mark
   pub shown : ArePayloadsShown committee payloads lines marks
-  pub text_is : text ≡ head ++ lines ++ good_count_line committee marks
+  pub text_is : text ≡ head ++ lines ++ old_form_line payloads ++ good_count_line committee marks
 
 -- the frames of an export, and how it ends
 pub record IsExportText (committee : Option (List ℕ)) (bytes text : List ℕ) : Type 0 where

@@ -1,5 +1,5 @@
 -- The lines that are printed, as docs/hs_show.md lays them out. Each ends with a line feed.
-use Rattle.std.specs.Prelude.{ℕ, zero, suc, ◌-◌, ◌/◌, ◌==◌, ◌++◌, List, [], length, count_by, codes, decimal, Option, None, Some, Result, Ok, Err, if◌then◌else◌}
+use Rattle.std.specs.Prelude.{ℕ, zero, suc, ◌-◌, ◌/◌, ◌==◌, ◌||◌, ◌++◌, List, [], ◌∷◌, length, slice_index, count_by, codes, decimal, Option, None, Some, Result, Ok, Err, if◌then◌else◌}
 use Rattle.hex.specs.Hex.{encode_lower}
 use Rattle.wire.specs.Pieces.{piece, number_at}
 use Rattle.wire.specs.declared.limits.TheConstants.{MOST_ENTRIES, MOST_KEYS}
@@ -199,6 +199,20 @@ unfoldable pub entry_front : ℕ → List ℕ → Header → List ℕ
 entry_front k kind block =
     codes "entry " ++ decimal k ++ codes " " ++ kind ++ codes " view " ++ decimal block.view
     ++ codes " id " ++ encode_lower (header_id block)
+
+-- "payload HEX": that of an entry's block
+unfoldable pub payload_line : List ℕ → List ℕ
+payload_line payload = codes "payload " ++ encode_lower payload ++ codes "\n"
+
+-- "handover HEX": what stands behind the mark of a block that hands over, the first digits of the SHA-256 of the next committee's file
+unfoldable pub handover_line : List ℕ → List ℕ
+handover_line payload = codes "handover " ++ encode_lower (piece 28 payload 4) ++ codes "\n"
+
+-- "see hs_tool migrate": behind a log whose first entry is of a kind of the form before votes named their keys
+abbrev pub old_form_line : List (List ℕ) → List ℕ
+old_form_line [] = []
+old_form_line (payload ∷ payloads) =
+    if (slice_index payload 0 == 1) || (slice_index payload 0 == 2) then codes "see hs_tool migrate\n" else []
 
 -- " parent V ID voters"
 unfoldable pub parent_part : Header → List ℕ

@@ -11,6 +11,7 @@ ghost use Rattle.show_command.specs.Marks.{IsMark, mark_text};
 ghost use Rattle.show_command.specs.Names.{entry_refusal_name};
 ghost use Rattle.show_command.specs.Series.{AddsText};
 
+use crate::block::put_block;
 use crate::mark::{Mark, mark_of, put_key_part};
 use crate::names::entry_refusal_name;
 use blocks::Header;
@@ -20,7 +21,7 @@ use printed_lines::{put_id, put_number};
 use std::alloc::{AllocError, Global};
 use wire::{append, u32_at};
 
-/// Adds the line of payload `k` of a log, and the marks of its signatures. An error is want of memory.
+/// Adds what is shown of payload `k` of a log, and the marks of its signatures. An error is want of memory.
 pub(crate) fn put_payload(
     alloc: Global,
     text: &mut Vec<u8>,
@@ -33,7 +34,10 @@ pub(crate) fn put_payload(
         (IsPayloadShown committee.now k payload.now)) }
 {
     match Entry::read(alloc, payload) {
-        Ok(entry) => put_entry(text, marks, committee, k, &entry),
+        Ok(entry) => {
+            put_entry(text, marks, committee, k, &entry)?;
+            put_block(text, entry.block())
+        }
         Err(refusal) => put_refusal(text, k, refusal),
     }
 }

@@ -2,6 +2,7 @@
 //! files to what is printed. Needs no threads or network; files and streams are handed in.
 #![tactic(auto)]
 
+mod block;
 mod committee;
 mod digits;
 mod entry;

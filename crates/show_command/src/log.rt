@@ -1,11 +1,11 @@
 //! Exports and journals as lines.
 
-ghost use Rattle.std.specs.Prelude.{◌≡◌, ◌<◌, ◌≤◌, ◌++◌, Some, IfOk, OnOk, decimal, false, length, slice_get, true};
+ghost use Rattle.std.specs.Prelude.{◌≡◌, ◌<◌, ◌≤◌, ◌++◌, ◌==◌, ◌||◌, Some, IfOk, OnOk, decimal, false, length, map, slice_get, slice_index, true};
 ghost use Rattle.wire.specs.declared.limits.TheConstants.{MOST_ENTRIES, MOST_KEYS};
 ghost use Rattle.log_format.specs.Readings.{status_name};
 ghost use Rattle.show_command.specs.Entries.{ArePayloadsShown};
 ghost use Rattle.show_command.specs.Files.{IsWholeOrElse, IsExportText, IsIndicesText, IsJournalText, IsLogText, IsNoIndicesText, IsNoJournalText};
-ghost use Rattle.show_command.specs.Lines.{export_line, indices_line, journal_line, left_text, left_with, shown_refusal_line};
+ghost use Rattle.show_command.specs.Lines.{export_line, indices_line, journal_line, left_text, left_with, old_form_line, shown_refusal_line};
 ghost use Rattle.show_command.specs.Series.{AddsText};
 
 use crate::entry::put_payload;
@@ -37,6 +37,7 @@ pub(crate) fn export_page(
     let mut marks = Vec::new(alloc);
     put_export(&mut text, frames.status(), frames.len())?;
     put_frames(alloc, &mut text, &mut marks, committee, &frames)?;
+    put_old_form(&mut text, frames.frames())?;
     put_count(&mut text, committee, &marks)?;
     Ok(Page {
         text,
@@ -106,6 +107,7 @@ fn entries_page(
     let mut marks = Vec::new(alloc);
     put_journal(&mut text, journal.count())?;
     put_entries(alloc, &mut text, &mut marks, committee, &mut journal)?;
+    put_old_journal(alloc, &mut text, &mut journal)?;
     put_count(&mut text, committee, &marks)?;
     Ok(Page {
         text,
@@ -132,8 +134,9 @@ fn put_entries(
     committee: &Option<CommitteeView>,
     journal: &mut Journal<MemoryDisk>,
 ) -> Result<(), AllocError>
-    ensures { OnOk result (AddsText text.old.items text.new.items marks.old.items marks.new.items
+    ensures text { OnOk result (AddsText text.old.items text.new.items marks.old.items marks.new.items
         (ArePayloadsShown committee.now journal.old.payloads)) }
+    ensures same { OnOk result (journal.new.payloads ≡ journal.old.payloads) }
 {
     let mut payload = Vec::new(alloc);
     for k in 0..journal.count() {
@@ -143,6 +146,42 @@ fn put_entries(
         put_payload(alloc, text, marks, committee, k, &payload)?;
     }
     Ok(())
+}
+
+// Whether an entry begins as one of the form before votes named their keys: with the kind of a vote there, or of a lock.
+fn has_old_kind(payload: &[u8]) -> bool
+    ensures { result ≡ (slice_index payload.now 0 == 1) || (slice_index payload.now 0 == 2) }
+{
+    matches!(payload.first(), Some(1 | 2))
+}
+
+// Says that a log is to be migrated, where its first entry is of the form before.
+fn put_old_form(text: &mut Vec<u8>, payloads: &[&[u8]]) -> Result<(), AllocError>
+    ensures { OnOk result (text.new.items ≡ text.old.items
+        ++ old_form_line (map (λ p. p.now) payloads.now)) }
+{
+    match payloads.first() {
+        Some(first) if has_old_kind(first) => append(text, b"see hs_tool migrate\n"),
+        _ => Ok(()),
+    }
+}
+
+// The same of a journal's entries.
+fn put_old_journal(
+    alloc: Global,
+    text: &mut Vec<u8>,
+    journal: &mut Journal<MemoryDisk>,
+) -> Result<(), AllocError>
+    ensures { OnOk result (text.new.items ≡ text.old.items ++ old_form_line journal.old.payloads) }
+{
+    if journal.count() == 0 {
+        return Ok(());
+    }
+    let mut payload = Vec::new(alloc);
+    let Ok(()) = journal.entry(0, &mut payload) else {
+        return Err(AllocError);
+    };
+    put_old_form(text, &[&payload])
 }
 
 // The one line of a file that begins as one of a kind, and is none.

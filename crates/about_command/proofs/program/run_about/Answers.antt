@@ -1,11 +1,11 @@
 use Rattle.std.proofs.Common.{ℕ, List}
 use Rattle.streams.specs.Streams.{Wrote}
 use Rattle.program_parts.proofs.Endings.{came_to}
-use Rattle.about_command.specs.About.{Tells}
+use Rattle.about_command.specs.About.{Tells, texts}
 use Rattle.about_command.proofs.program.run_about.Goals as goal
 
 pub returns-clause-told : goal.returns-clause-told
 returns-clause-told g c not =
     (came_to c.tell.result c.exit_status.result _ _
-    (λ s. (text : List ℕ) × Tells s text × Wrote (g.W.Sink.text c.args.out.now) (g.W.Sink.text c.tell.new.out) text)
-    c.exit_status.ensures.done c.exit_status.ensures.told c.tell.ensures not).0
+    (λ s. (text : List ℕ) × Tells (texts c.args.words.now) s text × Wrote (g.W.Sink.text c.args.out.now) (g.W.Sink.text c.tell.new.out) text)
+    c.exit_status.ensures.done c.exit_status.ensures.told c.tell.ensures.told not).0

@@ -11,7 +11,7 @@ returns c =
     let left = c.left-left.result in
     let top = c.top-top.result in
     let lines = c.in_ok-put_lines.ensures.0 in
-    let mark = c.in_ok-put_mark.ensures.0 in
+    let mark = c.in_ok-put_marks.ensures.0 in
     let class_is : c.class.result.now ≡ class_name b.standing = c.class.ensures in
     let fronted : string_bytes c.put_block_front.new.text ≡ string_bytes c.args.text.now ++ block_front (class_name b.standing) =
     rw (← class_is) c.in_ok-put_block_front.ensures in
@@ -23,11 +23,11 @@ returns c =
         lines = lines;
         are_lines = c.in_ok-put_lines.ensures.1;
         mark = mark;
-        is_marked = c.in_ok-put_mark.ensures.1;
+        are_marks = c.in_ok-put_marks.ensures.1;
         text_is = refl;
       },
       six_pieces (string_bytes c.args.text.now) (block_front (class_name b.standing)) (title_text scene.replicas scene.total b) (block_frame left top) lines mark (codes "</g>\n")
           (string_bytes c.put_block_front.new.text) (string_bytes c.put_title.new.text) (string_bytes c.put_block_frame.new.text) (string_bytes c.put_lines.new.text)
-          (string_bytes c.put_mark.new.text) (string_bytes c.put_end.new.text)
-          fronted c.in_ok-put_title.ensures c.in_ok-put_block_frame.ensures c.in_ok-put_lines.ensures.2 c.in_ok-put_mark.ensures.2 last,
+          (string_bytes c.put_marks.new.text) (string_bytes c.put_end.new.text)
+          fronted c.in_ok-put_title.ensures c.in_ok-put_block_frame.ensures c.in_ok-put_lines.ensures.2 c.in_ok-put_marks.ensures.2 last,
     )) c.put_end.ensures

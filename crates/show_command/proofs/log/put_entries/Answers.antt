@@ -26,8 +26,8 @@ loop-k-preserved c =
 pub loop-k-init : goal.loop-k-init
 loop-k-init c = record { payloads = refl; shown = adds_none (IsPayloadShown c.args.committee.now) c.args.text.now.items c.args.marks.now.items }
 
-pub returns : goal.returns
-returns c =
+pub returns-clause-text : goal.returns-clause-text
+returns-clause-text c =
     let list = c.args.journal.now.payloads in
     let end : length list ≤ c.loop-k.k = omega arith in
     subst (λ (ps : List (List ℕ)). AddsText c.args.text.now.items c.loop-k.text.items c.args.marks.now.items c.loop-k.marks.items (AreOf (IsPayloadShown c.args.committee.now) 0 ps))
