@@ -10,7 +10,8 @@ use Rattle.program_parts.specs.declared.program_fault.ProgramFault.{ProgramFault
 use Rattle.program_parts.specs.declared.program_fault.ProgramFault.TheVariants.{Usage, Memory, File, Committee, Output, Own}
 use Rattle.program_parts.specs.declared.source_fault.SourceFault.TheVariants.{Word, Collision}
 use Rattle.program_parts.specs.declared.words.SourceWord.{SourceWord}
-use Rattle.follow_command.specs.Faults.{GivesUp, GivesUpOver, GivesUpStep, IsCause, IsFollowFault, IsStepFault}
+use Rattle.follow_command.specs.Faults.{GivesUp, GivesUpOver, GivesUpStep, IsCause, IsFollowFault, IsProofFault, IsSourcesFault, IsStepFault}
+use Rattle.blocks.specs.Committees.{IsCommittee}
 use Rattle.follow_command.specs.Followings.{status_of}
 use Rattle.follow_command.specs.Outputs.{ComesTo, IsOutput, usage_line}
 use Rattle.follow_command.specs.Words.{AskForStep, HaveBadSource, IsUsage, IsWordsFault}
@@ -26,29 +27,61 @@ pub of_same_words : {S F : Type 0} (connector : Ghosts (ServerOrFile S F)) (r : 
     → IfOk r (λ s. (t : List ℕ) × ComesTo connector ws' s t × Wrote before after t) → IfOk r (λ s. (t : List ℕ) × ComesTo connector ws s t × Wrote before after t)
 of_same_words connector r ws ws' before after same is = subst (λ (xs : List SourceWord). IfOk r (λ s. (t : List ℕ) × ComesTo connector xs s t × Wrote before after t)) same is
 
-step_cause : {S F : Type 0} (connector : Ghosts (ServerOrFile S F)) (old new : List ℕ) (ws : List SourceWord) (fault : ProgramFault FollowFault) → IsFollowFault connector ws fault → IsStepFault connector old new ws fault
-step_cause connector old new ws Usage c = c
-step_cause connector old new ws Memory c = tt
-step_cause connector old new ws (File path) c = absurd c.2
-step_cause connector old new ws (Committee r) c = absurd c.2
-step_cause connector old new ws Output c = c
-step_cause connector old new ws (Own (Sources s)) c = c
-step_cause connector old new ws (Own (OldKey key)) c = absurd c.2
+step_cause : {S F : Type 0} (connector : Ghosts (ServerOrFile S F)) (old new : List ℕ) (proof : Option (List ℕ)) (ws : List SourceWord) (fault : ProgramFault FollowFault) → IsFollowFault connector proof ws fault → IsStepFault connector old new proof ws fault
+step_cause connector old new proof ws Usage c = c
+step_cause connector old new proof ws Memory c = tt
+step_cause connector old new proof ws (File path) c = inr (inr c)
+step_cause connector old new proof ws (Committee r) c = absurd c.2
+step_cause connector old new proof ws Output c = c
+step_cause connector old new proof ws (Own (Sources s)) c = c
+step_cause connector old new proof ws (Own (OldKey key)) c = absurd c.2
 
-pub step_given_up : {S F W : Type 0} (connector : Ghosts (ServerOrFile S F)) (old new : List ℕ) (ws ws' : List SourceWord) (r : Result ℕ (ProgramFault FollowFault)) (text : W → Option (List ℕ)) (failed : W → ℕ) (out out' : W) → ws' ≡ ws
-    → IfErr r (λ f. GivesUpOver (IsFollowFault connector ws') (ComesTo connector ws') f text failed out out') → IfErr r (λ f. GivesUpStep connector old new ws f text failed out out')
-step_given_up connector old new ws ws' (Ok s) text failed out out' same up = tt
-step_given_up connector old new ws ws' (Err f) text failed out out' same up =
-    given_up_as (IsFollowFault connector ws') (IsStepFault connector old new ws) (ComesTo connector ws') (ComesTo connector ws) f text failed out out'
-    (λ other c. step_cause connector old new ws f (subst (λ (xs : List SourceWord). IsFollowFault connector xs f) same c))
+-- a fault of the proof is one of the step
+pub proof_cause : {S F : Type 0} (connector : Ghosts (ServerOrFile S F)) (old new : List ℕ) (proof : Option (List ℕ)) (ws : List SourceWord) (fault : ProgramFault FollowFault) → IsProofFault proof fault → IsStepFault connector old new proof ws fault
+proof_cause connector old new proof ws Usage c = absurd c
+proof_cause connector old new proof ws Memory c = tt
+proof_cause connector old new proof ws (File path) c = inr (inr c)
+proof_cause connector old new proof ws (Committee r) c = absurd c
+proof_cause connector old new proof ws Output c = absurd c
+proof_cause connector old new proof ws (Own own) c = absurd c
+
+-- .. and one of following
+pub proof_of_following : {S F : Type 0} (connector : Ghosts (ServerOrFile S F)) (committee : List ℕ) (proof : Option (List ℕ)) (ws : List SourceWord) (fault : ProgramFault FollowFault) → IsCommittee committee → IsProofFault proof fault → IsFollowFault connector proof ws fault
+proof_of_following connector committee proof ws Usage is c = absurd c
+proof_of_following connector committee proof ws Memory is c = (committee, is, tt)
+proof_of_following connector committee proof ws (File path) is c = c
+proof_of_following connector committee proof ws (Committee r) is c = absurd c
+proof_of_following connector committee proof ws Output is c = absurd c
+proof_of_following connector committee proof ws (Own own) is c = absurd c
+
+-- a fault of the sources is one of following
+pub sources_of_following : {S F : Type 0} (connector : Ghosts (ServerOrFile S F)) (committee : List ℕ) (proof : Option (List ℕ)) (ws : List SourceWord) (fault : ProgramFault FollowFault) → IsCommittee committee → IsSourcesFault connector committee ws fault → IsFollowFault connector proof ws fault
+sources_of_following connector committee proof ws Usage is c = absurd c
+sources_of_following connector committee proof ws Memory is c = (committee, is, tt)
+sources_of_following connector committee proof ws (File path) is c = absurd c
+sources_of_following connector committee proof ws (Committee r) is c = absurd c
+sources_of_following connector committee proof ws Output is c = absurd c
+sources_of_following connector committee proof ws (Own (Sources (Word i))) is c = absurd c
+sources_of_following connector committee proof ws (Own (Sources Collision)) is c = (committee, is, c)
+sources_of_following connector committee proof ws (Own (OldKey key)) is c = absurd c
+
+pub step_given_up : {S F W : Type 0} (connector : Ghosts (ServerOrFile S F)) (old new : List ℕ) (proof : Option (List ℕ)) (ws ws' : List SourceWord) (r : Result ℕ (ProgramFault FollowFault)) (text : W → Option (List ℕ)) (failed : W → ℕ) (out out' : W) → ws' ≡ ws
+    → IfErr r (λ f. GivesUpOver (IsFollowFault connector proof ws') (ComesTo connector ws') f text failed out out') → IfErr r (λ f. GivesUpStep connector old new proof ws f text failed out out')
+step_given_up connector old new proof ws ws' (Ok s) text failed out out' same up = tt
+step_given_up connector old new proof ws ws' (Err f) text failed out out' same up =
+    given_up_as (IsFollowFault connector proof ws') (IsStepFault connector old new proof ws) (ComesTo connector ws') (ComesTo connector ws) f text failed out out'
+    (λ other c. step_cause connector old new proof ws f (subst (λ (xs : List SourceWord). IsFollowFault connector proof xs f) same c))
     (λ status whole is. subst (λ (xs : List SourceWord). ComesTo connector xs status whole) same is) up
 
 -- ---- over words
 
-output_of : {S F : Type 0} (connector : Ghosts (ServerOrFile S F)) (words : List (String Global)) (old new : List ℕ) (ws : List SourceWord) (status : ℕ) (text : List ℕ) → AskForStep words old new ws → ComesTo connector ws status text
+no_step_of_none : (old new : List ℕ) (ws : List SourceWord) (proof : Option (List ℕ)) → AskForStep [] old new ws proof → ⊥
+no_step_of_none old new ws proof ask = ask.are
+
+output_of : {S F : Type 0} (connector : Ghosts (ServerOrFile S F)) (words : List (String Global)) (old new : List ℕ) (ws : List SourceWord) (proof : Option (List ℕ)) (status : ℕ) (text : List ℕ) → AskForStep words old new ws proof → ComesTo connector ws status text
     → IsOutput connector words status text
-output_of connector [] old new ws status text ask is = absurd ask
-output_of connector (w ∷ words) old new ws status text ask is = (old, new, ws, ask, is)
+output_of connector [] old new ws proof status text ask is = absurd (no_step_of_none old new ws proof ask)
+output_of connector (w ∷ words) old new ws proof status text ask is = (old, new, ws, proof, ask, is)
 
 not_two : (f : Following) → status_of f ≢ 2
 not_two Conflict e = let no : ⊥ = omega (arith, e) in no
@@ -66,24 +99,24 @@ status_among Nobody = inr (inl refl)
 pub output_status : {S F : Type 0} (connector : Ghosts (ServerOrFile S F)) (words : List (String Global)) (status : ℕ) (text : List ℕ) → IsOutput connector words status text
     → (status ≡ 0) ⊎ ((status ≡ 1) ⊎ ((status ≡ 2) ⊎ (status ≡ 3)))
 output_status connector [] status text is = inl is.0
-output_status connector (w ∷ words) status text (old, new, ws, ask, is) =
+output_status connector (w ∷ words) status text (old, new, ws, proof, ask, is) =
     subst (λ (n : ℕ). (n ≡ 0) ⊎ ((n ≡ 1) ⊎ ((n ≡ 2) ⊎ (n ≡ 3)))) (sym is.ends) (status_among is.following)
 
-pub printed_over : {S F : Type 0} (connector : Ghosts (ServerOrFile S F)) (words : List (String Global)) (old new : List ℕ) (ws : List SourceWord) (r : Result ℕ (ProgramFault FollowFault)) (before after : Option (List ℕ))
-    → AskForStep words old new ws → IfOk r (λ s. (t : List ℕ) × ComesTo connector ws s t × Wrote before after t)
+pub printed_over : {S F : Type 0} (connector : Ghosts (ServerOrFile S F)) (words : List (String Global)) (old new : List ℕ) (ws : List SourceWord) (proof : Option (List ℕ)) (r : Result ℕ (ProgramFault FollowFault)) (before after : Option (List ℕ))
+    → AskForStep words old new ws proof → IfOk r (λ s. (t : List ℕ) × ComesTo connector ws s t × Wrote before after t)
     → IfOk r (λ s. (s ≢ 2) × ((t : List ℕ) × IsOutput connector words s t × Wrote before after t))
-printed_over connector words old new ws (Err f) before after ask is = tt
-printed_over connector words old new ws (Ok s) before after ask is = (
+printed_over connector words old new ws proof (Err f) before after ask is = tt
+printed_over connector words old new ws proof (Ok s) before after ask is = (
   subst (λ (n : ℕ). n ≢ 2) (sym is.1.ends) (not_two is.1.following),
-  (is.0, output_of connector words old new ws s is.0 ask is.1, is.2),
+  (is.0, output_of connector words old new ws proof s is.0 ask is.1, is.2),
 )
 
-pub given_up_over : {S F W : Type 0} (connector : Ghosts (ServerOrFile S F)) (words : List (String Global)) (old new : List ℕ) (ws : List SourceWord) (r : Result ℕ (ProgramFault FollowFault)) (text : W → Option (List ℕ)) (failed : W → ℕ) (out out' : W)
-    → AskForStep words old new ws → IfErr r (λ f. GivesUpStep connector old new ws f text failed out out') → IfErr r (λ f. GivesUp connector words f text failed out out')
-given_up_over connector words old new ws (Ok s) text failed out out' ask up = tt
-given_up_over connector words old new ws (Err f) text failed out out' ask up =
-    given_up_as (IsStepFault connector old new ws) (IsCause connector words) (ComesTo connector ws) (IsOutput connector words) f text failed out out'
-    (λ other c. inr (old, new, ws, ask, c)) (λ status whole is. output_of connector words old new ws status whole ask is) up
+pub given_up_over : {S F W : Type 0} (connector : Ghosts (ServerOrFile S F)) (words : List (String Global)) (old new : List ℕ) (ws : List SourceWord) (proof : Option (List ℕ)) (r : Result ℕ (ProgramFault FollowFault)) (text : W → Option (List ℕ)) (failed : W → ℕ) (out out' : W)
+    → AskForStep words old new ws proof → IfErr r (λ f. GivesUpStep connector old new proof ws f text failed out out') → IfErr r (λ f. GivesUp connector words f text failed out out')
+given_up_over connector words old new ws proof (Ok s) text failed out out' ask up = tt
+given_up_over connector words old new ws proof (Err f) text failed out out' ask up =
+    given_up_as (IsStepFault connector old new proof ws) (IsCause connector words) (ComesTo connector ws) (IsOutput connector words) f text failed out out'
+    (λ other c. inr (old, new, ws, proof, ask, c)) (λ status whole is. output_of connector words old new ws proof status whole ask is) up
 
 -- how the program is called could not be printed
 pub usage_cut : {S F W : Type 0} (connector : Ghosts (ServerOrFile S F)) (words : List (String Global)) (fault : ProgramFault FollowFault) (text : W → Option (List ℕ)) (failed : W → ℕ) (out out' : W) → words ≡ [] → fault ≡ Output
@@ -96,19 +129,15 @@ usage_cut connector words fault text failed out out' none is part counted = reco
 
 -- ---- words that ask for nothing
 
-no_usage : (words : List (String Global)) (old new : List ℕ) (ws : List SourceWord) → IsUsage words → AskForStep words old new ws → ⊥
-no_usage [] old new ws usage ask = ask
-no_usage (o ∷ []) old new ws usage ask = ask
-no_usage (o ∷ n ∷ words) old new ws usage ask = usage.no_step ask.0
+no_usage : (words : List (String Global)) (old new : List ℕ) (ws : List SourceWord) (proof : Option (List ℕ)) → IsUsage words → AskForStep words old new ws proof → ⊥
+no_usage words old new ws proof usage ask = usage.no_step ask.named
 
 pub output_is_no_usage : {S F : Type 0} (connector : Ghosts (ServerOrFile S F)) (words : List (String Global)) (status : ℕ) (text : List ℕ) → IsUsage words → IsOutput connector words status text → ⊥
 output_is_no_usage connector [] status text usage is = usage.some refl
-output_is_no_usage connector (w ∷ words) status text usage (old, new, ws, ask, is) = no_usage (w ∷ words) old new ws usage ask
+output_is_no_usage connector (w ∷ words) status text usage (old, new, ws, proof, ask, is) = no_usage (w ∷ words) old new ws proof usage ask
 
 bad_is_no_usage : (words : List (String Global)) (i : ℕ) → IsUsage words → HaveBadSource words i → ⊥
-bad_is_no_usage [] i usage bad = bad
-bad_is_no_usage (o ∷ []) i usage bad = bad
-bad_is_no_usage (o ∷ n ∷ words) i usage bad = usage.no_step bad.0
+bad_is_no_usage words i usage bad = usage.no_step bad.0
 
 usage_of_words : (words : List (String Global)) (fault : ProgramFault FollowFault) → IsUsage words → IsWordsFault words fault → fault ≡ Usage
 usage_of_words words Usage usage is = refl
@@ -135,6 +164,6 @@ is_usage connector words fault text failed out out' usage gives = elim (fault_ca
   | inl e ↦ let cut = gives.cut_short e in absurd (output_is_no_usage connector words cut.0 cut.1 usage cut.2)
   | inr other ↦ elim (gives.cause other).0 [
     | inl is ↦ usage_of_words words fault usage is
-    | inr is ↦ absurd (no_usage words is.0 is.1 is.2 usage is.3)
+    | inr is ↦ absurd (no_usage words is.0 is.1 is.2 is.3 usage is.4)
   ]
 ]

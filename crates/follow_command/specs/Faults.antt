@@ -1,5 +1,5 @@
 -- Why the program gives up, and what it leaves then.
-use Rattle.std.specs.Prelude.{◌≡◌, ◌≢◌, ◌⊎◌, ℕ, List, Option, Err, String, ⊤}
+use Rattle.std.specs.Prelude.{◌≡◌, ◌≢◌, ◌⊎◌, ℕ, List, Option, Some, Err, String, ⊤}
 use Rattle.std.specs.declared.alloc.Global.{Global}
 use Rattle.streams.specs.Streams.{WrotePart}
 use Rattle.blocks.specs.CommitteeReading.{committee_in}
@@ -34,28 +34,35 @@ IsSourcesFault connector committee words Memory = ⊤
 IsSourcesFault connector committee words (Own (Sources Collision)) = ShowCollision connector committee words
 IsSourcesFault connector committee words fault = ⊥
 
--- .. under some committee
-abbrev pub IsFollowFault : {S F : Type 0} → Ghosts (ServerOrFile S F) → List SourceWord → ProgramFault FollowFault → Type 0
-IsFollowFault connector words fault = (committee : List ℕ) × IsCommittee committee × IsSourcesFault connector committee words fault
+-- memory was refused, or the proof could not be put at its path
+abbrev pub IsProofFault : Option (List ℕ) → ProgramFault FollowFault → Type 0
+IsProofFault proof Memory = ⊤
+IsProofFault proof (File path) = proof ≡ Some path.now
+IsProofFault proof fault = ⊥
+
+-- .. under some committee, or the proof could not be put at its path
+abbrev pub IsFollowFault : {S F : Type 0} → Ghosts (ServerOrFile S F) → Option (List ℕ) → List SourceWord → ProgramFault FollowFault → Type 0
+IsFollowFault connector proof words (File path) = proof ≡ Some path.now
+IsFollowFault connector proof words fault = (committee : List ℕ) × IsCommittee committee × IsSourcesFault connector committee words fault
 
 -- the key of this number of some new committee is the first that is one of some old committee
 abbrev pub HaveOldKey : ℕ → Type 0
 HaveOldKey key = (old : List ℕ) × (new : List ℕ) × IsCommittee old × IsCommittee new × IsFirstOldKey old new key
 
--- why there is no step from the committee of the one file to that of the other, by these sources
-abbrev pub IsStepFault : {S F : Type 0} → Ghosts (ServerOrFile S F) → (old new : List ℕ) → List SourceWord → ProgramFault FollowFault → Type 0
-IsStepFault connector old new words Memory = ⊤
-IsStepFault connector old new words (File path) = (path.now ≡ old) ⊎ (path.now ≡ new)
-IsStepFault connector old new words (Committee r) = (bytes : List ℕ) × (committee_in bytes ≡ Err r)
-IsStepFault connector old new words (Own (OldKey key)) = HaveOldKey key
-IsStepFault connector old new words fault = IsFollowFault connector words fault
+-- why there is no step from the committee of the one file to that of the other, by these sources, with its proof at this path
+abbrev pub IsStepFault : {S F : Type 0} → Ghosts (ServerOrFile S F) → (old new : List ℕ) → Option (List ℕ) → List SourceWord → ProgramFault FollowFault → Type 0
+IsStepFault connector old new proof words Memory = ⊤
+IsStepFault connector old new proof words (File path) = (path.now ≡ old) ⊎ ((path.now ≡ new) ⊎ (proof ≡ Some path.now))
+IsStepFault connector old new proof words (Committee r) = (bytes : List ℕ) × (committee_in bytes ≡ Err r)
+IsStepFault connector old new proof words (Own (OldKey key)) = HaveOldKey key
+IsStepFault connector old new proof words fault = IsFollowFault connector proof words fault
 
 -- ---- over words
 
 -- why there is no step of those that they ask for
 abbrev pub IsFaultOfStep : {S F : Type 0} → Ghosts (ServerOrFile S F) → List (String Global) → ProgramFault FollowFault → Type 0
 IsFaultOfStep connector words fault =
-    (old : List ℕ) × (new : List ℕ) × (sources : List SourceWord) × AskForStep words old new sources × IsStepFault connector old new sources fault
+    (old : List ℕ) × (new : List ℕ) × (sources : List SourceWord) × (proof : Option (List ℕ)) × AskForStep words old new sources proof × IsStepFault connector old new proof sources fault
 
 -- why the program gives up over them, but where a write failed
 abbrev pub IsCause : {S F : Type 0} → Ghosts (ServerOrFile S F) → List (String Global) → ProgramFault FollowFault → Type 0
@@ -69,8 +76,8 @@ pub record GivesUpOver {W : Type 0} (Cause : ProgramFault FollowFault → Type 0
   pub counted : CountsOutput fault (failed out) (failed out')
 
 -- .. in one step
-abbrev pub GivesUpStep : {S F W : Type 0} → Ghosts (ServerOrFile S F) → (old new : List ℕ) → List SourceWord → ProgramFault FollowFault → (W → Option (List ℕ)) → (W → ℕ) → W → W → Type 0
-GivesUpStep connector old new words = GivesUpOver (IsStepFault connector old new words) (ComesTo connector words)
+abbrev pub GivesUpStep : {S F W : Type 0} → Ghosts (ServerOrFile S F) → (old new : List ℕ) → Option (List ℕ) → List SourceWord → ProgramFault FollowFault → (W → Option (List ℕ)) → (W → ℕ) → W → W → Type 0
+GivesUpStep connector old new proof words = GivesUpOver (IsStepFault connector old new proof words) (ComesTo connector words)
 
 -- .. over words
 abbrev pub GivesUp : {S F W : Type 0} → Ghosts (ServerOrFile S F) → List (String Global) → ProgramFault FollowFault → (W → Option (List ℕ)) → (W → ℕ) → W → W → Type 0

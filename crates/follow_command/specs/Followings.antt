@@ -6,13 +6,9 @@ use Rattle.blocks.specs.Weights.{committee_of}
 use Rattle.evidence.specs.Evidence.{Evidence}
 use Rattle.commit_search.specs.Commits.{HasNoConflict}
 use Rattle.handover.specs.Handovers.{IsFirstCommitted, IsHandover, handover_payload}
+use Rattle.handover_proof.specs.Proofs.{IsHandedOverBy}
 use Rattle.follow_command.specs.declared.following.Following.{Following}
 use Rattle.follow_command.specs.declared.following.Following.TheVariants.{Conflict, New, Another, Nobody}
-
--- no commits conflict, and this block is the first that hands over on the chain that is committed
-pub record IsHandedOverBy (e : Evidence) (b : Header) : Type 0 where
-  pub agree : HasNoConflict (committee_of e.committee) e
-  pub first : IsFirstCommitted (committee_of e.committee) e IsHandover b
 
 -- no commits conflict, and none hands over
 pub record IsNotHandedOver (e : Evidence) : Type 0 where

@@ -1,5 +1,5 @@
 -- What the program prints, and its status.
-use Rattle.std.specs.Prelude.{◌≡◌, ◌++◌, ℕ, List, [], ◌∷◌, IsSome, String, codes}
+use Rattle.std.specs.Prelude.{◌≡◌, ◌++◌, ℕ, List, [], ◌∷◌, IsSome, Option, String, codes}
 use Rattle.std.specs.List.{All}
 use Rattle.std.specs.declared.alloc.Global.{Global}
 use Rattle.blocks.specs.Committees.{IsCommittee}
@@ -18,7 +18,7 @@ use Rattle.follow_command.specs.Words.{AskForStep}
 use Rattle.follow_command.specs.declared.following.Following.{Following}
 
 abbrev pub usage_line : List ℕ
-usage_line = codes "hs_follow OLD NEW SOURCE..\n"
+usage_line = codes "hs_follow OLD NEW SOURCE.. [--proof OUT]\n"
 
 -- two committees that have no key in common
 pub record AreApart (old new : List ℕ) : Type 0 where
@@ -55,4 +55,4 @@ pub record ComesTo {S F : Type 0} (connector : Ghosts (ServerOrFile S F)) (words
 abbrev pub IsOutput : {S F : Type 0} → Ghosts (ServerOrFile S F) → List (String Global) → ℕ → List ℕ → Type 0
 IsOutput connector [] status text = (status ≡ 0) × (text ≡ usage_line)
 IsOutput connector (word ∷ words) status text =
-    (old : List ℕ) × (new : List ℕ) × (sources : List SourceWord) × AskForStep (word ∷ words) old new sources × ComesTo connector sources status text
+    (old : List ℕ) × (new : List ℕ) × (sources : List SourceWord) × (proof : Option (List ℕ)) × AskForStep (word ∷ words) old new sources proof × ComesTo connector sources status text

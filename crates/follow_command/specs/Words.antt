@@ -1,5 +1,5 @@
 -- What the words of the command line ask for.
-use Rattle.std.specs.Prelude.{◌≡◌, ◌≢◌, ◌<◌, ℕ, List, [], ◌∷◌, String, length, string_bytes, take}
+use Rattle.std.specs.Prelude.{◌≡◌, ◌≢◌, ◌<◌, ◌-◌, ◌&&◌, ℕ, List, [], ◌∷◌, Bool, Option, Some, None, IfSome, String, bytes_eq, codes, cond, leb, length, map, option_map, slice_index_or, string_bytes, take}
 use Rattle.std.specs.List.{AllZip, HoldsAt}
 use Rattle.std.specs.declared.alloc.Global.{Global}
 use Rattle.program_parts.specs.Words.{SpellsSource}
@@ -27,6 +27,23 @@ pub record IsFirstBad (words : List (String Global)) (i : ℕ) : Type 0 where
   pub before : List SourceWord
   pub are_sources : AreSources (take i words) before
 
+-- ---- the proof
+
+abbrev pub texts : List (String Global) → List (List ℕ)
+texts words = map (λ w. string_bytes w) words
+
+-- "--proof" stands before the last word
+abbrev pub asks_for_proof : List (String Global) → Bool
+asks_for_proof words = leb 2 (length words) && bytes_eq (slice_index_or (texts words) (length words - 2) []) (codes "--proof")
+
+-- the last word, behind it
+abbrev pub proof_of : List (String Global) → Option (List ℕ)
+proof_of words = cond (asks_for_proof words) (Some (slice_index_or (texts words) (length words - 1) [])) None
+
+-- the words before it
+abbrev pub before_proof : List (String Global) → List (String Global)
+before_proof words = cond (asks_for_proof words) (take (length words - 2) words) words
+
 -- ---- all words
 
 -- it is not empty, and does not begin with '-'
@@ -35,30 +52,42 @@ IsPath [] = ⊥
 IsPath (c ∷ cs) = c ≢ 45
 
 -- two paths, and a word behind them
+abbrev pub NameTwo : List (String Global) → Type 0
+NameTwo (old ∷ new ∷ sources) = IsPath (string_bytes old) × IsPath (string_bytes new) × (sources ≢ [])
+NameTwo words = ⊥
+
+-- .. and a path for the proof, if one is asked for
 abbrev pub NameStep : List (String Global) → Type 0
-NameStep (old ∷ new ∷ sources) = IsPath (string_bytes old) × IsPath (string_bytes new) × (sources ≢ [])
-NameStep words = ⊥
+NameStep words = NameTwo (before_proof words) × IfSome (proof_of words) IsPath
 
 -- there are words, and they do not
 pub record IsUsage (words : List (String Global)) : Type 0 where
   pub some : words ≢ []
   pub no_step : NameStep words → ⊥
 
--- for a step from the committee of the first file to that of the second, by these sources
-abbrev pub AskForStep : List (String Global) → (old new : List ℕ) → List SourceWord → Type 0
-AskForStep (o ∷ n ∷ words) old new sources =
-    NameStep (o ∷ n ∷ words) × (string_bytes o ≡ old) × (string_bytes n ≡ new) × AreSources words sources
-AskForStep words old new sources = ⊥
+-- two paths, and sources behind them
+abbrev pub AreTwoAndSources : List (String Global) → (old new : List ℕ) → List SourceWord → Type 0
+AreTwoAndSources (o ∷ n ∷ words) old new sources = (string_bytes o ≡ old) × (string_bytes n ≡ new) × AreSources words sources
+AreTwoAndSources words old new sources = ⊥
+
+-- for a step from the committee of the first file to that of the second, by these sources, with its proof at this path
+pub record AskForStep (words : List (String Global)) (old new : List ℕ) (sources : List SourceWord) (proof : Option (List ℕ)) : Type 0 where
+  pub named : NameStep words
+  pub are : AreTwoAndSources (before_proof words) old new sources
+  pub proof_is : proof ≡ proof_of words
 
 -- with no words for how the program is called
 abbrev pub AskFor : List (String Global) → Words → Type 0
 AskFor words Usage = words ≡ []
-AskFor words (Step step) = AskForStep words step.old.now step.new.now step.sources.items
+AskFor words (Step step) = AskForStep words step.old.now step.new.now step.sources.items (option_map (λ p. p.now) step.proof)
 
--- of the words behind the paths this is the first that is no source
+-- of the words behind two paths this is the first that is no source
+abbrev pub IsBadBehind : List (String Global) → ℕ → Type 0
+IsBadBehind (o ∷ n ∷ words) i = IsFirstBad words i
+IsBadBehind words i = ⊥
+
 abbrev pub HaveBadSource : List (String Global) → ℕ → Type 0
-HaveBadSource (o ∷ n ∷ words) i = NameStep (o ∷ n ∷ words) × IsFirstBad words i
-HaveBadSource words i = ⊥
+HaveBadSource words i = NameStep words × IsBadBehind (before_proof words) i
 
 -- why they ask for nothing
 abbrev pub IsWordsFault : List (String Global) → ProgramFault FollowFault → Type 0

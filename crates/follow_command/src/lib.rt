@@ -6,6 +6,7 @@ mod fault;
 mod following;
 mod lines;
 mod program;
+mod proving;
 mod reading;
 mod sources;
 mod words;

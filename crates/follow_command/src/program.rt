@@ -1,6 +1,6 @@
 //! The program over handed-in words and streams, so that tests run it whole.
 
-ghost use Rattle.std.specs.Prelude.{◌≡◌, ◌≢◌, ◌⊎◌, ◌++◌, ℕ, List, IfErr, IfOk, OnErr, OnOk, codes};
+ghost use Rattle.std.specs.Prelude.{◌≡◌, ◌≢◌, ◌⊎◌, ◌++◌, ℕ, List, IfErr, IfOk, OnErr, OnOk, codes, option_map};
 ghost use Rattle.streams.specs.Streams.{Wrote, WrotePart};
 ghost use Rattle.printed_lines.specs.Printed.{Told};
 ghost use Rattle.blocks.specs.Committees.{IsCommittee};
@@ -16,6 +16,7 @@ ghost use Rattle.follow_command.specs.declared.fault.FollowFault.{FollowFault as
 use crate::fault::{Fault, FollowFault};
 use crate::following::{Following, follow};
 use crate::lines::following_text;
+use crate::proving::{see_new, write_proof};
 use crate::reading::read_evidence;
 use crate::words::{Step, Words, read_words};
 use blocks::CommitteeView;
@@ -23,9 +24,7 @@ use culprit_search::{Report, ReportError, audit, write_report};
 use evidence::Evidence;
 use handover::first_old_key;
 use log_transfer::{Connector, SourceConnector};
-use program_parts::{
-    ProgramFault, SourceWord, exit_status, parse_committee, read_committee, write_out,
-};
+use program_parts::{ProgramFault, exit_status, parse_committee, read_committee, write_out};
 use std::alloc::Global;
 use std::fs::{File, Files};
 use std::net::{Net, TcpListener, TcpStream};
@@ -44,12 +43,12 @@ pub const FOLLOWS_NOT: u8 = 1;
 pub const CONFLICT: u8 = 3;
 
 /// How the program is called.
-const USAGE: &[u8] = b"hs_follow OLD NEW SOURCE..\n";
+const USAGE: &[u8] = b"hs_follow OLD NEW SOURCE.. [--proof OUT]\n";
 
 /// Audits the logs of the old committee, and says whether it handed the ledger over to the new one, as the words ask, or with
-/// no words prints how the program is called. Answers the exit status: `FOLLOWS`, `FOLLOWS_NOT`, `CONFLICT`, else 2. The
-/// lines go to `out`, and with status 2 a fault's line to `faults`, which is else left alone. Nothing is written before all
-/// else is done.
+/// no words prints how the program is called. Where a proof is asked for and a handover is proved, its files are written.
+/// Answers the exit status: `FOLLOWS`, `FOLLOWS_NOT`, `CONFLICT`, else 2. The lines go to `out`, and with status 2 a fault's
+/// line to `faults`, which is else left alone. Nothing is printed before all else is done.
 pub fn run_follow<
     'a,
     F: Files<File = File> + Sync,
@@ -117,14 +116,16 @@ where
     ensures no_failure { IfOk result (λ status. W.failed out.new ≡ W.failed out.old) }
     ensures given_up { IfErr result (λ fault.
         GivesUpStep ⟦<SourceConnector<'a, T, F> as Connector>⟧ step.now.old.now step.now.new.now
-        step.now.sources.items fault W.text W.failed out.old out.new) }
+        (option_map (λ p. p.now) step.now.proof) step.now.sources.items fault
+        W.text W.failed out.old out.new) }
 {
     let old_bytes = read_committee(files, alloc, step.old)?;
     let new_bytes = read_committee(files, alloc, step.new)?;
     let old = parse_committee(&old_bytes)?;
     let new = parse_committee(&new_bytes)?;
     see_keys(&old, &new)?;
-    follow_sources(files, rt, alloc, &old, &new, &step.sources, out)
+    see_new(files, step.proof)?;
+    follow_sources(files, rt, alloc, &old, &new, step, out)
 }
 
 // Whether the new committee has no key of the old one. Such a key would sign twice under one one-time key, from a new folder.
@@ -145,7 +146,7 @@ fn see_keys<'a>(old: &CommitteeView, new: &CommitteeView) -> Result<(), Fault<'a
     }
 }
 
-// Audits the sources under the old committee, and prints what they say of the new one.
+// Audits the sources under the old committee, writes the proof if one is asked for, and prints what they say of the new one.
 fn follow_sources<
     'a,
     F: Files<File = File> + Sync,
@@ -157,24 +158,26 @@ fn follow_sources<
     alloc: Global,
     old: &CommitteeView,
     new: &CommitteeView,
-    sources: &[SourceWord<'a>],
+    step: &Step<'a>,
     out: &mut W,
 ) -> Result<u8, Fault<'a>>
 where
     F::Dir: Send,
     requires { AreApart old.now new.now }
     ensures printed { IfOk result (λ status. (text : List ℕ)
-        × ComesTo ⟦<SourceConnector<'a, T, F> as Connector>⟧ sources.now status text
+        × ComesTo ⟦<SourceConnector<'a, T, F> as Connector>⟧ step.now.sources.items status text
         × Wrote (W.text out.old) (W.text out.new) text) }
     ensures no_failure { IfOk result (λ status. W.failed out.new ≡ W.failed out.old) }
     ensures given_up { IfErr result (λ fault.
-        GivesUpOver (IsFollowFault ⟦<SourceConnector<'a, T, F> as Connector>⟧ sources.now)
-        (ComesTo ⟦<SourceConnector<'a, T, F> as Connector>⟧ sources.now)
+        GivesUpOver (IsFollowFault ⟦<SourceConnector<'a, T, F> as Connector>⟧
+        (option_map (λ p. p.now) step.now.proof) step.now.sources.items)
+        (ComesTo ⟦<SourceConnector<'a, T, F> as Connector>⟧ step.now.sources.items)
         fault W.text W.failed out.old out.new) }
 {
-    let evidence = read_evidence(files, rt, alloc, old, sources)?;
+    let evidence = read_evidence(files, rt, alloc, old, &step.sources)?;
     let report = audit(alloc, &evidence)?;
     let following = follow(alloc, &evidence, &report, new.bytes())?;
+    write_proof(files, alloc, &evidence, &following, step.proof)?;
     print(alloc, &evidence, &report, &following, out)?;
     Ok(following.status())
 }

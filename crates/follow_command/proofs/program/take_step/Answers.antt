@@ -6,5 +6,5 @@ returns-clause-printed g c = of_same_words _ c.follow_sources.result c.args.step
 
 pub returns-clause-given_up : goal.returns-clause-given_up
 returns-clause-given_up g c =
-    step_given_up _ c.args.step.now.old.now c.args.step.now.new.now c.args.step.now.sources.items c.deref-3.result.now c.follow_sources.result g.W.Sink.text g.W.Sink.failed c.args.out.now c.follow_sources.new.out c.deref-3.ensures.value
+    step_given_up _ c.args.step.now.old.now c.args.step.now.new.now (option_map (λ p. p.now) c.args.step.now.proof) c.args.step.now.sources.items c.args.step.now.sources.items c.follow_sources.result g.W.Sink.text g.W.Sink.failed c.args.out.now c.follow_sources.new.out c.deref-3.ensures.value
     c.follow_sources.ensures.given_up

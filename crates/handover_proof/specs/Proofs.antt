@@ -1,0 +1,28 @@
+-- Files that prove a handover.
+use Rattle.std.specs.Prelude.{◌≡◌, ℕ, List, false}
+use Rattle.std.specs.List.{AllZip}
+use Rattle.blocks.specs.Headers.{Header}
+use Rattle.blocks.specs.Weights.{committee_of}
+use Rattle.log_format.specs.Readings.{IsReading}
+use Rattle.evidence.specs.Evidence.{Evidence, IsEvidenceOf}
+use Rattle.evidence.specs.Logs.{ReceivedLog}
+use Rattle.commit_search.specs.Commits.{HasNoConflict}
+use Rattle.handover.specs.Handovers.{IsFirstCommitted, IsHandover}
+
+-- the log is what this text is read as, said to be replica 0's
+pub record IsLogOf (text : List ℕ) (l : ReceivedLog) : Type 0 where
+  pub replica : l.replica ≡ 0
+  pub reading : IsReading 0 text false l.frames l.status
+
+-- no commits conflict, and this block is the first that hands over on the chain that is committed
+pub record IsHandedOverBy (e : Evidence) (b : Header) : Type 0 where
+  pub agree : HasNoConflict (committee_of e.committee) e
+  pub first : IsFirstCommitted (committee_of e.committee) e IsHandover b
+
+-- the evidence of the logs that these texts are read as
+pub record ProveHandover (committee : List ℕ) (texts : List (List ℕ)) (b : Header) : Type 0 where
+  pub logs : List ReceivedLog
+  pub read : AllZip IsLogOf texts logs
+  pub evidence : Evidence
+  pub is_evidence : IsEvidenceOf committee logs evidence
+  pub by : IsHandedOverBy evidence b

@@ -1,0 +1,101 @@
+//! Entries that certify blocks.
+
+ghost use Rattle.std.specs.Prelude.{◌<◌, ◌≤◌, IfOk, IfSome};
+ghost use Rattle.std.specs.List.{All};
+ghost use Rattle.blocks.specs.Committees.{n_of};
+
+use blocks::{CommitteeView, Header, NamedHeader};
+use certificates::{AssembleRefusal, Certificate, SignedVote, assemble};
+use evidence::Evidence;
+use shared_values::Shared;
+use std::alloc::{AllocError, Global};
+use wire::append;
+
+// The first byte of an entry without the replica's own vote.
+const RAISED: u8 = 4;
+
+// A vote of this replica on the block, where it has one. Votes rise, so a binary search finds one.
+fn vote_on(votes: &[Shared<SignedVote>], replica: u16, block: &NamedHeader) -> Option<SignedVote> {
+    let wanted = (replica, block.header().view, *block.id());
+    let found = votes.binary_search_by_key(&wanted, |vote| {
+        let vote = vote.get();
+        (vote.replica, vote.view, vote.id)
+    });
+    match found {
+        Ok(at) => votes.get(at).map(|vote| *vote.get()),
+        Err(_) => None,
+    }
+}
+
+// The vote, if the committee has its replica and its view is above genesis', as each vote of evidence.
+fn as_known(committee: &CommitteeView, vote: SignedVote) -> Option<SignedVote>
+    ensures known { IfSome result (λ v. v.replica < n_of committee.now) }
+    ensures after_genesis { IfSome result (λ v. 1 ≤ v.view) }
+{
+    if vote.replica < committee.n() && 1 <= vote.view {
+        Some(vote)
+    } else {
+        None
+    }
+}
+
+// Votes on the block by rising replicas, one of each, until they weigh as much as a quorum.
+fn votes_on(
+    alloc: Global,
+    evidence: &Evidence,
+    block: &NamedHeader,
+) -> Result<Vec<SignedVote>, AllocError>
+    ensures known { IfOk result (λ votes.
+        All (λ v. v.replica < n_of evidence.now.committee) votes.items) }
+    ensures after_genesis { IfOk result (λ votes. All (λ v. 1 ≤ v.view) votes.items) }
+{
+    let committee = evidence.committee();
+    let quorum = committee.quorum();
+    let mut weight = 0u64;
+    let mut votes = Vec::new(alloc);
+    for replica in 0..committee.n() {
+        if quorum <= weight {
+            break;
+        }
+        if let Some(vote) = vote_on(evidence.votes(), replica, block)
+            && let Some(vote) = as_known(&committee, vote)
+        {
+            votes.push(vote)?;
+            weight = weight.saturating_add(u64::from(committee.weight(replica)));
+        }
+    }
+    Ok(votes)
+}
+
+// The certificate of a quorum's votes on the block. None where there is no quorum.
+fn certificate_on(
+    alloc: Global,
+    evidence: &Evidence,
+    block: &NamedHeader,
+) -> Result<Option<Certificate>, AllocError> {
+    let votes = votes_on(alloc, evidence, block)?;
+    match assemble(alloc, &evidence.committee(), &votes) {
+        Ok(certificate) => Ok(Some(certificate)),
+        Err(AssembleRefusal::Memory) => Err(AllocError),
+        Err(_) => Ok(None),
+    }
+}
+
+/// The bytes of an entry without an own vote, of a block that names this parent, with a certificate of the parent by the votes of
+/// the evidence. None where these are no quorum.
+pub(crate) fn entry_on(
+    alloc: Global,
+    evidence: &Evidence,
+    parent: &NamedHeader,
+    block: &Header,
+) -> Result<Option<Vec<u8>>, AllocError> {
+    let Some(certificate) = certificate_on(alloc, evidence, parent)? else {
+        return Ok(None);
+    };
+    let mut entry = Vec::new(alloc);
+    entry.push(RAISED)?;
+    append(&mut entry, &block.to_bytes())?;
+    append(&mut entry, &parent.header().to_bytes())?;
+    append(&mut entry, &certificate.write(alloc)?)?;
+    Ok(Some(entry))
+}

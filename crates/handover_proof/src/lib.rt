@@ -1,0 +1,10 @@
+//! The proof of a handover in files: exports that show by themselves which block of the old committee's chain hands over. Needs
+//! no threads, files or network.
+#![tactic(auto)]
+
+mod chain;
+mod entries;
+mod proof;
+mod texts;
+
+pub use proof::{ProofFile, prove_handover};

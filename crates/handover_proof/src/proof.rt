@@ -1,0 +1,111 @@
+//! The proof, and that it shows what it is for.
+
+ghost use Rattle.std.specs.Prelude.{◌≡◌, IfOk, IfSome, IsTrue};
+ghost use Rattle.std.specs.List.{AllZip};
+ghost use Rattle.handover_proof.specs.Proofs.{IsHandedOverBy, IsLogOf, ProveHandover};
+
+use crate::chain::proving_blocks;
+use crate::texts::exports_of;
+use blocks::NamedHeader;
+use commit_search::{certified_chains, first_conflict, proved_commits};
+use evidence::{Evidence, EvidenceRefusal, SourceLog, evidence_of_logs};
+use handover_search::first_handover;
+use log_format::Frames;
+use std::alloc::{AllocError, Global};
+use std::marker::Model;
+
+/// One file of a proof: an export of at most 4,096 entries. Contracts see its text.
+#[derive(Drop)]
+pub struct ProofFile {
+    text: Vec<u8>,
+}
+
+impl Model for ProofFile {
+    ghost use Rattle.std.specs.Prelude.{ℕ, List};
+
+    ghost Value = { List ℕ };
+
+    ghost view = { λ f. f.text.items };
+}
+
+impl ProofFile {
+    /// Its text.
+    pub fn as_bytes(&self) -> &[u8]
+        ensures { result.now ≡ self.now }
+    {
+        &self.text
+    }
+}
+
+// The logs that the files are, all of replica 0: an entry without an own vote is anybody's.
+fn logs_of<'a>(alloc: Global, files: &'a [ProofFile]) -> Result<Vec<SourceLog<'a>>, AllocError>
+    ensures { IfOk result (λ logs. AllZip IsLogOf files.now logs.items) }
+{
+    let mut logs = Vec::new(alloc);
+    for file in files {
+        logs.push(SourceLog {
+            replica: 0,
+            frames: Frames::of(alloc, file.as_bytes())?,
+        })?;
+    }
+    Ok(logs)
+}
+
+// Whether evidence has no conflict, and its first handover is this block.
+fn hands_over_by(
+    alloc: Global,
+    evidence: &Evidence,
+    block: &NamedHeader,
+) -> Result<bool, AllocError>
+    ensures { IfOk result (λ is. IsTrue is → IsHandedOverBy evidence.now block.now) }
+{
+    let chains = certified_chains(alloc, evidence)?;
+    let commits = proved_commits(alloc, &chains)?;
+    if first_conflict(&chains, &commits).is_some() {
+        return Ok(false);
+    }
+    Ok(first_handover(&chains, &commits) == Some(*block))
+}
+
+// The files, not judged yet.
+fn files_of(
+    alloc: Global,
+    evidence: &Evidence,
+    block: &NamedHeader,
+) -> Result<Option<Vec<ProofFile>>, AllocError> {
+    let chains = certified_chains(alloc, evidence)?;
+    let commits = proved_commits(alloc, &chains)?;
+    let blocks = proving_blocks(alloc, &chains, &commits, block)?;
+    let Some(texts) = exports_of(alloc, evidence, &blocks)? else {
+        return Ok(None);
+    };
+    let mut files = Vec::new(alloc);
+    for text in texts {
+        files.push(ProofFile { text })?;
+    }
+    Ok(Some(files))
+}
+
+/// Exports that prove by themselves that the block is the first that hands over, where the evidence does: whoever audits them
+/// under the same committee, each as replica 0's log, sees no conflict and this handover. They have an entry for each block of the
+/// chain, with a quorum's certificate of its parent, and no own votes; where no header of the evidence names the last certified block, a
+/// header is made up for it. They are read and judged here before they are given out. None where the evidence proves no such
+/// handover. Refused as Memory where memory was refused, and as Collision where two headers of them have one id.
+pub fn prove_handover(
+    alloc: Global,
+    evidence: &Evidence,
+    block: &NamedHeader,
+) -> Result<Option<Vec<ProofFile>>, EvidenceRefusal>
+    ensures proves { IfOk result (λ files. IfSome files (λ files.
+        ProveHandover evidence.now.committee files.items block.now)) }
+{
+    let Some(files) = files_of(alloc, evidence, block)? else {
+        return Ok(None);
+    };
+    let logs = logs_of(alloc, &files)?;
+    let shown = evidence_of_logs(alloc, &evidence.committee(), &logs)?;
+    if !hands_over_by(alloc, &shown, block)? {
+        return Ok(None);
+    }
+    Ok(Some(files))
+}
