@@ -1,13 +1,20 @@
 -- Files that prove a handover.
-use Rattle.std.specs.Prelude.{◌≡◌, ℕ, List, false}
+use Rattle.std.specs.Prelude.{◌≡◌, ◌<◌, ◌≤◌, ℕ, List, false}
 use Rattle.std.specs.List.{AllZip}
+use Rattle.blocks.specs.Committees.{n_of}
 use Rattle.blocks.specs.Headers.{Header}
+use Rattle.certificates.specs.declared.vote.SignedVote.{SignedVote}
 use Rattle.blocks.specs.Weights.{committee_of}
 use Rattle.log_format.specs.Readings.{IsReading}
 use Rattle.evidence.specs.Evidence.{Evidence, IsEvidenceOf}
 use Rattle.evidence.specs.Logs.{ReceivedLog}
 use Rattle.commit_search.specs.Commits.{HasNoConflict}
 use Rattle.handover.specs.Handovers.{IsFirstCommitted, IsHandover}
+
+-- the committee has the vote's replica, and the vote is above genesis
+pub record MayBeAssembled (committee : List ℕ) (v : SignedVote) : Type 0 where
+  pub known : v.replica < n_of committee
+  pub after_genesis : 1 ≤ v.view
 
 -- the log is what this text is read as, said to be replica 0's
 pub record IsLogOf (text : List ℕ) (l : ReceivedLog) : Type 0 where

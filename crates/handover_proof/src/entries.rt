@@ -1,8 +1,8 @@
 //! Entries that certify blocks.
 
-ghost use Rattle.std.specs.Prelude.{◌<◌, ◌≤◌, IfOk, IfSome};
+ghost use Rattle.std.specs.Prelude.{IfOk, IfSome, OnOk};
 ghost use Rattle.std.specs.List.{All};
-ghost use Rattle.blocks.specs.Committees.{n_of};
+ghost use Rattle.handover_proof.specs.Proofs.{MayBeAssembled};
 
 use blocks::{CommitteeView, Header, NamedHeader};
 use certificates::{AssembleRefusal, Certificate, SignedVote, assemble};
@@ -14,29 +14,46 @@ use wire::append;
 // The first byte of an entry without the replica's own vote.
 const RAISED: u8 = 4;
 
-// A vote of this replica on the block, where it has one. Votes rise, so a binary search finds one.
-fn vote_on(votes: &[Shared<SignedVote>], replica: u16, block: &NamedHeader) -> Option<SignedVote> {
+// A vote of this replica on the block, where it has one. Votes rise, so a binary search finds one. That the committee has its
+// replica, and that its view is above genesis', is so of each vote of evidence.
+fn vote_on(
+    committee: &CommitteeView,
+    votes: &[Shared<SignedVote>],
+    replica: u16,
+    block: &NamedHeader,
+) -> Option<SignedVote>
+    ensures { IfSome result (MayBeAssembled committee.now) }
+{
     let wanted = (replica, block.header().view, *block.id());
     let found = votes.binary_search_by_key(&wanted, |vote| {
         let vote = vote.get();
         (vote.replica, vote.view, vote.id)
     });
-    match found {
-        Ok(at) => votes.get(at).map(|vote| *vote.get()),
-        Err(_) => None,
-    }
-}
-
-// The vote, if the committee has its replica and its view is above genesis', as each vote of evidence.
-fn as_known(committee: &CommitteeView, vote: SignedVote) -> Option<SignedVote>
-    ensures known { IfSome result (λ v. v.replica < n_of committee.now) }
-    ensures after_genesis { IfSome result (λ v. 1 ≤ v.view) }
-{
+    let Ok(at) = found else {
+        return None;
+    };
+    let vote = *votes.get(at)?.get();
     if vote.replica < committee.n() && 1 <= vote.view {
         Some(vote)
     } else {
         None
     }
+}
+
+// Adds the vote, if there is one.
+fn put(
+    committee: &CommitteeView,
+    votes: &mut Vec<SignedVote>,
+    vote: Option<SignedVote>,
+) -> Result<(), AllocError>
+    requires before { All (MayBeAssembled committee.now) votes.old.items }
+    requires vote { IfSome vote (MayBeAssembled committee.now) }
+    ensures { OnOk result (All (MayBeAssembled committee.now) votes.new.items) }
+{
+    if let Some(vote) = vote {
+        votes.push(vote)?;
+    }
+    Ok(())
 }
 
 // Votes on the block by rising replicas, one of each, until they weigh as much as a quorum.
@@ -45,23 +62,19 @@ fn votes_on(
     evidence: &Evidence,
     block: &NamedHeader,
 ) -> Result<Vec<SignedVote>, AllocError>
-    ensures known { IfOk result (λ votes.
-        All (λ v. v.replica < n_of evidence.now.committee) votes.items) }
-    ensures after_genesis { IfOk result (λ votes. All (λ v. 1 ≤ v.view) votes.items) }
+    ensures { IfOk result (λ votes. All (MayBeAssembled evidence.now.committee) votes.items) }
 {
     let committee = evidence.committee();
     let quorum = committee.quorum();
     let mut weight = 0u64;
     let mut votes = Vec::new(alloc);
     for replica in 0..committee.n() {
-        if quorum <= weight {
-            break;
-        }
-        if let Some(vote) = vote_on(evidence.votes(), replica, block)
-            && let Some(vote) = as_known(&committee, vote)
-        {
-            votes.push(vote)?;
-            weight = weight.saturating_add(u64::from(committee.weight(replica)));
+        if weight < quorum {
+            let vote = vote_on(&committee, evidence.votes(), replica, block);
+            if vote.is_some() {
+                weight = weight.saturating_add(u64::from(committee.weight(replica)));
+            }
+            put(&committee, &mut votes, vote)?;
         }
     }
     Ok(votes)

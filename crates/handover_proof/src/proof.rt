@@ -1,12 +1,19 @@
 //! The proof, and that it shows what it is for.
 
-ghost use Rattle.std.specs.Prelude.{◌≡◌, IfOk, IfSome, IsTrue};
-ghost use Rattle.std.specs.List.{AllZip};
+ghost use Rattle.std.specs.Prelude.{◌≡◌, ◌↔◌, IfOk, IfSome, IsTrue};
+ghost use Rattle.std.specs.List.{All, AllPairs, AllZip, Contains};
+ghost use Rattle.blocks.specs.Weights.{committee_of};
+ghost use Rattle.ancestry.specs.Known.{all_of};
+ghost use Rattle.evidence.specs.Evidence.{Evidence as EvidenceValue};
+ghost use Rattle.commit_search.specs.Commits.{HasNoConflict, IsLowerBlock};
+ghost use Rattle.handover.specs.Handovers.{IsFirstCommitted, IsHandover};
+ghost use Rattle.handover_search.specs.Searches.{AreCommitsOf};
 ghost use Rattle.handover_proof.specs.Proofs.{IsHandedOverBy, IsLogOf, ProveHandover};
 
 use crate::chain::proving_blocks;
 use crate::texts::exports_of;
-use blocks::NamedHeader;
+use ancestry::Ancestry;
+use blocks::{CommitteeView, NamedHeader};
 use commit_search::{certified_chains, first_conflict, proved_commits};
 use evidence::{Evidence, EvidenceRefusal, SourceLog, evidence_of_logs};
 use handover_search::first_handover;
@@ -37,18 +44,56 @@ impl ProofFile {
     }
 }
 
-// The logs that the files are, all of replica 0: an entry without an own vote is anybody's.
+// The log that a file is, as replica 0's: an entry without an own vote is anybody's.
+fn log_of<'a>(alloc: Global, file: &'a ProofFile) -> Result<SourceLog<'a>, AllocError>
+    ensures { IfOk result (IsLogOf file.now) }
+{
+    Ok(SourceLog {
+        replica: 0,
+        frames: Frames::of(alloc, file.as_bytes())?,
+    })
+}
+
 fn logs_of<'a>(alloc: Global, files: &'a [ProofFile]) -> Result<Vec<SourceLog<'a>>, AllocError>
     ensures { IfOk result (λ logs. AllZip IsLogOf files.now logs.items) }
 {
     let mut logs = Vec::new(alloc);
     for file in files {
-        logs.push(SourceLog {
-            replica: 0,
-            frames: Frames::of(alloc, file.as_bytes())?,
-        })?;
+        logs.push(log_of(alloc, file)?)?;
     }
     Ok(logs)
+}
+
+// Whether they are one header.
+fn are_same(a: &NamedHeader, b: &NamedHeader) -> bool
+    ensures { IsTrue result ↔ (a.now ≡ b.now) }
+{
+    a == b
+}
+
+// Whether no two of the commits conflict, which are all that evidence proves.
+fn agree(chains: &Ancestry, commits: &[NamedHeader]) -> bool
+    requires known { All (Contains (all_of chains.now)) commits.now }
+    requires rising { AllPairs IsLowerBlock commits.now }
+    ensures { (e : EvidenceValue) → AreCommitsOf e chains.now commits.now → IsTrue result
+        → HasNoConflict (committee_of e.committee) e }
+{
+    match first_conflict(chains, commits) {
+        Some(_) => false,
+        None => true,
+    }
+}
+
+// Whether the first handover on their chain is this block.
+fn hand_over_first(chains: &Ancestry, commits: &[NamedHeader], block: &NamedHeader) -> bool
+    requires known { All (Contains (all_of chains.now)) commits.now }
+    ensures { (e : EvidenceValue) → AreCommitsOf e chains.now commits.now → IsTrue result
+        → IsFirstCommitted (committee_of e.committee) e IsHandover block.now }
+{
+    match first_handover(chains, commits) {
+        Some(first) => are_same(&first, block),
+        None => false,
+    }
 }
 
 // Whether evidence has no conflict, and its first handover is this block.
@@ -61,10 +106,10 @@ fn hands_over_by(
 {
     let chains = certified_chains(alloc, evidence)?;
     let commits = proved_commits(alloc, &chains)?;
-    if first_conflict(&chains, &commits).is_some() {
+    if !agree(&chains, &commits) {
         return Ok(false);
     }
-    Ok(first_handover(&chains, &commits) == Some(*block))
+    Ok(hand_over_first(&chains, &commits, block))
 }
 
 // The files, not judged yet.
@@ -86,6 +131,20 @@ fn files_of(
     Ok(Some(files))
 }
 
+// Whether the files prove the handover by themselves.
+fn are_proof(
+    alloc: Global,
+    committee: &CommitteeView,
+    files: &[ProofFile],
+    block: &NamedHeader,
+) -> Result<bool, EvidenceRefusal>
+    ensures { IfOk result (λ are. IsTrue are → ProveHandover committee.now files.now block.now) }
+{
+    let logs = logs_of(alloc, files)?;
+    let shown = evidence_of_logs(alloc, committee, &logs)?;
+    Ok(hands_over_by(alloc, &shown, block)?)
+}
+
 /// Exports that prove by themselves that the block is the first that hands over, where the evidence does: whoever audits them
 /// under the same committee, each as replica 0's log, sees no conflict and this handover. They have an entry for each block of the
 /// chain, with a quorum's certificate of its parent, and no own votes; where no header of the evidence names the last certified block, a
@@ -102,10 +161,9 @@ pub fn prove_handover(
     let Some(files) = files_of(alloc, evidence, block)? else {
         return Ok(None);
     };
-    let logs = logs_of(alloc, &files)?;
-    let shown = evidence_of_logs(alloc, &evidence.committee(), &logs)?;
-    if !hands_over_by(alloc, &shown, block)? {
-        return Ok(None);
+    if are_proof(alloc, &evidence.committee(), &files, block)? {
+        Ok(Some(files))
+    } else {
+        Ok(None)
     }
-    Ok(Some(files))
 }

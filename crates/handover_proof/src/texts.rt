@@ -7,16 +7,22 @@ use evidence::Evidence;
 use std::alloc::{AllocError, Global};
 use wire::{MOST_ENTRIES, append};
 
+// Adds a number of four bytes. None here is above 65,536.
+fn put_number(text: &mut Vec<u8>, number: usize) -> Result<(), AllocError> {
+    let number = u32::try_from(number).unwrap_or(u32::MAX);
+    append(text, &number.to_be_bytes())
+}
+
 // Adds a frame.
 fn put_frame(text: &mut Vec<u8>, payload: &[u8]) -> Result<(), AllocError> {
-    append(text, &(payload.len() as u32).to_be_bytes())?;
+    put_number(text, payload.len())?;
     append(text, payload)
 }
 
 // Ends a stream of so many frames.
 fn put_end(text: &mut Vec<u8>, count: usize) -> Result<(), AllocError> {
-    append(text, &[0; 4])?;
-    append(text, &(count as u32).to_be_bytes())
+    put_number(text, 0)?;
+    put_number(text, count)
 }
 
 // The export of an entry on each of these blocks, its child the next of them. None where one has no quorum of votes.
@@ -52,7 +58,10 @@ pub(crate) fn exports_of(
 ) -> Result<Option<Vec<Vec<u8>>>, AllocError> {
     let mut texts = Vec::new(alloc);
     let mut rest = blocks;
-    while !rest.is_empty() {
+    for _ in 0..blocks.len() {
+        if rest.is_empty() {
+            break;
+        }
         let (part, behind) = rest.split_at(rest.len().min(MOST_ENTRIES));
         match export_of(alloc, evidence, part, behind.first())? {
             Some(text) => texts.push(text)?,
