@@ -12,14 +12,17 @@ use Rattle.program_parts.specs.declared.source_fault.SourceFault.TheVariants.{Wo
 use Rattle.program_parts.specs.declared.words.SourceWord.{SourceWord}
 use Rattle.follow_command.specs.Faults.{GivesUp, GivesUpOver, GivesUpStep, IsCause, IsFollowFault, IsProofFault, IsSourcesFault, IsStepFault}
 use Rattle.blocks.specs.Committees.{IsCommittee}
-use Rattle.follow_command.specs.Followings.{status_of}
-use Rattle.follow_command.specs.Outputs.{ComesTo, IsOutput, usage_line}
+use Rattle.evidence.specs.Evidence.{Evidence}
+use Rattle.follow_command.specs.Sources.{IsShown}
+use Rattle.culprit_search.specs.Reports.{Report}
+use Rattle.follow_command.specs.Followings.{IsFollowing, status_of}
+use Rattle.follow_command.specs.Outputs.{AreApart, ComesTo, IsOutput, IsReportOf, step_text, usage_line}
 use Rattle.follow_command.specs.Words.{AskForStep, HaveBadSource, IsUsage, IsWordsFault}
 use Rattle.follow_command.specs.declared.fault.FollowFault.{FollowFault}
 use Rattle.follow_command.specs.declared.fault.FollowFault.TheVariants.{Sources, OldKey}
 use Rattle.follow_command.specs.declared.following.Following.{Following}
 use Rattle.follow_command.specs.declared.following.Following.TheVariants.{Conflict, New, Another, Nobody}
-use Rattle.follow_command.proofs.Printing.{given_up_as}
+use Rattle.follow_command.proofs.Printing.{given_up_as, silent}
 
 -- ---- a step
 
@@ -53,6 +56,27 @@ proof_of_following connector committee proof ws (File path) is c = c
 proof_of_following connector committee proof ws (Committee r) is c = absurd c
 proof_of_following connector committee proof ws Output is c = absurd c
 proof_of_following connector committee proof ws (Own own) is c = absurd c
+
+-- sources that are the same show the same
+shown_of_same : {S F : Type 0} (connector : Ghosts (ServerOrFile S F)) (committee : List ℕ) (ws ws' : List SourceWord) (e : Evidence) → ws' ≡ ws → IsShown connector committee ws' e → IsShown connector committee ws e
+shown_of_same connector committee ws ws' e same is = subst (λ (xs : List SourceWord). IsShown connector committee xs e) same is
+
+-- what sources show, its report and what follows are a step
+pub comes_to : {S F : Type 0} (connector : Ghosts (ServerOrFile S F)) (old new : List ℕ) (ws ws' : List SourceWord) (e : Evidence) (r : Report) (f : Following) → AreApart old new → ws' ≡ ws → IsShown connector old ws' e → IsReportOf e r → IsFollowing e new f
+    → ComesTo connector ws (status_of f) (step_text e.sources r f)
+comes_to connector old new ws ws' e r f apart same shown report following = record {
+  old = old;
+  new = new;
+  apart = apart;
+  evidence = e;
+  shown = shown_of_same connector old ws ws' e same shown;
+  report = r;
+  is_report = report;
+  following = f;
+  is_following = following;
+  told = refl;
+  ends = refl;
+}
 
 -- a fault of the sources is one of following
 pub sources_of_following : {S F : Type 0} (connector : Ghosts (ServerOrFile S F)) (committee : List ℕ) (proof : Option (List ℕ)) (ws : List SourceWord) (fault : ProgramFault FollowFault) → IsCommittee committee → IsSourcesFault connector committee ws fault → IsFollowFault connector proof ws fault
@@ -167,3 +191,13 @@ is_usage connector words fault text failed out out' usage gives = elim (fault_ca
     | inr is ↦ absurd (no_usage words is.0 is.1 is.2 is.3 usage is.4)
   ]
 ]
+
+-- .. and is told with nothing written
+no_output : {S F : Type 0} (connector : Ghosts (ServerOrFile S F)) (committee : List ℕ) (ws : List SourceWord) (fault : ProgramFault FollowFault) → IsSourcesFault connector committee ws fault → fault ≢ Output
+no_output connector committee ws fault c e = subst (λ (f : ProgramFault FollowFault). IsSourcesFault connector committee ws f) e c
+
+pub evidence_given_up : {S F W : Type 0} (connector : Ghosts (ServerOrFile S F)) (committee : List ℕ) (proof : Option (List ℕ)) (ws ws' : List SourceWord) (fault : ProgramFault FollowFault) (text : W → Option (List ℕ)) (failed : W → ℕ) (out : W) → IsCommittee committee → ws' ≡ ws
+    → IsSourcesFault connector committee ws' fault → GivesUpOver (IsFollowFault connector proof ws) (ComesTo connector ws) fault text failed out out
+evidence_given_up connector committee proof ws ws' fault text failed out is same c =
+    silent (IsFollowFault connector proof ws) (ComesTo connector ws) fault text failed out (no_output connector committee ws' fault c)
+    (sources_of_following connector committee proof ws fault is (subst (λ (xs : List SourceWord). IsSourcesFault connector committee xs fault) same c))

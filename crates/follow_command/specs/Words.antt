@@ -1,5 +1,6 @@
 -- What the words of the command line ask for.
 use Rattle.std.specs.Prelude.{◌≡◌, ◌≢◌, ◌<◌, ◌-◌, ◌&&◌, ℕ, List, [], ◌∷◌, Bool, Option, Some, None, IfSome, String, bytes_eq, codes, cond, leb, length, map, option_map, slice_index_or, string_bytes, take}
+use Rattle.std.specs.Borrow.{Bor}
 use Rattle.std.specs.List.{AllZip, HoldsAt}
 use Rattle.std.specs.declared.alloc.Global.{Global}
 use Rattle.program_parts.specs.Words.{SpellsSource}
@@ -28,6 +29,9 @@ pub record IsFirstBad (words : List (String Global)) (i : ℕ) : Type 0 where
   pub are_sources : AreSources (take i words) before
 
 -- ---- the proof
+
+abbrev pub path_in : Option (Bor (List ℕ)) → Option (List ℕ)
+path_in path = option_map (λ p. p.now) path
 
 abbrev pub texts : List (String Global) → List (List ℕ)
 texts words = map (λ w. string_bytes w) words
@@ -79,7 +83,7 @@ pub record AskForStep (words : List (String Global)) (old new : List ℕ) (sourc
 -- with no words for how the program is called
 abbrev pub AskFor : List (String Global) → Words → Type 0
 AskFor words Usage = words ≡ []
-AskFor words (Step step) = AskForStep words step.old.now step.new.now step.sources.items (option_map (λ p. p.now) step.proof)
+AskFor words (Step step) = AskForStep words step.old.now step.new.now step.sources.items (path_in step.proof)
 
 -- of the words behind two paths this is the first that is no source
 abbrev pub IsBadBehind : List (String Global) → ℕ → Type 0

@@ -1,6 +1,6 @@
 //! The program over handed-in words and streams, so that tests run it whole.
 
-ghost use Rattle.std.specs.Prelude.{◌≡◌, ◌≢◌, ◌⊎◌, ◌++◌, ℕ, List, IfErr, IfOk, OnErr, OnOk, codes, option_map};
+ghost use Rattle.std.specs.Prelude.{◌≡◌, ◌≢◌, ◌⊎◌, ◌++◌, ℕ, List, IfErr, IfOk, OnErr, OnOk, codes};
 ghost use Rattle.streams.specs.Streams.{Wrote, WrotePart};
 ghost use Rattle.printed_lines.specs.Printed.{Told};
 ghost use Rattle.blocks.specs.Committees.{IsCommittee};
@@ -10,7 +10,7 @@ ghost use Rattle.follow_command.specs.FaultLines.{follow_fault_line};
 ghost use Rattle.follow_command.specs.Faults.{GivesUp, GivesUpOver, GivesUpStep, IsFollowFault};
 ghost use Rattle.handover.specs.OldKeys.{IsFirstOldKey};
 ghost use Rattle.follow_command.specs.Outputs.{AreApart, ComesTo, IsOutput, step_text};
-ghost use Rattle.follow_command.specs.Words.{IsUsage};
+ghost use Rattle.follow_command.specs.Words.{IsUsage, path_in};
 ghost use Rattle.follow_command.specs.declared.fault.FollowFault.{FollowFault as OwnFaultValue};
 
 use crate::fault::{Fault, FollowFault};
@@ -116,7 +116,7 @@ where
     ensures no_failure { IfOk result (λ status. W.failed out.new ≡ W.failed out.old) }
     ensures given_up { IfErr result (λ fault.
         GivesUpStep ⟦<SourceConnector<'a, T, F> as Connector>⟧ step.now.old.now step.now.new.now
-        (option_map (λ p. p.now) step.now.proof) step.now.sources.items fault
+        (path_in step.now.proof) step.now.sources.items fault
         W.text W.failed out.old out.new) }
 {
     let old_bytes = read_committee(files, alloc, step.old)?;
@@ -170,7 +170,7 @@ where
     ensures no_failure { IfOk result (λ status. W.failed out.new ≡ W.failed out.old) }
     ensures given_up { IfErr result (λ fault.
         GivesUpOver (IsFollowFault ⟦<SourceConnector<'a, T, F> as Connector>⟧
-        (option_map (λ p. p.now) step.now.proof) step.now.sources.items)
+        (path_in step.now.proof) step.now.sources.items)
         (ComesTo ⟦<SourceConnector<'a, T, F> as Connector>⟧ step.now.sources.items)
         fault W.text W.failed out.old out.new) }
 {

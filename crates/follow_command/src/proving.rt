@@ -1,9 +1,10 @@
 //! The proof of a handover, in files.
 
-ghost use Rattle.std.specs.Prelude.{◌≡◌, ◌≢◌, List, ℕ, Some, IfErr, IfOk, IfSome, option_map};
+ghost use Rattle.std.specs.Prelude.{◌≡◌, ◌≢◌, List, ℕ, Some, IfErr, IfOk, IfSome};
 ghost use Rattle.blocks.specs.Headers.{Header as HeaderValue};
 ghost use Rattle.handover_proof.specs.Proofs.{ProveHandover};
 ghost use Rattle.follow_command.specs.Faults.{IsProofFault};
+ghost use Rattle.follow_command.specs.Words.{path_in};
 
 use crate::fault::Fault;
 use crate::following::Following;
@@ -22,7 +23,7 @@ pub(crate) fn see_new<'a, F: Files<File = File>>(
     files: &F,
     proof: Option<&'a str>,
 ) -> Result<(), Fault<'a>>
-    ensures { IfErr result (IsProofFault (option_map (λ p. p.now) proof)) }
+    ensures { IfErr result (IsProofFault (path_in proof.entry)) }
 {
     let Some(path) = proof else {
         return Ok(());
@@ -43,7 +44,7 @@ pub(crate) fn write_proof<'a, F: Files<File = File>>(
     following: &Following,
     proof: Option<&'a str>,
 ) -> Result<(), Fault<'a>>
-    ensures { IfErr result (IsProofFault (option_map (λ p. p.now) proof)) }
+    ensures { IfErr result (IsProofFault (path_in proof.entry)) }
 {
     let (Some(path), Some(block)) = (proof, handed_over_by(following)) else {
         return Ok(());

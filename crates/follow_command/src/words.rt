@@ -1,7 +1,7 @@
 //! The words of the command line.
 
-ghost use Rattle.std.specs.Prelude.{◌≡◌, ◌≢◌, ◌↔◌, ℕ, IfErr, IfOk, IfSome, IsTrue, option_map};
-ghost use Rattle.follow_command.specs.Words.{AreSources, AskFor, IsFirstBad, IsPath, IsWordsFault, asks_for_proof, before_proof, proof_of};
+ghost use Rattle.std.specs.Prelude.{◌≡◌, ◌≢◌, ◌↔◌, ℕ, IfErr, IfOk, IfSome, IsTrue};
+ghost use Rattle.follow_command.specs.Words.{AreSources, AskFor, IsFirstBad, IsPath, IsWordsFault, asks_for_proof, before_proof, path_in, proof_of};
 
 use crate::fault::{Fault, FollowFault};
 use program_parts::{ProgramFault, SourceFault, SourceWord};
@@ -64,7 +64,7 @@ fn asks_for_proof(words: &[String]) -> bool
 
 // The path behind it.
 fn proof_of<'a>(words: &'a [String]) -> Option<&'a str>
-    ensures { option_map (λ p. p.now) result ≡ proof_of words.now }
+    ensures { path_in result ≡ proof_of words.now }
 {
     if asks_for_proof(words) {
         Some(words[words.len() - 1].as_str())
@@ -85,7 +85,7 @@ fn before_proof<'a>(words: &'a [String]) -> &'a [String]
 }
 
 fn may_be_proof(proof: Option<&str>) -> bool
-    ensures { IsTrue result ↔ IfSome (option_map (λ p. p.now) proof) IsPath }
+    ensures { IsTrue result ↔ IfSome (path_in proof.entry) IsPath }
 {
     match proof {
         Some(path) => is_path(path),
