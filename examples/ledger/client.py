@@ -54,7 +54,7 @@ def get_key(folder, committee, key):
     return answer["value"]
 
 
-HEAD = ["replica", "view", "vote view", "lock", "entries left", "keys left", "committed", "applied", "store"]
+HEAD = ["replica", "view", "vote view", "lock", "entries left", "keys left", "committed", "applied", "store", "handover"]
 
 
 def row_of(number, answer):
@@ -64,7 +64,7 @@ def row_of(number, answer):
     at_signer = ["signer away", "", "", ""]
     if signer:
         at_signer = [signer["vote_view"], signer["lock"]["view"], signer["entries_left"], signer["indices_left"]]
-    return [number, answer["view"], *at_signer, answer["committed"], answer["applied"], answer["store"][:8]]
+    return [number, answer["view"], *at_signer, answer["committed"], answer["applied"], answer["store"][:8], answer["handover"][:8]]
 
 
 def print_status(folder, committee):
