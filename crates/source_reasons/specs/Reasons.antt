@@ -1,0 +1,52 @@
+-- Why a source is not sound, and the words that say so.
+use Rattle.std.specs.Prelude.{◌≡◌, ◌≢◌, ◌⊎◌, ◌-◌, ◌++◌, ℕ, List, codes, decimal}
+use Rattle.log_format.specs.declared.status.Status.TheVariants.{Whole, Cut, Broken, TooLong, Failed}
+use Rattle.log_transfer.specs.declared.failure.Failure.{Failure}
+use Rattle.log_transfer.specs.declared.failure.Failure.TheVariants.{NoSuchFile, Folder, Unreadable, NoSuchHost, Refused, Reset, TimedOut}
+use Rattle.held_logs.specs.declared.judging.Judgement.{Judgement}
+use Rattle.source_reasons.specs.declared.reason.Reason.{Reason}
+use Rattle.source_reasons.specs.declared.reason.Reason.TheVariants.{Call, Early, NoExport, Old, Frames, Votes}
+use Rattle.source_reasons.specs.declared.reason.Stranger.{Stranger}
+use Rattle.source_reasons.specs.declared.reason.Stranger.TheVariants.{Unknown, Journal, Committee, Verdict, Seed}
+
+-- it is the first reason that holds of a log of which this was found
+abbrev pub IsReasonOf : Judgement → Reason → Type 0
+IsReasonOf j (Call failure) = j.report.status ≡ Failed
+IsReasonOf j Early = j.report.status ≡ Cut
+IsReasonOf j (NoExport stranger) = (j.report.status ≡ Broken) ⊎ (j.report.status ≡ TooLong)
+IsReasonOf j Old = (j.report.status ≡ Whole) × (j.report.entries ≢ j.report.frames)
+IsReasonOf j (Frames count) = (j.report.status ≡ Whole) × (j.report.entries ≢ j.report.frames) × (count ≡ j.report.frames - j.report.entries)
+IsReasonOf j (Votes votes good) = (j.report.status ≡ Whole) × (j.report.entries ≡ j.report.frames) × (votes ≡ j.votes) × (good ≡ j.good)
+
+abbrev pub time_text : ℕ → List ℕ
+time_text seconds = codes "timed out after " ++ decimal seconds ++ codes " s"
+
+abbrev pub failure_text : Failure → List ℕ
+failure_text NoSuchFile = codes "no such file"
+failure_text Folder = codes "a folder"
+failure_text Unreadable = codes "can't be read"
+failure_text NoSuchHost = codes "no such host"
+failure_text Refused = codes "refused"
+failure_text Reset = codes "reset"
+failure_text (TimedOut seconds) = time_text seconds
+
+abbrev pub stranger_text : Stranger → List ℕ
+stranger_text Unknown = codes "not an export"
+stranger_text Journal = codes "not an export (a journal: see export)"
+stranger_text Committee = codes "not an export (a committee)"
+stranger_text Verdict = codes "not an export (a verdict)"
+stranger_text Seed = codes "not an export (a seed)"
+
+abbrev pub frames_text : ℕ → List ℕ
+frames_text count = decimal count ++ codes " frames are no entries"
+
+abbrev pub votes_text : ℕ → ℕ → List ℕ
+votes_text votes good = decimal votes ++ (codes " votes, " ++ (decimal good ++ codes " good: another committee, or another R?"))
+
+abbrev pub reason_text : Reason → List ℕ
+reason_text (Call failure) = failure_text failure
+reason_text Early = codes "ends early"
+reason_text (NoExport stranger) = stranger_text stranger
+reason_text Old = codes "the old form: see migrate"
+reason_text (Frames count) = frames_text count
+reason_text (Votes votes good) = votes_text votes good
