@@ -1,5 +1,5 @@
 -- Why a source is not sound, and the words that say so.
-use Rattle.std.specs.Prelude.{◌≡◌, ◌≢◌, ◌⊎◌, ◌-◌, ◌++◌, ℕ, List, codes, decimal}
+use Rattle.std.specs.Prelude.{◌≡◌, ◌≢◌, ◌⊎◌, ◌-◌, ◌++◌, ℕ, List, Option, None, Some, codes, decimal, false, true}
 use Rattle.log_format.specs.declared.status.Status.TheVariants.{Whole, Cut, Broken, TooLong, Failed}
 use Rattle.log_transfer.specs.declared.failure.Failure.{Failure}
 use Rattle.log_transfer.specs.declared.failure.Failure.TheVariants.{NoSuchFile, Folder, Unreadable, NoSuchHost, Refused, Reset, TimedOut}
@@ -17,6 +17,11 @@ IsReasonOf j (NoExport stranger) = (j.report.status ≡ Broken) ⊎ (j.report.st
 IsReasonOf j Old = (j.report.status ≡ Whole) × (j.report.entries ≢ j.report.frames)
 IsReasonOf j (Frames count) = (j.report.status ≡ Whole) × (j.report.entries ≢ j.report.frames) × (count ≡ j.report.frames - j.report.entries)
 IsReasonOf j (Votes votes good) = (j.report.status ≡ Whole) × (j.report.entries ≡ j.report.frames) × (votes ≡ j.votes) × (good ≡ j.good)
+
+-- there is none just where the log is sound
+abbrev pub IsWhy : Judgement → Option Reason → Type 0
+IsWhy j None = j.sound ≡ true
+IsWhy j (Some reason) = (j.sound ≡ false) × IsReasonOf j reason
 
 abbrev pub time_text : ℕ → List ℕ
 time_text seconds = codes "timed out after " ++ decimal seconds ++ codes " s"

@@ -1,7 +1,7 @@
 //! Why a source is not sound.
 
-ghost use Rattle.std.specs.Prelude.{◌≡◌, IfOk, IfSome, None, false, string_bytes, true};
-ghost use Rattle.source_reasons.specs.Reasons.{IsReasonOf, failure_text, reason_text, stranger_text};
+ghost use Rattle.std.specs.Prelude.{◌≡◌, IfOk, string_bytes};
+ghost use Rattle.source_reasons.specs.Reasons.{IsWhy, failure_text, reason_text, stranger_text};
 
 use held_logs::Judgement;
 use log_format::Status;
@@ -49,8 +49,7 @@ impl Reason {
         stranger: Stranger,
         is_old: bool,
     ) -> Option<Reason>
-        ensures sound { judged.now.sound ≡ true → result ≡ None }
-        ensures unsound { judged.now.sound ≡ false → IfSome result (IsReasonOf judged.now) }
+        ensures { IsWhy judged.now result }
     {
         if judged.sound {
             return None;
