@@ -9,7 +9,7 @@ _wezhgula_options() {
         hs_watch) echo --every --reread --listen --host --until-culprit --until-input-ends ;;
         'hs_tool keygen') echo --key --random --stdin ;;
         'hs_tool replica') echo --workers --serve --requests ;;
-        'hs_tool audit') echo --tries --strict --strict-all --why ;;
+        'hs_tool audit') echo --tries --strict --strict-all --why --keep --json ;;
     esac
 }
 

@@ -1,1 +1,2 @@
 pub mod HeldSources
+pub mod Payloads

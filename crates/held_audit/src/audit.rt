@@ -12,9 +12,11 @@ ghost use Rattle.culprit_search.specs.Reports.{AreMoreThanAThird, IsAudit};
 ghost use Rattle.culprit_search.specs.ReportText.{report_text};
 ghost use Rattle.source_audit.specs.Runs.{IsMemoryOrSink, IsRunRefusal};
 ghost use Rattle.source_audit.specs.declared.run_error.RunError.TheVariants.{Sink as NotWritten};
+ghost use Rattle.held_logs.specs.Held.{MayHold};
 ghost use Rattle.held_logs.specs.Judged.{IsJudged};
 ghost use Rattle.held_audit.specs.HeldRuns.{IsHeldRun, IsRefusedOf};
 
+use crate::seeing::SeeLogs;
 use blocks::CommitteeView;
 use certificates::Verifier;
 use culprit_search::{Report, audit, write_report};
@@ -23,7 +25,7 @@ use held_logs::{HeldLog, Judgement, evidence_of_held, hold_all, judge_all};
 use log_transfer::Connector;
 use parallel_verify::Source;
 use source_audit::RunError;
-use std::alloc::Global;
+use std::alloc::{AllocError, Global};
 use std::thread::Threads;
 use streams::Sink;
 
@@ -82,17 +84,41 @@ fn judge_held<'a, R: Threads + Sync, V: Verifier + Sync>(
     Ok((evidence, judged))
 }
 
-/// Reads the sources as `hold_all` does, judges the logs, and audits what they show together, as `audit_run_of` does. What came
+// What comes of the sources, which is shown first.
+fn hold_and_show<R: Threads + Sync, C: Connector + Send, S: SeeLogs>(
+    rt: &R,
+    alloc: Global,
+    sources: Vec<Source<C>>,
+    seer: &mut S,
+) -> Result<Vec<HeldLog>, AllocError>
+    requires tries { All (MayBeTried C.allowed) sources.items }
+    ensures { IfOk result (λ logs.
+        AllZip (MayHold C.gives C.reaches C.failed) sources.items logs.items) }
+{
+    let logs = hold_all(rt, alloc, sources)?;
+    seer.see(&logs);
+    Ok(logs)
+}
+
+/// Reads the sources as `hold_all` does, shows the logs to `seer`, judges them, and audits what they show together, as `audit_run_of` does. What came
 /// of all sources stands in memory meanwhile.
 ///
 /// In this order: `Memory`, `Collision`, `Sink`. After `Sink` a first part of the lines was written, and after the others
 /// nothing was. A source that fails refuses nothing: its line says so.
-pub fn audit_held<'a, R: Threads + Sync, C: Connector + Send, V: Verifier + Sync, W: Sink>(
+pub fn audit_held<
+    'a,
+    R: Threads + Sync,
+    C: Connector + Send,
+    V: Verifier + Sync,
+    S: SeeLogs,
+    W: Sink,
+>(
     rt: &R,
     alloc: Global,
     committee: &CommitteeView<'a>,
     verifier: &V,
     sources: Vec<Source<C>>,
+    seer: &mut S,
     out: &mut W,
 ) -> Result<HeldAudit<'a>, RunError>
     requires tries { All (MayBeTried C.allowed) sources.items }
@@ -109,7 +135,7 @@ pub fn audit_held<'a, R: Threads + Sync, C: Connector + Send, V: Verifier + Sync
     ensures cause { IsErrOf result RunError.Sink
         → W.failed out.new ≡ one_more (W.failed out.old) }
 {
-    let logs = hold_all(rt, alloc, sources)?;
+    let logs = hold_and_show(rt, alloc, sources, seer)?;
     let (evidence, judged) = judge_held(rt, alloc, committee, verifier, &logs)?;
     let report = report_on(alloc, &evidence, out)?;
     Ok(HeldAudit {

@@ -2,6 +2,8 @@
 #![tactic(auto)]
 
 mod audit;
+mod seeing;
 
 pub use audit::{HeldAudit, audit_held};
+pub use seeing::{NoOne, SeeLogs};
 pub use source_audit::RunError;

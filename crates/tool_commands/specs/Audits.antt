@@ -64,3 +64,9 @@ abbrev pub IsEndOf : Strictness → List ℕ → List Judgement → List (List �
 IsEndOf strictness committee judged verdicts Culprits = verdicts ≢ []
 IsEndOf strictness committee judged verdicts NoCulprit = (verdicts ≡ []) × HoldsUp strictness committee judged
 IsEndOf strictness committee judged verdicts TooFewSound = (verdicts ≡ []) × FallsShort strictness committee judged
+
+-- the exit status
+abbrev pub status_of : AuditEnd → ℕ
+status_of NoCulprit = 0
+status_of TooFewSound = 4
+status_of Culprits = 3

@@ -5,7 +5,7 @@ use Rattle.printed_lines.specs.Printed.{file_line}
 use Rattle.program_parts.specs.FaultLines.{fault_line, source_fault_line}
 use Rattle.program_parts.specs.declared.program_fault.ProgramFault.{ProgramFault}
 use Rattle.tool_commands.specs.declared.fault.FolderFile.{FolderFile}
-use Rattle.tool_commands.specs.declared.fault.FolderFile.TheVariants.{Key, Lock, PutBack, Verdict}
+use Rattle.tool_commands.specs.declared.fault.FolderFile.TheVariants.{Key, Kept, Lock, PutBack, Verdict}
 use Rattle.tool_commands.specs.declared.fault.ToolFault.{ToolFault}
 use Rattle.tool_commands.specs.declared.fault.ToolFault.TheVariants.{Hex, FileIn, Sources, Store, Receipts, Listen}
 
@@ -15,6 +15,7 @@ name_behind (Key file) = codes "/" ++ file_name file
 name_behind Lock = codes "/lock"
 name_behind PutBack = codes "/put-back"
 name_behind (Verdict replica) = codes "/verdict-" ++ decimal replica ++ codes ".hsx"
+name_behind (Kept replica source) = codes "/" ++ decimal replica ++ codes "-" ++ decimal source ++ codes ".hsl"
 
 -- "fault store N"
 abbrev pub store_fault_line : ℕ → List ℕ

@@ -5,9 +5,9 @@ pub mod FaultLines
 pub mod Lines
 pub mod Occupied
 pub mod OpenedSources
-pub mod Reasons
 pub mod Seeds
 pub mod SourceTries
 pub mod Stays
 pub mod Strict
+pub mod Told
 pub mod Writes

@@ -1,23 +1,26 @@
-//! `hs_tool audit COMMITTEE OUTDIR SOURCE.. [--tries T] [--strict] [--strict-all] [--why]`: what logs prove, and whom they
-//! accuse.
+//! `hs_tool audit COMMITTEE OUTDIR SOURCE.. [--tries T] [--strict] [--strict-all] [--why] [--keep KEPT]
+//! [--json FILE]`: what logs prove, and whom they accuse.
 
 ghost use Rattle.std.specs.Prelude.{◌≡◌, ◌≢◌, ◌⊎◌, [], false, true, IfErr, IfOk};
 ghost use Rattle.std.specs.List.{All};
 ghost use Rattle.parallel_verify.specs.Collections.{MayBeTried};
 ghost use Rattle.program_parts.specs.Writes.{CountsWrites};
-ghost use Rattle.tool_commands.specs.Audits.{AreCulpritsPrinted, EndsAs, IsAuditPrinted, IsEndOf, IsEnoughPrinted, IsTooLittlePrinted};
+ghost use Rattle.tool_commands.specs.Audits.{AreCulpritsPrinted, EndsAs, IsAuditPrinted, IsEndOf, IsEnoughPrinted, IsTooLittlePrinted, status_of};
 ghost use Rattle.tool_commands.specs.Strict.{AreAny, AreJudgedAs};
 
 use crate::fault::{Fault, FolderFile, ToolFault, fault_of_run};
 use crate::host::Host;
+use crate::keep::Keeper;
 use crate::progress::Progress;
+use crate::report_file::{clear_report, write_report};
 use crate::sources::{open_sources, read_source_words};
 use crate::strict::falls_short;
+use crate::tool::{CULPRITS, DONE, TOO_FEW_SOUND};
 use crate::why::tell_why;
 use blocks::CommitteeView;
 use certificates::Verifier;
 use culprit_search::{Report, Verdict};
-use held_audit::{HeldAudit, audit_held};
+use held_audit::{HeldAudit, SeeLogs, audit_held};
 use log_transfer::{Connector, SourceConnector};
 use parallel_verify::Source;
 use program_parts::{ProgramFault, parse_committee, read_committee};
@@ -44,10 +47,24 @@ pub(crate) enum AuditEnd {
     Culprits,
 }
 
+impl AuditEnd {
+    /// The exit status of the program.
+    pub fn status(self) -> u8
+        ensures { result ≡ status_of self }
+    {
+        match self {
+            AuditEnd::NoCulprit => DONE,
+            AuditEnd::TooFewSound => TOO_FEW_SOUND,
+            AuditEnd::Culprits => CULPRITS,
+        }
+    }
+}
+
 /// Audits the logs of the sources that the words name, under the committee of the file, as `audit_run_of` does, which
 /// prints the report. Then the verdict on each culprit is written to a file of `folder`, new or in place of what was there. Where
-/// `folder` is no folder, no source is read and nothing printed. Where it is asked for, `whys` is told why sources are not sound, and
-/// where the verdicts are. Answers how it ended.
+/// `folder` is no folder, no source is read and nothing printed. Where it is asked for, the logs are kept once all are read, `whys` is
+/// told why sources are not sound, and where the verdicts are, and last a report for programs is written, of which an older one is
+/// removed first. Answers how it ended.
 pub(crate) fn audit_sources<
     'a,
     F: Files<File = File> + Sync,
@@ -60,7 +77,7 @@ pub(crate) fn audit_sources<
     folder: &'a str,
     words: &[&'a str],
     tries: Tries,
-    wishes: AuditWishes,
+    wishes: AuditWishes<'a>,
     out: &mut W,
     whys: &mut Y,
 ) -> Result<AuditEnd, Fault<'a>>
@@ -70,22 +87,26 @@ where
         → AreCulpritsPrinted ⟦<SourceConnector<'a, T, F> as Connector>⟧ words.now tries.count
         (W.text out.old) (W.text out.new)) }
     ensures none { IfOk result (λ end. end ≡ AuditEnd.NoCulprit
-        → IsEnoughPrinted ⟦<SourceConnector<'a, T, F> as Connector>⟧ wishes.strictness
+        → IsEnoughPrinted ⟦<SourceConnector<'a, T, F> as Connector>⟧ wishes.entry.strictness
         words.now tries.count (W.text out.old) (W.text out.new)) }
     ensures too_few { IfOk result (λ end. end ≡ AuditEnd.TooFewSound
-        → IsTooLittlePrinted ⟦<SourceConnector<'a, T, F> as Connector>⟧ wishes.strictness
+        → IsTooLittlePrinted ⟦<SourceConnector<'a, T, F> as Connector>⟧ wishes.entry.strictness
         words.now tries.count (W.text out.old) (W.text out.new)) }
     ensures counted { CountsWrites result (W.failed out.old) (W.failed out.new) }
-    ensures reasons { (whys.new ≡ whys.old) ⊎ (wishes.tells_why ≡ true) }
+    ensures reasons { (whys.new ≡ whys.old) ⊎ (wishes.entry.tells_why ≡ true) }
 {
+    if let Some(path) = wishes.json {
+        clear_report(host.files, host.alloc, path, committee, words)?;
+    }
     let sources = read_source_words(host.alloc, words)?;
     let bytes = read_committee(host.files, host.alloc, committee)?;
     let committee = parse_committee(&bytes)?;
     see_folder(host.files, folder)?;
+    let keeper = Keeper::begin(host.files, host.alloc, wishes.keep)?;
     let progress = Progress::new(host.alloc, host.rt, host.console, sources.len())?;
     let sources = open_sources(host, &sources, tries, &progress)?;
     audit_opened(
-        host, &committee, &progress, sources, words, folder, wishes, out, whys,
+        host, &committee, &progress, sources, words, folder, wishes, keeper, out, whys,
     )
 }
 
@@ -105,21 +126,22 @@ fn audit_opened<
     sources: Vec<Source<C>>,
     words: &[&'a str],
     folder: &'a str,
-    wishes: AuditWishes,
+    wishes: AuditWishes<'a>,
+    keeper: Keeper<'a, F>,
     out: &mut W,
     whys: &mut Y,
 ) -> Result<AuditEnd, Fault<'a>>
     requires tries { All (MayBeTried C.allowed) sources.items }
-    ensures ended { IfOk result (EndsAs C.Connector wishes.strictness committee.now sources.items
+    ensures ended { IfOk result (EndsAs C.Connector wishes.entry.strictness committee.now sources.items
         (W.text out.old) (W.text out.new)) }
     ensures counted { CountsWrites result (W.failed out.old) (W.failed out.new) }
-    ensures reasons { (whys.new ≡ whys.old) ⊎ (wishes.tells_why ≡ true) }
+    ensures reasons { (whys.new ≡ whys.old) ⊎ (wishes.entry.tells_why ≡ true) }
 {
     if is_plain(wishes) {
         return audit_plain(host, committee, verifier, sources, folder, out);
     }
     audit_judged(
-        host, committee, verifier, sources, words, folder, wishes, out, whys,
+        host, committee, verifier, sources, words, folder, wishes, keeper, out, whys,
     )
 }
 
@@ -139,29 +161,78 @@ fn audit_judged<
     sources: Vec<Source<C>>,
     words: &[&'a str],
     folder: &'a str,
-    wishes: AuditWishes,
+    wishes: AuditWishes<'a>,
+    keeper: Keeper<'a, F>,
     out: &mut W,
     whys: &mut Y,
 ) -> Result<AuditEnd, Fault<'a>>
     requires tries { All (MayBeTried C.allowed) sources.items }
-    ensures ended { IfOk result (EndsAs C.Connector wishes.strictness committee.now sources.items
+    ensures ended { IfOk result (EndsAs C.Connector wishes.entry.strictness committee.now sources.items
         (W.text out.old) (W.text out.new)) }
     ensures counted { CountsWrites result (W.failed out.old) (W.failed out.new) }
-    ensures reasons { (whys.new ≡ whys.old) ⊎ (wishes.tells_why ≡ true) }
+    ensures reasons { (whys.new ≡ whys.old) ⊎ (wishes.entry.tells_why ≡ true) }
 {
-    let audit = print_held(host.rt, host.alloc, committee, verifier, sources, out)?;
-    store_verdicts(host.files, host.alloc, folder, &audit.report)?;
+    let mut keeper = keeper;
+    let audit = print_held(
+        host.rt,
+        host.alloc,
+        committee,
+        verifier,
+        sources,
+        &mut keeper,
+        out,
+    )?;
+    let end = end_of(wishes.strictness, committee, &audit);
+    finish(
+        host, committee, words, folder, wishes, &keeper, &audit, end, whys,
+    )?;
+    Ok(end)
+}
+
+// What comes behind the report: the verdicts, and what else is asked for.
+fn finish<'a, F: Files<File = File>, T, Y: Sink>(
+    host: &Host<'a, F, T>,
+    committee: &CommitteeView,
+    words: &[&'a str],
+    folder: &'a str,
+    wishes: AuditWishes<'a>,
+    keeper: &Keeper<'a, F>,
+    audit: &HeldAudit,
+    end: AuditEnd,
+    whys: &mut Y,
+) -> Result<(), Fault<'a>>
+    ensures fault { IfErr result (λ fault. fault ≢ ProgramFault.Output) }
+    ensures reasons { (whys.new ≡ whys.old) ⊎ (wishes.entry.tells_why ≡ true) }
+{
+    let (files, alloc) = (host.files, host.alloc);
+    store_verdicts(files, alloc, folder, &audit.report)?;
     if wishes.tells_why {
-        tell_why(host.files, host.alloc, words, folder, &audit, whys);
+        tell_why(files, alloc, words, folder, audit, whys);
     }
-    Ok(end_of(wishes.strictness, committee, &audit))
+    keeper.ended()?;
+    if let Some(path) = wishes.json {
+        write_report(
+            files,
+            alloc,
+            path,
+            end.status(),
+            committee,
+            words,
+            folder,
+            audit,
+        )?;
+    }
+    Ok(())
 }
 
 // Whether nothing is asked for but the audit, so that no log has to be held.
 fn is_plain(wishes: AuditWishes) -> bool
-    ensures { result ≡ true → wishes.strictness ≡ Strictness.Lax }
+    ensures { result ≡ true → wishes.entry.strictness ≡ Strictness.Lax }
 {
-    wishes.strictness == Strictness::Lax && !wishes.tells_why
+    wishes.strictness == Strictness::Lax
+        && !wishes.tells_why
+        && wishes.keep.is_none()
+        && wishes.json.is_none()
 }
 
 // An audit with no log held whole.
@@ -207,12 +278,21 @@ fn end_of(strictness: Strictness, committee: &CommitteeView, audit: &HeldAudit) 
     AuditEnd::NoCulprit
 }
 
-fn print_held<'a, 'c, T: Threads + Sync, C: Connector + Send, V: Verifier + Sync, W: Sink>(
+fn print_held<
+    'a,
+    'c,
+    T: Threads + Sync,
+    C: Connector + Send,
+    V: Verifier + Sync,
+    S: SeeLogs,
+    W: Sink,
+>(
     rt: &T,
     alloc: Global,
     committee: &CommitteeView<'c>,
     verifier: &V,
     sources: Vec<Source<C>>,
+    seer: &mut S,
     out: &mut W,
 ) -> Result<HeldAudit<'c>, Fault<'a>>
     requires tries { All (MayBeTried C.allowed) sources.items }
@@ -221,7 +301,7 @@ fn print_held<'a, 'c, T: Threads + Sync, C: Connector + Send, V: Verifier + Sync
         (W.text out.old) (W.text out.new) audit.report.verdicts) }
     ensures counted { CountsWrites result (W.failed out.old) (W.failed out.new) }
 {
-    match audit_held(rt, alloc, committee, verifier, sources, out) {
+    match audit_held(rt, alloc, committee, verifier, sources, seer, out) {
         Ok(audit) => Ok(audit),
         Err(error) => Err(fault_of_run(error)),
     }

@@ -44,6 +44,8 @@ pub enum FolderFile {
     PutBack,
     /// The verdict on this replica.
     Verdict(u16),
+    /// What is kept of the log of this replica that came of this source, counted from 0.
+    Kept(u16, usize),
 }
 
 impl FolderFile {
@@ -63,6 +65,13 @@ impl FolderFile {
                 name.push(b"/verdict-");
                 name.push(Buffer::new().format(replica).as_bytes());
                 name.push(b".hsx");
+            }
+            FolderFile::Kept(whose, source) => {
+                name.push(b"/");
+                name.push(Buffer::new().format(whose).as_bytes());
+                name.push(b"-");
+                name.push(Buffer::new().format(source).as_bytes());
+                name.push(b".hsl");
             }
         }
         name

@@ -1,13 +1,15 @@
 //! What `--why` tells: why sources are not sound, and where the verdicts are.
 
+ghost use Rattle.source_reasons.specs.Reasons.{IsWhy};
+
 use crate::fault::{Fault, FolderFile};
-use crate::reason::{Reason, Stranger, put_reason};
 use culprit_search::Report;
 use held_audit::HeldAudit;
-use held_logs::HeldLog;
+use held_logs::{HeldLog, Judgement};
 use lmots::PRIVATE_SEED_LEN;
 use printed_lines::write_printed;
 use program_parts::{Origin, SourceWord, read_named};
+use source_reasons::{Reason, Stranger};
 use std::alloc::Global;
 use std::fs::{File, Files};
 use streams::{Sink, write_all};
@@ -41,15 +43,32 @@ fn tell_reasons<F: Files<File = File>, W: Sink>(
     out: &mut W,
 ) -> Result<(), streams::Fault> {
     for (i, word) in words.iter().enumerate() {
-        let (Some(log), Some(judged)) = (audit.logs.get(i), audit.judged.get(i)) else {
+        let Some(judged) = audit.judged.get(i) else {
             return Ok(());
         };
-        let stranger = stranger_at(files, alloc, word);
-        if let Some(reason) = Reason::of(judged, log.failure(), stranger, begins_old(log)) {
+        if let Some(reason) = reason_of(files, alloc, word, audit.logs.get(i), judged) {
             tell_reason(alloc, word, reason, out)?;
         }
     }
     Ok(())
+}
+
+/// Why the log of the source of this word is not sound, of which this was found.
+pub(crate) fn reason_of<F: Files<File = File>>(
+    files: &F,
+    alloc: Global,
+    word: &str,
+    log: Option<&HeldLog>,
+    judged: &Judgement,
+) -> Option<Reason>
+    ensures { IsWhy judged.now result }
+{
+    let stranger = stranger_at(files, alloc, word);
+    let (failure, is_old) = match log {
+        Some(log) => (log.failure(), begins_old(log)),
+        None => (None, false),
+    };
+    Reason::of(judged, failure, stranger, is_old)
 }
 
 // The line of a source. What memory is refused to is lost.
@@ -59,13 +78,12 @@ fn tell_reason<W: Sink>(
     reason: Reason,
     out: &mut W,
 ) -> Result<(), streams::Fault> {
-    let mut text = Vec::new(alloc);
-    if put_reason(&mut text, reason).is_err() {
+    let Ok(text) = reason.text(alloc) else {
         return Ok(());
-    }
+    };
     write_printed(out, word.as_bytes())?;
     write_all(out, b" ")?;
-    write_all(out, &text)?;
+    write_all(out, text.as_bytes())?;
     write_all(out, b"\n")
 }
 

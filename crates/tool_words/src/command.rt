@@ -34,13 +34,13 @@ pub enum Command<'a> {
         workers: Workers,
         service: Option<Service<'a>>,
     },
-    /// `audit COMMITTEE OUTDIR SOURCE.. [--tries T] [--strict] [--strict-all] [--why]`
+    /// `audit COMMITTEE OUTDIR SOURCE.. [--tries T] [--strict] [--strict-all] [--why] [--keep KEPT] [--json REPORT]`
     Audit {
         committee: &'a str,
         folder: &'a str,
         sources: Vec<&'a str>,
         tries: Tries,
-        wishes: AuditWishes,
+        wishes: AuditWishes<'a>,
     },
     /// `migrate OLD NEW COMMITTEE`
     Migrate {
@@ -154,10 +154,14 @@ pub enum Strictness {
 
 /// What else an audit is asked for.
 #[derive(Clone, Copy, Debug)]
-pub struct AuditWishes {
+pub struct AuditWishes<'a> {
     pub strictness: Strictness,
     /// Whether it says why a source is not sound, and where the verdicts are.
     pub tells_why: bool,
+    /// The folder that it makes for what it reads.
+    pub keep: Option<&'a str>,
+    /// The file to which it writes its report for programs.
+    pub json: Option<&'a str>,
 }
 
 /// How many requests are served: 1 to 1,000.

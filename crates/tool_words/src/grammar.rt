@@ -92,7 +92,9 @@ fn with_wishes<'a>(alloc: Global, audit: Grammar<'a>) -> Result<Grammar<'a>, All
     audit
         .arg(flag(alloc, "strict"))?
         .arg(flag(alloc, "strict-all"))?
-        .arg(flag(alloc, "why"))
+        .arg(flag(alloc, "why"))?
+        .arg(Arg::new(alloc, "KEPT").long("keep"))?
+        .arg(Arg::new(alloc, "REPORT").long("json"))
 }
 
 fn with_migrate<'a>(alloc: Global, grammar: Grammar<'a>) -> Result<Grammar<'a>, AllocError> {

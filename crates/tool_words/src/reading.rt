@@ -1,6 +1,6 @@
 //! From words to what they ask for.
 
-ghost use Rattle.std.specs.Prelude.{◌≡◌, ◌≢◌, ◌≤◌, ◌<◌, ◌^◌, [], ℕ, IfOk, MatchOption, Ok, decimal, false, true};
+ghost use Rattle.std.specs.Prelude.{◌≡◌, ◌≢◌, ◌≤◌, ◌<◌, ◌^◌, [], ℕ, IfErr, IfOk, IfSome, MatchOption, Ok, decimal, false, true};
 ghost use Rattle.program_parts.specs.Words.{SpellsNumber};
 ghost use Rattle.tool_words.specs.Commands.{HasItsCounts, IsAskedBy, IsWeighted};
 
@@ -255,14 +255,28 @@ fn audit<'a>(alloc: Global, given: &ArgMatches<'a>) -> Result<Command<'a>, Words
         folder,
         sources,
         tries,
-        wishes: wishes(given),
+        wishes: wishes(given)?,
     })
 }
 
-fn wishes(given: &ArgMatches) -> AuditWishes {
-    AuditWishes {
+fn wishes<'a>(given: &ArgMatches<'a>) -> Result<AuditWishes<'a>, WordsFault> {
+    Ok(AuditWishes {
         strictness: strictness(given.get_flag("strict"), given.get_flag("strict-all")),
         tells_why: given.get_flag("why"),
+        keep: path(given.get_str("KEPT"))?,
+        json: path(given.get_str("REPORT"))?,
+    })
+}
+
+// The path that a word says, if it is said. It may not be empty.
+fn path<'a>(word: Option<&'a str>) -> Result<Option<&'a str>, WordsFault>
+    ensures same { IfOk result (λ path. path ≡ word.entry) }
+    ensures some { IfOk result (λ path. IfSome path (λ w. w.now ≢ [])) }
+    ensures refused { IfErr result (λ _. MatchOption word.entry ⊥ (λ w. w.now ≡ [])) }
+{
+    match word {
+        Some("") => Err(WordsFault::Usage),
+        _ => Ok(word),
     }
 }
 

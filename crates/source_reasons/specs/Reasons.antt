@@ -1,13 +1,13 @@
 -- Why a source is not sound, and the words that say so.
-use Rattle.std.specs.Prelude.{◌≡◌, ◌≢◌, ◌⊎◌, ◌-◌, ◌++◌, ℕ, List, codes, decimal}
+use Rattle.std.specs.Prelude.{◌≡◌, ◌≢◌, ◌⊎◌, ◌-◌, ◌++◌, ℕ, List, Option, None, Some, codes, decimal, false, true}
 use Rattle.log_format.specs.declared.status.Status.TheVariants.{Whole, Cut, Broken, TooLong, Failed}
 use Rattle.log_transfer.specs.declared.failure.Failure.{Failure}
 use Rattle.log_transfer.specs.declared.failure.Failure.TheVariants.{NoSuchFile, Folder, Unreadable, NoSuchHost, Refused, Reset, TimedOut}
 use Rattle.held_logs.specs.declared.judging.Judgement.{Judgement}
-use Rattle.tool_commands.specs.declared.reason.Reason.{Reason}
-use Rattle.tool_commands.specs.declared.reason.Reason.TheVariants.{Call, Early, NoExport, Old, Frames, Votes}
-use Rattle.tool_commands.specs.declared.reason.Stranger.{Stranger}
-use Rattle.tool_commands.specs.declared.reason.Stranger.TheVariants.{Unknown, Journal, Committee, Verdict, Seed}
+use Rattle.source_reasons.specs.declared.reason.Reason.{Reason}
+use Rattle.source_reasons.specs.declared.reason.Reason.TheVariants.{Call, Early, NoExport, Old, Frames, Votes}
+use Rattle.source_reasons.specs.declared.reason.Stranger.{Stranger}
+use Rattle.source_reasons.specs.declared.reason.Stranger.TheVariants.{Unknown, Journal, Committee, Verdict, Seed}
 
 -- it is the first reason that holds of a log of which this was found
 abbrev pub IsReasonOf : Judgement → Reason → Type 0
@@ -18,7 +18,12 @@ IsReasonOf j Old = (j.report.status ≡ Whole) × (j.report.entries ≢ j.report
 IsReasonOf j (Frames count) = (j.report.status ≡ Whole) × (j.report.entries ≢ j.report.frames) × (count ≡ j.report.frames - j.report.entries)
 IsReasonOf j (Votes votes good) = (j.report.status ≡ Whole) × (j.report.entries ≡ j.report.frames) × (votes ≡ j.votes) × (good ≡ j.good)
 
-unfoldable pub time_text : ℕ → List ℕ
+-- there is none just where the log is sound
+abbrev pub IsWhy : Judgement → Option Reason → Type 0
+IsWhy j None = j.sound ≡ true
+IsWhy j (Some reason) = (j.sound ≡ false) × IsReasonOf j reason
+
+abbrev pub time_text : ℕ → List ℕ
 time_text seconds = codes "timed out after " ++ decimal seconds ++ codes " s"
 
 abbrev pub failure_text : Failure → List ℕ
@@ -41,7 +46,7 @@ abbrev pub frames_text : ℕ → List ℕ
 frames_text count = decimal count ++ codes " frames are no entries"
 
 abbrev pub votes_text : ℕ → ℕ → List ℕ
-votes_text votes good = decimal votes ++ codes " votes, " ++ decimal good ++ codes " good: another committee, or another R?"
+votes_text votes good = decimal votes ++ (codes " votes, " ++ (decimal good ++ codes " good: another committee, or another R?"))
 
 abbrev pub reason_text : Reason → List ℕ
 reason_text (Call failure) = failure_text failure

@@ -1,0 +1,3 @@
+pub use Rattle.evidence.specs.Logs
+pub mod Kept
+pub mod KeptLaws

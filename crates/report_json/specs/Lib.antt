@@ -1,0 +1,2 @@
+pub use Rattle.evidence.specs.Logs
+pub mod Data
