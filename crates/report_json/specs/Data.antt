@@ -5,7 +5,6 @@ use Rattle.serde_json.specs.Data.{Data, unsigned, null, number, string, array, o
 use Rattle.serde_json.specs.View.{items_of}
 use Rattle.blocks.specs.declared.ballot.Ballot.{Ballot}
 use Rattle.log_format.specs.Readings.{status_name}
-use Rattle.held_logs.specs.declared.judging.Judgement.{Judgement}
 use Rattle.source_reasons.specs.Reasons.{reason_text}
 use Rattle.source_reasons.specs.declared.reason.Reason.{Reason}
 use Rattle.verdict_format.specs.Verdicts.{earlier_in, later_in, replica_in, verdict_kind_in}

@@ -1,5 +1,5 @@
 -- What a command that was done has printed.
-use Rattle.std.specs.Prelude.{◌≡◌, ℕ, List, [], Option, codes, length, true}
+use Rattle.std.specs.Prelude.{◌≡◌, ℕ, List, Option, codes, length, true}
 use Rattle.streams.specs.Streams.{Wrote}
 use Rattle.streams.specs.declared.feed.Feed.{Ghosts as FeedGhosts}
 use Rattle.stable_log.specs.declared.disk.Disk.{Ghosts as DiskGhosts}
