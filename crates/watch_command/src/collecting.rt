@@ -3,15 +3,17 @@
 ghost use Rattle.std.specs.Prelude.{◌≢◌, IfErr};
 
 use crate::fault::{Fault, fault_of_evidence};
-use crate::shop::{Delivery, Shop, Told};
+use crate::shop::{Delivery, NewPart, Shop, Told};
 use crate::showing::{
     Seen, show_commits, show_conflict, show_culprit, show_kept, show_round, show_source,
     show_stored,
 };
 use crate::verdict_files::{Kept, VerdictFolder};
+use certificates::SignedVote;
 use culprit_search::{Commit, Conflict, Report, Verdict};
 use log_format::Status;
 use program_parts::ProgramFault;
+use shared_values::Shared;
 use source_reading::FrameDigest;
 use std::alloc::AllocError;
 use std::fs::{File, Files};
@@ -39,6 +41,8 @@ struct SourceState {
     // The collector's number for each of its logs, and how it ended when that was told last.
     logs: Vec<(usize, Option<Status>)>,
     bad: usize,
+    // The greatest view of its good votes.
+    top_view: u64,
     // How often it went back.
     times_back: u64,
     // What the frames of its first log digest to.
@@ -73,6 +77,10 @@ struct Desk<'c> {
     commits: Vec<Commit>,
     conflict: Option<Conflict>,
     round: u64,
+    // Evidence grew, and was not audited since.
+    is_due: bool,
+    // A part of a log could not be stored.
+    has_gap: bool,
 }
 
 /// Collects until the watch ends. Answers whether there are culprits.
@@ -112,6 +120,7 @@ impl<'c> Desk<'c> {
             sources.push(SourceState {
                 logs,
                 bad: 0,
+                top_view: 0,
                 times_back: 0,
                 digest: [0; 32],
             })?;
@@ -124,6 +133,8 @@ impl<'c> Desk<'c> {
             commits: Vec::new(shop.alloc),
             conflict: None,
             round: 0,
+            is_due: false,
+            has_gap: false,
         })
     }
 
@@ -159,16 +170,17 @@ impl<'c> Desk<'c> {
     {
         self.round = self.round.saturating_add(1);
         let stamp = stamp_now(shop, self.round)?;
-        let mut grew = false;
         for delivery in told {
             if self.take(shop, &stamp, delivery)? {
-                grew = true;
+                self.is_due = true;
             }
         }
         self.store_pending(shop, folder)?;
         // What was read is shown before what it proves.
         self.show(shop);
-        if grew {
+        // What is kept is audited once, when all of it was added.
+        if self.is_due && !shop.reads_kept() {
+            self.is_due = false;
             self.audit(shop, folder, &stamp)?;
             self.show(shop);
         }
@@ -182,6 +194,8 @@ impl<'c> Desk<'c> {
                 status: None,
                 frames: 0,
                 entries: 0,
+                bad_votes: state.bad as u64,
+                top_view: state.top_view,
                 digest: state.digest,
                 times_back: state.times_back,
             };
@@ -190,7 +204,7 @@ impl<'c> Desk<'c> {
             }
             show_source(shop, i, &seen);
         }
-        show_round(shop, self.round, !self.pending.is_empty());
+        show_round(shop, self.round, self.has_gap || !self.pending.is_empty());
     }
 
     // Adds what was told of a source. Answers whether evidence grew.
@@ -216,11 +230,22 @@ impl<'c> Desk<'c> {
                 let _number = self.number_of(shop, source, usize::MAX)?;
                 Ok(false)
             }
-            Told::Part(log, part, digest) => {
+            Told::Unstored(path) => {
+                self.say_unstored(shop, stamp, &path)?;
+                Ok(false)
+            }
+            Told::Part(new) => {
                 if let Some(state) = self.sources.get_mut(source) {
-                    state.digest = digest;
+                    state.digest = new.digest;
                 }
-                self.take_part(shop, stamp, source, log, &part)
+                if let Some(path) = &new.unstored {
+                    self.say_unstored(shop, stamp, path)?;
+                }
+                let grew = self.take_part(shop, stamp, source, &new)?;
+                if new.is_kept {
+                    shop.note_added();
+                }
+                Ok(grew)
             }
         }
     }
@@ -231,22 +256,65 @@ impl<'c> Desk<'c> {
         shop: &Shop<'_, '_, 'c, T>,
         stamp: &[u8],
         source: usize,
-        log: usize,
-        part: &Part<'c>,
+        new: &NewPart<'c>,
     ) -> Result<bool, Fault<'static>>
         ensures { IfErr result (λ fault. fault ≢ ProgramFault.Output) }
     {
-        let number = self.number_of(shop, source, log)?;
-        if !self.collector.takes(number, part) {
-            return Ok(false);
-        }
-        let bad = match self.collector.add(shop.rt, shop.alloc, number, part) {
-            Ok(bad) => bad,
-            Err(refusal) => return Err(fault_of_evidence(refusal)),
+        let number = self.number_of(shop, source, new.log)?;
+        let bad = match self.add(shop, number, &new.part)? {
+            Some(bad) => bad,
+            None => return Ok(false),
         };
-        self.say_status(shop, stamp, source, log, number)?;
+        if !new.is_kept {
+            self.say_status(shop, stamp, source, new.log, number)?;
+        }
+        if bad == 0 {
+            self.note_views(source, new.part.votes());
+        }
         self.count_bad(shop, stamp, source, bad)?;
-        Ok(part.report().frames > 0)
+        Ok(new.part.report().frames > 0)
+    }
+
+    // Notes the views of votes of a source, which are good.
+    fn note_views(&mut self, source: usize, votes: &[Shared<SignedVote>]) {
+        if let Some(state) = self.sources.get_mut(source) {
+            for vote in votes {
+                state.top_view = state.top_view.max(vote.get().view);
+            }
+        }
+    }
+
+    // Adds a part of the log of this number. Answers how many of its votes are not good; none where it is not added, since the log
+    // would be too long.
+    fn add<T: Threads + Wait + Clock + Sync>(
+        &mut self,
+        shop: &Shop<'_, '_, 'c, T>,
+        number: usize,
+        part: &Part<'c>,
+    ) -> Result<Option<usize>, Fault<'static>>
+        ensures { IfErr result (λ fault. fault ≢ ProgramFault.Output) }
+    {
+        if !self.collector.takes(number, part) {
+            return Ok(None);
+        }
+        match self.collector.add(shop.rt, shop.alloc, number, part) {
+            Ok(bad) => Ok(Some(bad)),
+            Err(refusal) => Err(fault_of_evidence(refusal)),
+        }
+    }
+
+    // A part of a log is not stored at this path.
+    fn say_unstored<T: Wait + Clock>(
+        &mut self,
+        shop: &Shop<'_, '_, 'c, T>,
+        stamp: &[u8],
+        path: &String,
+    ) -> Result<(), AllocError> {
+        self.has_gap = true;
+        let mut line = Vec::new(shop.alloc);
+        put_unstored(&mut line, stamp, path.as_bytes())?;
+        shop.queue.say(shop.rt, line);
+        Ok(())
     }
 
     // The collector's number for a log of a source. Where it is not there yet, it is the next.

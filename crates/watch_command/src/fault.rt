@@ -20,19 +20,23 @@ pub enum WatchFault<'a> {
     Sources(SourceFault),
     /// This file of the folder at this path can't be made, read or locked.
     FileIn(&'a str, FolderFile),
+    /// The folder of what is kept is of another chain.
+    State,
     /// The place for HTTP can't be listened at.
     Listen,
     /// A thread can't be made.
     Threads,
 }
 
-/// A file of the folder of verdicts.
+/// A file of the folder of verdicts, or of that of what is kept.
 #[derive(Clone, Copy, Debug, PartialEq, Eq)]
 pub enum FolderFile {
     /// Its lock.
     Lock,
     /// The verdict on this replica.
     Verdict(u16),
+    /// What says of which chain the logs are that are kept.
+    Chain,
 }
 
 impl FolderFile {
@@ -43,6 +47,7 @@ impl FolderFile {
         let mut name = Line::new();
         match self {
             FolderFile::Lock => name.push(b"/lock"),
+            FolderFile::Chain => name.push(b"/chain"),
             FolderFile::Verdict(replica) => {
                 name.push(b"/verdict-");
                 name.push(Buffer::new().format(replica).as_bytes());
@@ -62,6 +67,7 @@ impl FaultLine for WatchFault<'_> {
             WatchFault::FileIn(folder, file) => {
                 write_file_fault(out, folder, file.behind().as_bytes())
             }
+            WatchFault::State => write_all(out, b"fault state\n"),
             WatchFault::Listen => write_all(out, b"fault listen\n"),
             WatchFault::Threads => write_all(out, b"fault threads\n"),
         }

@@ -3,12 +3,15 @@
 #![tactic(auto)]
 
 mod collecting;
+mod draft;
 mod fault;
 mod following;
 mod link;
 mod patience;
 mod program;
 mod queue;
+mod reader;
+mod restoring;
 mod serving;
 mod shop;
 mod showing;

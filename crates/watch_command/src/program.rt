@@ -6,7 +6,7 @@ ghost use Rattle.watch_command.specs.Ends.{Fault as FaultValue};
 ghost use Rattle.watch_command.specs.FaultLines.{watch_fault_line};
 
 use crate::collecting::collect;
-use crate::fault::{Fault, WatchFault, fault_of_evidence};
+use crate::fault::{Fault, FolderFile, WatchFault, fault_of_evidence};
 use crate::following::follow;
 use crate::patience::addresses_of;
 use crate::queue::Queue;
@@ -19,6 +19,7 @@ use blocks::CommitteeView;
 use program_parts::{
     Origin, ProgramFault, SourceFault, SourceWord, exit_status, parse_committee, read_committee,
 };
+use state_folder::{StateFault, StateFolder, open_state};
 use std::alloc::{AllocError, Global};
 use std::fs::{File, Files};
 use std::net::{Net, TcpListener, TcpStream};
@@ -106,13 +107,62 @@ where
         path: words.folder,
     };
     let lock = folder.lock()?;
+    let (state, state_lock) = match state_of(host, &words, &committee)? {
+        Some((state, lock)) => (Some(state), Some(lock)),
+        None => (None, None),
+    };
     let targets = targets_of(host, &words)?;
-    let found = match watch(host, &words, &committee, &targets, out) {
+    let found = match watch(host, &words, &committee, &targets, state.as_ref(), out) {
         Ok(found) => found,
         Err(fault) => return Err(fault),
     };
+    drop(state_lock);
     drop(lock);
     if found { Ok(CULPRITS) } else { Ok(DONE) }
+}
+
+// Where what is read is kept, if it is, and its lock.
+fn state_of<'a, 'h, T: Files<File = File>>(
+    host: &'h Host<'h, T>,
+    words: &Words<'a>,
+    committee: &CommitteeView<'_>,
+) -> Result<Option<(StateFolder<'h, 'a, T>, File)>, Fault<'a>> {
+    let Some(path) = words.state else {
+        return Ok(None);
+    };
+    match open_state(
+        host.rt,
+        host.alloc,
+        path,
+        &committee.chain(),
+        words.keep_most,
+    ) {
+        Ok(opened) => Ok(Some(opened)),
+        Err(fault) => Err(fault_of_state(path, fault)),
+    }
+}
+
+fn fault_of_state<'a>(path: &'a str, fault: StateFault) -> Fault<'a>
+    ensures { result ≢ ProgramFault.Output }
+{
+    match fault {
+        StateFault::Memory => Fault::Memory,
+        StateFault::Folder => Fault::File(path),
+        StateFault::Lock => Fault::Own(WatchFault::FileIn(path, FolderFile::Lock)),
+        StateFault::Chain => Fault::Own(WatchFault::FileIn(path, FolderFile::Chain)),
+        StateFault::OtherChain => Fault::Own(WatchFault::State),
+    }
+}
+
+// Which of the sources of its replica the i-th is.
+fn nth_of(words: &Words, i: usize, replica: u16) -> u16 {
+    let mut nth: u16 = 0;
+    for word in words.sources.get(..i).unwrap_or(&[]) {
+        if word.replica == replica {
+            nth = nth.saturating_add(1);
+        }
+    }
+    nth
 }
 
 // The sources, the names of servers resolved.
@@ -126,6 +176,7 @@ fn targets_of<'a, T: Net<Listener = TcpListener, Stream = TcpStream>>(
             Ok(place) => targets.push(Target {
                 word: words.source_words.get(i).copied().unwrap_or(""),
                 replica: word.replica,
+                nth: nth_of(words, i, word.replica),
                 place,
                 answered: AtomicU64::new(0),
                 framed: AtomicU64::new(0),
@@ -167,13 +218,18 @@ fn watch<
     words: &'x Words<'w>,
     committee: &'x CommitteeView<'x>,
     targets: &'x [Target<'w>],
+    state: Option<&'x StateFolder<'x, 'w, T>>,
     out: &mut W,
 ) -> Result<bool, Fault<'static>>
 where
     T::Dir: Send,
 {
     let queue = Queue::new(host.alloc);
-    let server = server_of(host, words, committee, targets, &queue)?;
+    let kept = match state {
+        Some(state) => state.parts().len() as u64,
+        None => 0,
+    };
+    let server = server_of(host, words, committee, targets, kept, &queue)?;
     let shop = Shop::new(
         host.rt,
         host.alloc,
@@ -183,6 +239,7 @@ where
         &queue,
         host.input_ended,
         server.as_ref(),
+        state,
     )?;
     let answerers = answerers_of(server.as_ref());
     let mut jobs = Some(jobs_of(host.alloc, targets.len(), answerers)?);
@@ -206,12 +263,13 @@ fn server_of<T: Wait + Clock + Net<Listener = TcpListener, Stream = TcpStream> +
     words: &Words<'_>,
     committee: &CommitteeView<'_>,
     targets: &[Target<'_>],
+    kept: u64,
     queue: &Queue,
 ) -> Result<Option<Server>, Fault<'static>> {
     let Some(address) = words.listen else {
         return Ok(None);
     };
-    let seen = first_snapshot(host.rt, host.alloc, committee, words, targets)?;
+    let seen = first_snapshot(host.rt, host.alloc, committee, words, targets, kept)?;
     match listen(host, address, seen, queue) {
         Ok(server) => Ok(Some(server)),
         Err(error) => Err(Fault::unless_memory(&error, Fault::Own(WatchFault::Listen))),

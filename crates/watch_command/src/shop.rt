@@ -7,6 +7,7 @@ use crate::serving::{ANSWERERS, Server};
 use crate::words::Words;
 use blocks::CommitteeView;
 use source_reading::FrameDigest;
+use state_folder::StateFolder;
 use std::alloc::{AllocError, Global};
 use std::net::SocketAddr;
 use std::sync::atomic::{AtomicBool, AtomicU32, AtomicU64, Ordering};
@@ -23,15 +24,41 @@ const LOOK_MILLISECONDS: u64 = 10;
 /// How long one wait for another thread is, in milliseconds: so soon an ending is noticed.
 const TICK_MILLISECONDS: u64 = 250;
 
+/// A part of a log of a source.
+#[derive(Drop)]
+pub(crate) struct NewPart<'c> {
+    /// Which of its logs.
+    pub log: usize,
+    /// It may have no frame, and then says how the log ends.
+    pub part: Part<'c>,
+    /// What the frames of its first log digest to.
+    pub digest: FrameDigest,
+    /// Where it was to be stored, where it could not be.
+    pub unstored: Option<String>,
+    /// It was stored before the watch began.
+    pub is_kept: bool,
+}
+
 /// What the thread of a source tells.
 #[derive(Drop)]
 pub(crate) enum Told<'c> {
-    /// More came of this log of the source, or how it ends changed. With what the frames of its first log digest to.
-    Part(usize, Part<'c>, FrameDigest),
+    /// More came of a log of the source, or how it ends changed.
+    Part(NewPart<'c>),
     /// Its log went back.
     WentBack,
     /// It gave one log too many.
     Beyond,
+    /// What stands at this path, among what is kept, is no part of a log of it.
+    Unstored(String),
+}
+
+impl Told<'_> {
+    fn is_kept(&self) -> bool {
+        match self {
+            Told::Part(new) => new.is_kept,
+            _ => false,
+        }
+    }
 }
 
 /// What is told of a source.
@@ -64,6 +91,8 @@ pub(crate) struct Target<'a> {
     /// The word that names it.
     pub word: &'a str,
     pub replica: u16,
+    /// Which of the sources of that replica it is, from 0.
+    pub nth: u16,
     pub place: Place<'a>,
     /// When it last answered, in seconds since 1970, or 0.
     pub answered: AtomicU64,
@@ -120,6 +149,8 @@ pub(crate) struct Shop<'a, 'w, 'c, T> {
     pub input_ended: &'a AtomicBool,
     /// Where what the watch knows is told, if it is.
     pub server: Option<&'a Server>,
+    /// Where what is read is kept, if it is.
+    pub state: Option<&'a StateFolder<'a, 'w, T>>,
     counter: Mutex<Counter<'c>>,
     came: Condvar,
     taken: Condvar,
@@ -128,6 +159,13 @@ pub(crate) struct Shop<'a, 'w, 'c, T> {
     pub reads_anew: AtomicBool,
     wanted: u32,
     begun: AtomicU32,
+    // How many of the files with parts were read that were there at the start.
+    kept_read: AtomicU64,
+    // How many parts were made of them, and how many of those were added.
+    kept_told: AtomicU64,
+    kept_added: AtomicU64,
+    // How many sources have told all that is kept of them.
+    kept_sources: AtomicU64,
 }
 
 impl<'a, 'w, 'c, T: Wait + Clock> Shop<'a, 'w, 'c, T> {
@@ -141,6 +179,7 @@ impl<'a, 'w, 'c, T: Wait + Clock> Shop<'a, 'w, 'c, T> {
         queue: &'a Queue,
         input_ended: &'a AtomicBool,
         server: Option<&'a Server>,
+        state: Option<&'a StateFolder<'a, 'w, T>>,
     ) -> Result<Shop<'a, 'w, 'c, T>, AllocError> {
         let mut places = Vec::new(alloc);
         for _ in 0..targets.len() {
@@ -159,6 +198,7 @@ impl<'a, 'w, 'c, T: Wait + Clock> Shop<'a, 'w, 'c, T> {
             queue,
             input_ended,
             server,
+            state,
             counter: Mutex::new(Counter { places }),
             came: Condvar::new(),
             taken: Condvar::new(),
@@ -166,6 +206,10 @@ impl<'a, 'w, 'c, T: Wait + Clock> Shop<'a, 'w, 'c, T> {
             reads_anew: AtomicBool::new(false),
             wanted,
             begun: AtomicU32::new(0),
+            kept_read: AtomicU64::new(0),
+            kept_told: AtomicU64::new(0),
+            kept_added: AtomicU64::new(0),
+            kept_sources: AtomicU64::new(0),
         })
     }
 
@@ -199,8 +243,45 @@ impl<'a, 'w, 'c, T: Wait + Clock> Shop<'a, 'w, 'c, T> {
         false
     }
 
+    /// A file with a part that was there at the start was read.
+    pub fn note_kept(&self) {
+        let _before = self.kept_read.fetch_add(1, Ordering::SeqCst);
+    }
+
+    /// How many of those were read.
+    pub fn kept_read(&self) -> u64 {
+        self.kept_read.load(Ordering::SeqCst)
+    }
+
+    /// Such a part was added.
+    pub fn note_added(&self) {
+        let _before = self.kept_added.fetch_add(1, Ordering::SeqCst);
+    }
+
+    /// Whether what is kept is still read and added.
+    pub fn reads_kept(&self) -> bool {
+        self.state.is_some()
+            && (self.kept_sources.load(Ordering::SeqCst) < self.targets.len() as u64
+                || self.kept_added.load(Ordering::SeqCst) < self.kept_told.load(Ordering::SeqCst))
+    }
+
+    /// All that is kept of one source more was told. Waits until that of all sources was added. Answers whether the watch goes on.
+    pub fn await_kept(&self) -> bool {
+        let _before = self.kept_sources.fetch_add(1, Ordering::SeqCst);
+        for _ in self.rt.forever() {
+            if self.is_ending() || !self.reads_kept() {
+                break;
+            }
+            thread::sleep(self.rt, Duration::from_millis(LOOK_MILLISECONDS));
+        }
+        !self.is_ending()
+    }
+
     /// Hands over what is told of a source, once what was told of it before was taken.
     pub fn hand_over(&self, delivery: Delivery<'c>) {
+        if delivery.told.is_kept() {
+            let _before = self.kept_told.fetch_add(1, Ordering::SeqCst);
+        }
         let mut guard = self.counter.lock(self.rt);
         for _ in self.rt.forever() {
             if self.is_ending() || guard.is_free(delivery.source) {

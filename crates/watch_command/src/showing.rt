@@ -16,13 +16,14 @@ use watch_snapshot::{Culprit, Fork, Pair, Snapshot, SourceSeen};
 /// How many commits are shown.
 const MOST_COMMITS: usize = 100;
 
-/// What a watch knows before anything came.
+/// What a watch knows before anything came, of which so many files were kept.
 pub(crate) fn first_snapshot(
     clock: &impl Clock,
     alloc: Global,
     committee: &CommitteeView,
     words: &Words,
     targets: &[Target],
+    kept: u64,
 ) -> Result<Snapshot, AllocError> {
     let now = seconds_now(clock);
     let mut sources = Vec::new(alloc);
@@ -36,6 +37,8 @@ pub(crate) fn first_snapshot(
         every: words.every,
         chain: committee.chain(),
         is_unstored: false,
+        kept,
+        kept_read: 0,
         sources,
         commits: Vec::new(alloc),
         commit_count: 0,
@@ -58,6 +61,8 @@ fn first_source(alloc: Global, i: usize, target: &Target) -> Result<SourceSeen, 
         status: None,
         frames: 0,
         entries: 0,
+        bad_votes: 0,
+        top_view: 0,
         digest: [0; 32],
         last_answer: 0,
         last_frame: 0,
@@ -72,6 +77,8 @@ pub(crate) struct Seen {
     pub status: Option<Status>,
     pub frames: u64,
     pub entries: u64,
+    pub bad_votes: u64,
+    pub top_view: u64,
     pub digest: [u8; 32],
     pub times_back: u64,
 }
@@ -99,12 +106,23 @@ pub(crate) fn show_source<T: Wait + Clock>(shop: &Shop<'_, '_, '_, T>, i: usize,
         source.status = seen.status;
         source.frames = seen.frames;
         source.entries = seen.entries;
+        source.bad_votes = seen.bad_votes;
+        source.top_view = seen.top_view;
         source.digest = seen.digest;
         source.times_back = seen.times_back;
         source.last_answer = target.answered.load(Ordering::SeqCst);
         source.last_frame = target.framed.load(Ordering::SeqCst);
         source.is_aside = target.aside.load(Ordering::SeqCst);
     }
+}
+
+// How many of the kept files were read; all of them once all that is read of them was added. Those of sources that are not named
+// are not read.
+fn kept_read<T: Wait + Clock>(shop: &Shop<'_, '_, '_, T>, kept: u64) -> u64 {
+    if shop.reads_kept() {
+        return shop.kept_read().min(kept.saturating_sub(1));
+    }
+    kept
 }
 
 /// Shows that a round was made now, and whether something is not stored.
@@ -119,6 +137,7 @@ pub(crate) fn show_round<T: Wait + Clock>(
         shown.round = round;
         shown.stamped = now;
         shown.is_unstored = is_unstored;
+        shown.kept_read = kept_read(shop, shown.kept);
     }
 }
 

@@ -5,9 +5,10 @@ ghost use Rattle.std.specs.Prelude.{◌≢◌, IfErr};
 use crate::fault::{Fault, FolderFile, WatchFault};
 use blocks::CommitteeView;
 use program_parts::{InputFault, MOST_OF_A_SHORT_FILE, ProgramFault, read_file};
+use state_folder::store_new;
 use std::alloc::{AllocError, Global};
 use std::fs::{File, Files, OpenOptions};
-use std::io::{ErrorKind, Write};
+use std::io::ErrorKind;
 use std::os::unix::fs::OpenOptionsExt;
 use std::{fs, io};
 use verdict_checker::check;
@@ -150,32 +151,6 @@ impl<'a, F: Files<File = File>> VerdictFolder<'_, 'a, F> {
 
     /// Stores a verdict at the path, where nothing stands: whole and synced, or not at all.
     pub fn store(&self, path: &str, bytes: &[u8]) -> io::Result<()> {
-        match fs::symlink_metadata(self.files, path) {
-            Err(error) if error.kind() == ErrorKind::NotFound => {}
-            Ok(_) => return Err(io::Error::from(ErrorKind::AlreadyExists)),
-            Err(error) => return Err(error),
-        }
-        let beside = format!(in self.alloc; "{path}.new")?;
-        let file = OpenOptions::new()
-            .write(true)
-            .create_new(true)
-            .mode(VERDICT_MODE)
-            .open(self.files, &beside)?;
-        let stored = match fill(file, bytes) {
-            Ok(()) => fs::rename(self.files, beside.as_str(), path),
-            Err(error) => Err(error),
-        };
-        if stored.is_err() {
-            // What can't be removed stays, and the next try says so.
-            let _ = fs::remove_file(self.files, beside.as_str());
-        }
-        stored?;
-        // The name is on the disk once the folder is.
-        File::open(self.files, self.path)?.sync_all()
+        store_new(self.files, self.alloc, self.path, path, VERDICT_MODE, bytes)
     }
-}
-
-fn fill(mut file: File, bytes: &[u8]) -> io::Result<()> {
-    file.write_all(bytes)?;
-    file.sync_all()
 }

@@ -41,6 +41,10 @@ pub(crate) struct Words<'a> {
     pub listen: Option<&'a str>,
     /// The names that a `Host` may have there, besides `localhost` and addresses.
     pub hosts: Vec<String>,
+    /// Where what is read is kept, if it is.
+    pub state: Option<&'a str>,
+    /// How many bytes may stand there in all.
+    pub keep_most: u64,
 }
 
 /// Reads the words, without the program's name. Refused as usage where they are not written as docs/hs_watch.md says, and else
@@ -82,6 +86,8 @@ fn with_switches<'a>(alloc: Global, grammar: Grammar<'a>) -> Result<Grammar<'a>,
         .arg(Arg::new(alloc, "SECONDS").long("every"))?
         .arg(Arg::new(alloc, "REREAD").long("reread"))?
         .arg(Arg::new(alloc, "ADDRESS").long("listen"))?
+        .arg(Arg::new(alloc, "DIR").long("state"))?
+        .arg(Arg::new(alloc, "BYTES").long("keep-most"))?
         .arg(host)?
         .arg(switch(alloc, "until-culprit"))?
         .arg(switch(alloc, "until-input-ends"))
@@ -94,11 +100,12 @@ fn switch<'a>(alloc: Global, name: &'a str) -> Arg<'a> {
 fn given<'a>(alloc: Global, matches: &ArgMatches<'a>) -> Result<Words<'a>, Fault<'a>>
     ensures refused { IfErr result (λ fault. fault ≢ ProgramFault.Output) }
 {
-    let (Some(committee), Some(folder), Some(every), Some(reread)) = (
+    let (Some(committee), Some(folder), Some(every), Some(reread), Some(keep_most)) = (
         matches.get_str("COMMITTEE"),
         matches.get_str("OUTDIR"),
         every_in(matches.get_str("SECONDS")),
         reread_in(matches.get_str("REREAD")),
+        keep_most_in(matches.get_str("BYTES")),
     ) else {
         return Err(ProgramFault::Usage);
     };
@@ -121,14 +128,22 @@ fn given<'a>(alloc: Global, matches: &ArgMatches<'a>) -> Result<Words<'a>, Fault
         until_input_ends: is_set(matches, "until-input-ends"),
         listen: matches.get_str("ADDRESS"),
         hosts: hosts_in(alloc, matches)?,
+        state: matches.get_str("DIR"),
+        keep_most,
     };
+    if words.state.is_none() && matches.get_str("BYTES").is_some() {
+        return Err(ProgramFault::Usage);
+    }
     judged(words)
 }
 
-// The place for HTTP is not empty, and where there is none no host is named.
+// The place for HTTP is not empty, and where there is none no host is named; the folder of what is kept is not empty.
 fn judged<'a>(words: Words<'a>) -> Result<Words<'a>, Fault<'a>>
     ensures refused { IfErr result (λ fault. fault ≢ ProgramFault.Output) }
 {
+    if words.state == Some("") {
+        return Err(ProgramFault::Usage);
+    }
     if words.listen == Some("") || (words.listen.is_none() && !words.hosts.is_empty()) {
         return Err(ProgramFault::Usage);
     }
@@ -191,6 +206,14 @@ fn reread_in(word: Option<&str>) -> Option<u64>
         return None;
     }
     Some(reread)
+}
+
+// How many bytes may be kept: without a word as many as there may be.
+fn keep_most_in(word: Option<&str>) -> Option<u64> {
+    match word {
+        Some(word) => number_in(word.as_bytes()),
+        None => Some(u64::MAX),
+    }
 }
 
 // So many seconds as milliseconds: a number, and behind a point one to three digits, if there is one.

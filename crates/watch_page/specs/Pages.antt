@@ -1,9 +1,9 @@
 -- The page of a watch.
-use Rattle.std.specs.Prelude.{◌≡◌, ◌<◌, ◌++◌, ◌==◌, ℕ, Bool, true, false, List, Option, codes, decimal, length, if◌then◌else◌}
+use Rattle.std.specs.Prelude.{◌≡◌, ◌<◌, ◌++◌, ◌==◌, ℕ, Bool, true, false, List, Option, codes, decimal, length, nat_lt, if◌then◌else◌}
 use Rattle.std.specs.List.{flat_map}
 use Rattle.hex.specs.Hex.{encode_lower}
 use Rattle.watch_lines.specs.Times.{IsUtcText}
-use Rattle.watch_snapshot.specs.Standings.{answering_of, standing_of}
+use Rattle.watch_snapshot.specs.Standings.{answering_of, standing_of, top_of}
 use Rattle.watch_snapshot.specs.Times.{is_late}
 use Rattle.blocks.specs.declared.ballot.Ballot.{Ballot}
 use Rattle.watch_snapshot.specs.declared.snapshot.Culprit.{Culprit}
@@ -58,15 +58,22 @@ none_text k m time =
 unfoldable pub culprits_text : Snapshot → (k m : ℕ) → (time : List ℕ) → List ℕ
 culprits_text s k m time = if length s.culprits.items == 0 then none_text k m time else found_text s.culprits.items
 
+-- how much was read of what was kept, as long as not all was
+unfoldable pub kept_line : (read all : ℕ) → List ℕ
+kept_line read all = codes "<p>Kept files that were read: " ++ share_text read all ++ codes ".</p>\n"
+
+unfoldable pub kept_text : (read all : ℕ) → List ℕ
+kept_text read all = if nat_lt read all then kept_line read all else codes ""
+
 unfoldable pub first_text : Standing → (k m : ℕ) → (time : List ℕ) → (round : ℕ) → List ℕ
 first_text standing k m time round =
     codes "<h1>" ++ state_text standing k m ++ codes "</h1>\n<p>" ++ advice_text standing ++ codes "</p>\n<p>Round " ++ decimal round ++ codes ", " ++ time
     ++ codes "; " ++ share_text k m ++ codes " sources answer.</p>\n"
 
-unfoldable pub sources_text : (every second : ℕ) → List SourceSeen → List ℕ
-sources_text every second sources =
-    codes "<h2>Sources</h2>\n<div class=\"wide\"><table>\n<tr><th>Source</th><th>Replica</th><th></th><th>Log</th><th>Entries</th><th>Last answer</th><th>Last frame</th></tr>\n"
-    ++ flat_map (source_row every second) sources ++ codes "</table></div>\n"
+unfoldable pub sources_text : (every top second : ℕ) → List SourceSeen → List ℕ
+sources_text every top second sources =
+    codes "<h2>Sources</h2>\n<div class=\"wide\"><table>\n<tr><th>Source</th><th>Replica</th><th></th><th>Log</th><th>Entries</th><th>Behind by</th><th>Last answer</th><th>Last frame</th></tr>\n"
+    ++ flat_map (source_row every top second) sources ++ codes "</table></div>\n"
 
 unfoldable pub commits_text : (count : ℕ) → List Ballot → Option Fork → List ℕ
 commits_text count commits conflict =
@@ -82,12 +89,13 @@ foot_text chain =
 unfoldable pub body_text : Snapshot → (second : ℕ) → (is_still : Bool) → (time : List ℕ) → List ℕ
 body_text s second is_still time =
     culprits_text s (answering_of s second) (length s.sources.items) time ++ commits_text s.commit_count s.commits.items s.conflict
-    ++ sources_text s.every second s.sources.items ++ links_text is_still ++ foot_text s.chain
+    ++ sources_text s.every (top_of s.sources.items) second s.sources.items ++ links_text is_still ++ foot_text s.chain
 
 unfoldable pub front_text : Snapshot → (second : ℕ) → (is_still : Bool) → (time : List ℕ) → List ℕ
 front_text s second is_still time =
     title_text (standing_of s second) (answering_of s second) (length s.sources.items) is_still ++ looks_text (level_of (standing_of s second))
     ++ banner_text (is_late s.stamped s.every second) ++ first_text (standing_of s second) (answering_of s second) (length s.sources.items) time s.round
+    ++ kept_text s.kept_read s.kept
 
 abbrev pub page_text : Snapshot → (second : ℕ) → (is_still : Bool) → (time : List ℕ) → List ℕ
 page_text s second is_still time = front_text s second is_still time ++ body_text s second is_still time

@@ -26,24 +26,34 @@ ending_text (Some status) = status_name status
 unfoldable pub age_text : (at second : ℕ) → List ℕ
 age_text at second = if at == 0 then codes "never" else decimal (second - at) ++ codes " s ago"
 
+-- so many of its votes are not good
+unfoldable pub bad_text : ℕ → List ℕ
+bad_text bad = decimal bad ++ codes " votes of this source are not good: another committee, or another replica?"
+
 -- what there is to say of it
 unfoldable pub remark_text : SourceSeen → (every second : ℕ) → List ℕ
 remark_text s every second =
     if s.is_aside then codes "set aside"
     else if nat_lt 0 s.times_back then codes "went back"
+    else if nat_lt 0 s.bad_votes then bad_text s.bad_votes
     else if answers every second s then codes "answers"
     else if is_whole s.status then codes "silent"
     else codes "no whole log"
 
-unfoldable pub cells_text : SourceSeen → (second : ℕ) → List ℕ
-cells_text s second =
-    codes "</td><td>" ++ ending_text s.status ++ codes "</td><td>" ++ decimal s.entries ++ codes "</td><td>" ++ age_text s.last_answer second
+-- how many views it is behind the source that has the greatest
+unfoldable pub lag_text : (top view : ℕ) → List ℕ
+lag_text top view = decimal (top - view) ++ codes " views"
+
+unfoldable pub cells_text : SourceSeen → (top second : ℕ) → List ℕ
+cells_text s top second =
+    codes "</td><td>" ++ ending_text s.status ++ codes "</td><td>" ++ decimal s.entries ++ codes "</td><td>" ++ lag_text top s.top_view
+    ++ codes "</td><td>" ++ age_text s.last_answer second
     ++ codes "</td><td>" ++ age_text s.last_frame second ++ codes "</td></tr>\n"
 
-unfoldable pub source_row : (every second : ℕ) → SourceSeen → List ℕ
-source_row every second s =
+unfoldable pub source_row : (every top second : ℕ) → SourceSeen → List ℕ
+source_row every top second s =
     codes "<tr><th scope=\"row\">" ++ shown (string_bytes s.word) ++ codes "</th><td>" ++ decimal s.replica ++ codes "</td><td>" ++ remark_text s every second
-    ++ cells_text s second
+    ++ cells_text s top second
 
 -- ---- commits and the conflict
 

@@ -3,7 +3,7 @@ use Rattle.std.specs.Prelude.{◌++◌, ℕ, List, codes, decimal}
 use Rattle.watch_page.specs.declared.words.Level.{Level}
 use Rattle.watch_page.specs.declared.words.Level.TheVariants.{Alarm, Warning, Fine}
 use Rattle.watch_snapshot.specs.declared.snapshot.Standing.{Standing}
-use Rattle.watch_snapshot.specs.declared.snapshot.Standing.TheVariants.{Conflict, Culprits, WentBack, SetAside, NotStored, NothingRead, SomeAnswer, AllAnswer}
+use Rattle.watch_snapshot.specs.declared.snapshot.Standing.TheVariants.{Conflict, Culprits, WentBack, SetAside, BadVotes, NotStored, ReadingKept, NothingRead, SomeAnswer, AllAnswer}
 
 -- so many of so many
 unfoldable pub share_text : (k m : ℕ) → List ℕ
@@ -15,7 +15,9 @@ state_text Conflict k m = codes "Conflict: two commits disagree"
 state_text Culprits k m = codes "Culprits were found"
 state_text WentBack k m = codes "A log went back"
 state_text SetAside k m = codes "A source was set aside"
-state_text NotStored k m = codes "A verdict is not stored"
+state_text BadVotes k m = codes "Votes of a source are not good"
+state_text NotStored k m = codes "Something is not stored"
+state_text ReadingKept k m = codes "Reading kept logs"
 state_text NothingRead k m = codes "No source answers"
 state_text SomeAnswer k m = share_text k m ++ codes " sources answer"
 state_text AllAnswer k m = codes "All sources answer"
@@ -26,7 +28,9 @@ level_of Conflict = Alarm
 level_of Culprits = Alarm
 level_of WentBack = Alarm
 level_of SetAside = Warning
+level_of BadVotes = Warning
 level_of NotStored = Warning
+level_of ReadingKept = Warning
 level_of NothingRead = Warning
 level_of SomeAnswer = Warning
 level_of AllAnswer = Fine
@@ -49,7 +53,9 @@ advice_text Conflict = codes "Two blocks are committed of which neither is the o
 advice_text Culprits = codes "Each verdict below shows by two signed votes that its replica broke a voting rule. Send it to the other operators, who check it with hs_check or check.html of their own copy of this project."
 advice_text WentBack = codes "A replica runs on an older copy of its log, and may vote twice without knowing it. Ask its operator to stop it."
 advice_text SetAside = codes "64 votes of a source were not good: it is another committee's log, another replica's, or a liar's. Compare the word of the source with the committee's file."
-advice_text NotStored = codes "The disk of this watch is full, or a file stands where a verdict is to be. The verdicts below can be fetched from this page."
+advice_text BadVotes = codes "A log of a correct replica has no vote that is not good: this one is of another committee, or of another replica than its word says. Compare the chain id below with the other operators' and the word of the source with the committee's file."
+advice_text NotStored = codes "The disk of this watch is full, or has as much as it may hold, or a file stands where one is to be. The verdicts below can be fetched from this page."
+advice_text ReadingKept = codes "This watch has begun again, and reads what it kept before it asks a source. What it knew is shown once all of it was read."
 advice_text NothingRead = codes "No replica hands out its log to this watch. See whether this machine has a network, and whether the servers of the logs run."
 advice_text SomeAnswer = codes "Ask the operators of the sources that do not answer. What they hide from this watch, it cannot see."
 advice_text AllAnswer = codes "Each source answers this watch. With the file of another committee it would find nothing: compare the chain id below."

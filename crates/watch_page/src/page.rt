@@ -1,7 +1,7 @@
 //! The page of a watch.
 
 ghost use Rattle.std.specs.Prelude.{◌≡◌, ◌++◌, IfOk, OnOk};
-ghost use Rattle.watch_page.specs.Pages.{IsPage, banner_text, body_text, commits_text, culprits_text, first_text, foot_text, found_text, front_text, links_text, looks_text, none_text, page_text, reload_text, sources_text, style_text, title_text};
+ghost use Rattle.watch_page.specs.Pages.{IsPage, banner_text, body_text, commits_text, culprits_text, first_text, foot_text, found_text, front_text, kept_line, kept_text, links_text, looks_text, none_text, page_text, reload_text, sources_text, style_text, title_text};
 
 use crate::rows::{put_commits, put_conflict, put_culprits, put_sources};
 use crate::words::{Level, level_of, put_advice, put_class, put_icon, put_share, put_state};
@@ -120,7 +120,7 @@ fn put_none(text: &mut Vec<u8>, k: usize, m: usize, time: &[u8]) -> Result<(), A
     ensures { OnOk result (text.new.items ≡ text.old.items ++ none_text k m time.now) }
 {
     append(text, b"<h2>Culprits</h2>\n<p>None was found in what ")?;
-    put_share(text, k, m)?;
+    put_share(text, k as u64, m as u64)?;
     append(text, b" sources gave to this watcher until ")?;
     append(text, time)?;
     append(text, b".</p>\n")?;
@@ -164,25 +164,45 @@ fn put_first(
     append(text, b", ")?;
     append(text, time)?;
     append(text, b"; ")?;
-    put_share(text, k, m)?;
+    put_share(text, k as u64, m as u64)?;
     append(text, b" sources answer.</p>\n")?;
     Ok(())
+}
+
+fn put_kept_line(text: &mut Vec<u8>, read: u64, all: u64) -> Result<(), AllocError>
+    ensures { OnOk result (text.new.items ≡ text.old.items ++ kept_line read all) }
+{
+    append(text, b"<p>Kept files that were read: ")?;
+    put_share(text, read, all)?;
+    append(text, b".</p>\n")?;
+    Ok(())
+}
+
+#[tactic(auto, unfolding(crate::specs::Pages::kept_text))]
+fn put_kept(text: &mut Vec<u8>, read: u64, all: u64) -> Result<(), AllocError>
+    ensures { OnOk result (text.new.items ≡ text.old.items ++ kept_text read all) }
+{
+    if read < all {
+        return put_kept_line(text, read, all);
+    }
+    append(text, b"")
 }
 
 fn put_all_sources(
     text: &mut Vec<u8>,
     every: u32,
+    top: u64,
     second: u64,
     sources: &[SourceSeen],
 ) -> Result<(), AllocError>
     ensures { OnOk result (text.new.items
-        ≡ text.old.items ++ sources_text every second sources.now) }
+        ≡ text.old.items ++ sources_text every top second sources.now) }
 {
     append(
         text,
-        b"<h2>Sources</h2>\n<div class=\"wide\"><table>\n<tr><th>Source</th><th>Replica</th><th></th><th>Log</th><th>Entries</th><th>Last answer</th><th>Last frame</th></tr>\n",
+        b"<h2>Sources</h2>\n<div class=\"wide\"><table>\n<tr><th>Source</th><th>Replica</th><th></th><th>Log</th><th>Entries</th><th>Behind by</th><th>Last answer</th><th>Last frame</th></tr>\n",
     )?;
-    put_sources(text, every, second, sources)?;
+    put_sources(text, every, top, second, sources)?;
     append(text, b"</table></div>\n")?;
     Ok(())
 }
@@ -237,7 +257,8 @@ fn put_front(
     put_title(text, standing, k, m, is_still)?;
     put_looks(text, level_of(standing))?;
     put_banner(text, is_late(seen.stamped, seen.every, second))?;
-    put_first(text, standing, k, m, time, seen.round)
+    put_first(text, standing, k, m, time, seen.round)?;
+    put_kept(text, seen.kept_read, seen.kept)
 }
 
 #[tactic(auto, unfolding(crate::specs::Pages::body_text))]
@@ -254,7 +275,7 @@ fn put_body(
     let k = seen.answering(second);
     put_all_culprits(text, seen, k, seen.sources.len(), time)?;
     put_all_commits(text, seen.commit_count, &seen.commits, &seen.conflict)?;
-    put_all_sources(text, seen.every, second, &seen.sources)?;
+    put_all_sources(text, seen.every, seen.top_view(), second, &seen.sources)?;
     put_links(text, is_still)?;
     put_foot(text, &seen.chain)
 }

@@ -2,7 +2,7 @@
 
 ghost use Rattle.std.specs.Prelude.{◌≡◌, ◌++◌, OnOk, string_bytes};
 ghost use Rattle.std.specs.List.{flat_map};
-ghost use Rattle.watch_page.specs.Rows.{age_text, cells_text, commit_row, conflict_text, culprit_row, ending_text, fork_text, link_text, pair_text, place_text, remark_text, shown, source_row, votes_text};
+ghost use Rattle.watch_page.specs.Rows.{age_text, bad_text, cells_text, commit_row, conflict_text, culprit_row, ending_text, fork_text, lag_text, link_text, pair_text, place_text, remark_text, shown, source_row, votes_text};
 
 use blocks::Ballot;
 use escaped_text::{Inside, put_escaped};
@@ -43,6 +43,25 @@ fn put_age(text: &mut Vec<u8>, at: u64, second: u64) -> Result<(), AllocError>
     append(text, b" s ago")
 }
 
+#[tactic(auto, unfolding(crate::specs::Rows::bad_text))]
+fn put_bad(text: &mut Vec<u8>, bad: u64) -> Result<(), AllocError>
+    ensures { OnOk result (text.new.items ≡ text.old.items ++ bad_text bad) }
+{
+    put_number(text, bad)?;
+    append(
+        text,
+        b" votes of this source are not good: another committee, or another replica?",
+    )
+}
+
+#[tactic(auto, unfolding(crate::specs::Rows::lag_text))]
+fn put_lag(text: &mut Vec<u8>, top: u64, view: u64) -> Result<(), AllocError>
+    ensures { OnOk result (text.new.items ≡ text.old.items ++ lag_text top view) }
+{
+    put_number(text, top.saturating_sub(view))?;
+    append(text, b" views")
+}
+
 #[tactic(auto, unfolding(crate::specs::Rows::remark_text))]
 fn put_remark(
     text: &mut Vec<u8>,
@@ -59,6 +78,9 @@ fn put_remark(
     if 0 < source.times_back {
         return append(text, b"went back");
     }
+    if 0 < source.bad_votes {
+        return put_bad(text, source.bad_votes);
+    }
     if source.answers(every, second) {
         return append(text, b"answers");
     }
@@ -68,13 +90,20 @@ fn put_remark(
     append(text, b"no whole log")
 }
 
-fn put_cells(text: &mut Vec<u8>, source: &SourceSeen, second: u64) -> Result<(), AllocError>
-    ensures { OnOk result (text.new.items ≡ text.old.items ++ cells_text source.now second) }
+fn put_cells(
+    text: &mut Vec<u8>,
+    source: &SourceSeen,
+    top: u64,
+    second: u64,
+) -> Result<(), AllocError>
+    ensures { OnOk result (text.new.items ≡ text.old.items ++ cells_text source.now top second) }
 {
     append(text, b"</td><td>")?;
     put_ending(text, source.status)?;
     append(text, b"</td><td>")?;
     put_number(text, source.entries)?;
+    append(text, b"</td><td>")?;
+    put_lag(text, top, source.top_view)?;
     append(text, b"</td><td>")?;
     put_age(text, source.last_answer, second)?;
     append(text, b"</td><td>")?;
@@ -86,11 +115,12 @@ fn put_cells(text: &mut Vec<u8>, source: &SourceSeen, second: u64) -> Result<(),
 fn put_source(
     text: &mut Vec<u8>,
     every: u32,
+    top: u64,
     second: u64,
     source: &SourceSeen,
 ) -> Result<(), AllocError>
     ensures { OnOk result (text.new.items
-        ≡ text.old.items ++ source_row every second source.now) }
+        ≡ text.old.items ++ source_row every top second source.now) }
 {
     append(text, b"<tr><th scope=\"row\">")?;
     put_shown(text, &source.word)?;
@@ -98,21 +128,22 @@ fn put_source(
     put_number(text, source.replica)?;
     append(text, b"</td><td>")?;
     put_remark(text, source, every, second)?;
-    put_cells(text, source, second)?;
+    put_cells(text, source, top, second)?;
     Ok(())
 }
 
 pub(crate) fn put_sources(
     text: &mut Vec<u8>,
     every: u32,
+    top: u64,
     second: u64,
     sources: &[SourceSeen],
 ) -> Result<(), AllocError>
     ensures { OnOk result (text.new.items
-        ≡ text.old.items ++ flat_map (source_row every second) sources.now) }
+        ≡ text.old.items ++ flat_map (source_row every top second) sources.now) }
 {
     for source in sources {
-        put_source(text, every, second, source)?;
+        put_source(text, every, top, second, source)?;
     }
     Ok(())
 }

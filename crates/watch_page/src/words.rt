@@ -17,7 +17,7 @@ pub enum Level {
 }
 
 #[tactic(auto, unfolding(crate::specs::Words::share_text))]
-pub(crate) fn put_share(text: &mut Vec<u8>, k: usize, m: usize) -> Result<(), AllocError>
+pub(crate) fn put_share(text: &mut Vec<u8>, k: u64, m: u64) -> Result<(), AllocError>
     ensures { OnOk result (text.new.items ≡ text.old.items ++ share_text k m) }
 {
     put_number(text, k)?;
@@ -39,10 +39,12 @@ pub(crate) fn put_state(
         Standing::Culprits => append(text, b"Culprits were found"),
         Standing::WentBack => append(text, b"A log went back"),
         Standing::SetAside => append(text, b"A source was set aside"),
-        Standing::NotStored => append(text, b"A verdict is not stored"),
+        Standing::BadVotes => append(text, b"Votes of a source are not good"),
+        Standing::NotStored => append(text, b"Something is not stored"),
+        Standing::ReadingKept => append(text, b"Reading kept logs"),
         Standing::NothingRead => append(text, b"No source answers"),
         Standing::SomeAnswer => {
-            put_share(text, k, m)?;
+            put_share(text, k as u64, m as u64)?;
             append(text, b" sources answer")
         }
         Standing::AllAnswer => append(text, b"All sources answer"),
@@ -55,8 +57,8 @@ pub(crate) fn level_of(standing: Standing) -> Level
 {
     match standing {
         Standing::Conflict | Standing::Culprits | Standing::WentBack => Level::Alarm,
-        Standing::SetAside | Standing::NotStored | Standing::NothingRead | Standing::SomeAnswer =>
-            Level::Warning,
+        Standing::SetAside | Standing::BadVotes | Standing::NotStored => Level::Warning,
+        Standing::ReadingKept | Standing::NothingRead | Standing::SomeAnswer => Level::Warning,
         Standing::AllAnswer => Level::Fine,
     }
 }
@@ -104,9 +106,17 @@ pub(crate) fn put_advice(text: &mut Vec<u8>, standing: Standing) -> Result<(), A
             text,
             b"64 votes of a source were not good: it is another committee's log, another replica's, or a liar's. Compare the word of the source with the committee's file.",
         ),
+        Standing::BadVotes => append(
+            text,
+            b"A log of a correct replica has no vote that is not good: this one is of another committee, or of another replica than its word says. Compare the chain id below with the other operators' and the word of the source with the committee's file.",
+        ),
         Standing::NotStored => append(
             text,
-            b"The disk of this watch is full, or a file stands where a verdict is to be. The verdicts below can be fetched from this page.",
+            b"The disk of this watch is full, or has as much as it may hold, or a file stands where one is to be. The verdicts below can be fetched from this page.",
+        ),
+        Standing::ReadingKept => append(
+            text,
+            b"This watch has begun again, and reads what it kept before it asks a source. What it knew is shown once all of it was read.",
         ),
         Standing::NothingRead => append(
             text,

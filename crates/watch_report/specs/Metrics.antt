@@ -6,7 +6,7 @@ use Rattle.escaped_text.specs.declared.Inside.TheVariants.{Label}
 use Rattle.watch_snapshot.specs.declared.snapshot.Snapshot.{Snapshot}
 use Rattle.watch_snapshot.specs.declared.source.SourceSeen.{SourceSeen}
 use Rattle.watch_report.specs.declared.metrics.Family.{Family}
-use Rattle.watch_report.specs.declared.metrics.Family.TheVariants.{WentBack, SetAside, LastAnswer, LastFrame}
+use Rattle.watch_report.specs.declared.metrics.Family.TheVariants.{WentBack, SetAside, BadVotes, TopView, LastAnswer, LastFrame}
 
 unfoldable pub number_of : Bool → ℕ
 number_of true = 1
@@ -32,18 +32,24 @@ rounds_text unstored stamped started =
 abbrev pub front_of : Family → List ℕ
 front_of WentBack = codes "# HELP hs_watch_source_went_back_total How often a source's log went back.\n# TYPE hs_watch_source_went_back_total counter\n"
 front_of SetAside = codes "# HELP hs_watch_source_set_aside Whether no more of a source is read.\n# TYPE hs_watch_source_set_aside gauge\n"
+front_of BadVotes = codes "# HELP hs_watch_source_bad_votes_total How many votes of a source are not good.\n# TYPE hs_watch_source_bad_votes_total counter\n"
+front_of TopView = codes "# HELP hs_watch_source_view The greatest view of the good votes of a source.\n# TYPE hs_watch_source_view gauge\n"
 front_of LastAnswer = codes "# HELP hs_watch_source_last_answer_timestamp_seconds When a source last answered, or 0.\n# TYPE hs_watch_source_last_answer_timestamp_seconds gauge\n"
 front_of LastFrame = codes "# HELP hs_watch_source_last_frame_timestamp_seconds When a frame last came of a source, or 0.\n# TYPE hs_watch_source_last_frame_timestamp_seconds gauge\n"
 
 abbrev pub name_of : Family → List ℕ
 name_of WentBack = codes "hs_watch_source_went_back_total"
 name_of SetAside = codes "hs_watch_source_set_aside"
+name_of BadVotes = codes "hs_watch_source_bad_votes_total"
+name_of TopView = codes "hs_watch_source_view"
 name_of LastAnswer = codes "hs_watch_source_last_answer_timestamp_seconds"
 name_of LastFrame = codes "hs_watch_source_last_frame_timestamp_seconds"
 
 abbrev pub value_of : Family → SourceSeen → ℕ
 value_of WentBack s = s.times_back
 value_of SetAside s = number_of s.is_aside
+value_of BadVotes s = s.bad_votes
+value_of TopView s = s.top_view
 value_of LastAnswer s = s.last_answer
 value_of LastFrame s = s.last_frame
 
@@ -59,9 +65,17 @@ sample family s = name_of family ++ labels_of s ++ decimal (value_of family s) +
 abbrev pub family_text : Family → List SourceSeen → List ℕ
 family_text family sources = front_of family ++ flat_map (sample family) sources
 
+-- what is wrong with sources
+unfoldable pub trouble_text : List SourceSeen → List ℕ
+trouble_text sources = family_text WentBack sources ++ family_text SetAside sources ++ family_text BadVotes sources
+
+-- how far they are
+unfoldable pub progress_text : List SourceSeen → List ℕ
+progress_text sources = family_text TopView sources ++ family_text LastAnswer sources ++ family_text LastFrame sources
+
 -- ---- all
 
 unfoldable pub metrics_text : Snapshot → List ℕ
 metrics_text s =
     findings_text (length s.culprits.items) (number_of (is_some s.conflict)) s.commit_count ++ rounds_text (number_of s.is_unstored) s.stamped s.started
-    ++ family_text WentBack s.sources.items ++ family_text SetAside s.sources.items ++ family_text LastAnswer s.sources.items ++ family_text LastFrame s.sources.items
+    ++ trouble_text s.sources.items ++ progress_text s.sources.items

@@ -41,7 +41,8 @@ source_front s =
 unfoldable pub source_counts : SourceSeen → List ℕ
 source_counts s =
     codes ",\"frames\":" ++ decimal s.frames ++ codes ",\"entries\":" ++ decimal s.entries
-    ++ codes ",\"digest\":\"" ++ encode_lower s.digest ++ codes "\""
+    ++ codes ",\"bad_votes\":" ++ decimal s.bad_votes ++ codes ",\"view\":\"" ++ decimal s.top_view
+    ++ codes "\",\"digest\":\"" ++ encode_lower s.digest ++ codes "\""
 
 unfoldable pub source_times : SourceSeen → List ℕ
 source_times s =

@@ -2,7 +2,7 @@
 
 ghost use Rattle.std.specs.Prelude.{◌≡◌, ◌++◌, IfOk, OnOk};
 ghost use Rattle.std.specs.List.{flat_map};
-ghost use Rattle.watch_report.specs.Metrics.{family_text, findings_text, front_of, labels_of, metrics_text, name_of, number_of, rounds_text, sample, value_of};
+ghost use Rattle.watch_report.specs.Metrics.{family_text, findings_text, front_of, labels_of, metrics_text, name_of, number_of, progress_text, rounds_text, sample, trouble_text, value_of};
 
 use escaped_text::{Inside, put_escaped};
 use printed_lines::put_number;
@@ -17,6 +17,10 @@ pub enum Family {
     WentBack,
     /// Whether no more of it is read.
     SetAside,
+    /// How many of its votes are not good.
+    BadVotes,
+    /// The greatest view of its good votes.
+    TopView,
     /// When it last answered.
     LastAnswer,
     /// When a frame last came of it.
@@ -32,6 +36,10 @@ impl Family {
                 b"# HELP hs_watch_source_went_back_total How often a source's log went back.\n# TYPE hs_watch_source_went_back_total counter\n",
             Family::SetAside =>
                 b"# HELP hs_watch_source_set_aside Whether no more of a source is read.\n# TYPE hs_watch_source_set_aside gauge\n",
+            Family::BadVotes =>
+                b"# HELP hs_watch_source_bad_votes_total How many votes of a source are not good.\n# TYPE hs_watch_source_bad_votes_total counter\n",
+            Family::TopView =>
+                b"# HELP hs_watch_source_view The greatest view of the good votes of a source.\n# TYPE hs_watch_source_view gauge\n",
             Family::LastAnswer =>
                 b"# HELP hs_watch_source_last_answer_timestamp_seconds When a source last answered, or 0.\n# TYPE hs_watch_source_last_answer_timestamp_seconds gauge\n",
             Family::LastFrame =>
@@ -45,6 +53,8 @@ impl Family {
         match self {
             Family::WentBack => b"hs_watch_source_went_back_total",
             Family::SetAside => b"hs_watch_source_set_aside",
+            Family::BadVotes => b"hs_watch_source_bad_votes_total",
+            Family::TopView => b"hs_watch_source_view",
             Family::LastAnswer => b"hs_watch_source_last_answer_timestamp_seconds",
             Family::LastFrame => b"hs_watch_source_last_frame_timestamp_seconds",
         }
@@ -56,6 +66,8 @@ impl Family {
         match self {
             Family::WentBack => source.times_back,
             Family::SetAside => u64::from(number_of(source.is_aside)),
+            Family::BadVotes => source.bad_votes,
+            Family::TopView => source.top_view,
             Family::LastAnswer => source.last_answer,
             Family::LastFrame => source.last_frame,
         }
@@ -168,6 +180,24 @@ fn put_family(text: &mut Vec<u8>, family: Family, sources: &[SourceSeen]) -> Res
     put_samples(text, family, sources)
 }
 
+#[tactic(auto, unfolding(crate::specs::Metrics::trouble_text))]
+fn put_troubles(text: &mut Vec<u8>, sources: &[SourceSeen]) -> Result<(), AllocError>
+    ensures { OnOk result (text.new.items ≡ text.old.items ++ trouble_text sources.now) }
+{
+    put_family(text, Family::WentBack, sources)?;
+    put_family(text, Family::SetAside, sources)?;
+    put_family(text, Family::BadVotes, sources)
+}
+
+#[tactic(auto, unfolding(crate::specs::Metrics::progress_text))]
+fn put_progress(text: &mut Vec<u8>, sources: &[SourceSeen]) -> Result<(), AllocError>
+    ensures { OnOk result (text.new.items ≡ text.old.items ++ progress_text sources.now) }
+{
+    put_family(text, Family::TopView, sources)?;
+    put_family(text, Family::LastAnswer, sources)?;
+    put_family(text, Family::LastFrame, sources)
+}
+
 /// The metrics of what a watch knew.
 #[tactic(auto, unfolding(crate::specs::Metrics::metrics_text))]
 pub fn metrics_of(alloc: Global, seen: &Snapshot) -> Result<Vec<u8>, AllocError>
@@ -178,9 +208,7 @@ pub fn metrics_of(alloc: Global, seen: &Snapshot) -> Result<Vec<u8>, AllocError>
     put_findings(&mut text, seen.culprits.len(), conflict, seen.commit_count)?;
     let unstored = number_of(seen.is_unstored);
     put_rounds(&mut text, unstored, seen.stamped, seen.started)?;
-    put_family(&mut text, Family::WentBack, &seen.sources)?;
-    put_family(&mut text, Family::SetAside, &seen.sources)?;
-    put_family(&mut text, Family::LastAnswer, &seen.sources)?;
-    put_family(&mut text, Family::LastFrame, &seen.sources)?;
+    put_troubles(&mut text, &seen.sources)?;
+    put_progress(&mut text, &seen.sources)?;
     Ok(text)
 }

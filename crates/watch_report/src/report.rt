@@ -58,7 +58,6 @@ fn put_source_front(text: &mut Vec<u8>, source: &SourceSeen) -> Result<(), Alloc
     Ok(())
 }
 
-#[tactic(auto, unfolding(crate::specs::Reports::source_counts))]
 fn put_source_counts(text: &mut Vec<u8>, source: &SourceSeen) -> Result<(), AllocError>
     ensures { OnOk result (text.new.items ≡ text.old.items ++ source_counts source.now) }
 {
@@ -66,9 +65,14 @@ fn put_source_counts(text: &mut Vec<u8>, source: &SourceSeen) -> Result<(), Allo
     put_number(text, source.frames)?;
     append(text, b",\"entries\":")?;
     put_number(text, source.entries)?;
-    append(text, b",\"digest\":\"")?;
+    append(text, b",\"bad_votes\":")?;
+    put_number(text, source.bad_votes)?;
+    append(text, b",\"view\":\"")?;
+    put_number(text, source.top_view)?;
+    append(text, b"\",\"digest\":\"")?;
     put_id(text, &source.digest)?;
-    append(text, b"\"")
+    append(text, b"\"")?;
+    Ok(())
 }
 
 fn put_source_times(text: &mut Vec<u8>, source: &SourceSeen) -> Result<(), AllocError>

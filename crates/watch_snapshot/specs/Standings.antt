@@ -1,5 +1,5 @@
 -- What a watch knew at one moment, in one word.
-use Rattle.std.specs.Prelude.{ℕ, Bool, true, false, Option, Some, None, is_some, count_by, length, nat_lt, ◌==◌, if◌then◌else◌}
+use Rattle.std.specs.Prelude.{ℕ, List, [], ◌∷◌, Bool, true, false, Option, Some, None, is_some, count_by, length, nat_lt, ◌==◌, if◌then◌else◌}
 use Rattle.std.specs.List.{list_any}
 use Rattle.log_format.specs.declared.status.Status.{Status}
 use Rattle.log_format.specs.declared.status.Status.TheVariants.{Whole, Cut, Broken, TooLong, Failed}
@@ -30,19 +30,43 @@ answering_of s second = count_by (answers s.every second) s.sources.items
 abbrev pub went_back : SourceSeen → Bool
 went_back s = nat_lt 0 s.times_back
 
+abbrev pub has_bad_votes : SourceSeen → Bool
+has_bad_votes s = nat_lt 0 s.bad_votes
+
+-- ---- how far the sources are
+
+abbrev pub larger : ℕ → ℕ → ℕ
+larger a b = if nat_lt a b then b else a
+
+-- the greatest view of the good votes of a source of which more is read
+abbrev pub view_of : SourceSeen → ℕ
+view_of s = if s.is_aside then 0 else s.top_view
+
+-- .. of these sources, or one that is greater
+abbrev pub top_from : ℕ → List SourceSeen → ℕ
+top_from top [] = top
+top_from top (s ∷ sources) = top_from (larger top (view_of s)) sources
+
+unfoldable pub top_of : List SourceSeen → ℕ
+top_of sources = top_from 0 sources
+
+-- ---- the worst that holds
+
 -- .. where nothing is wrong with what came
 unfoldable pub reading_of : Snapshot → (second : ℕ) → Standing
 reading_of s second =
     if s.is_unstored then stands.NotStored
+    else if nat_lt s.kept_read s.kept then stands.ReadingKept
     else if answering_of s second == 0 then stands.NothingRead
     else if nat_lt (answering_of s second) (length s.sources.items) then stands.SomeAnswer
     else stands.AllAnswer
 
--- the worst that holds
+-- .. of all
 unfoldable pub standing_of : Snapshot → (second : ℕ) → Standing
 standing_of s second =
     if is_some s.conflict then stands.Conflict
     else if nat_lt 0 (length s.culprits.items) then stands.Culprits
     else if list_any went_back s.sources.items then stands.WentBack
     else if list_any (λ o. o.is_aside) s.sources.items then stands.SetAside
+    else if list_any has_bad_votes s.sources.items then stands.BadVotes
     else reading_of s second

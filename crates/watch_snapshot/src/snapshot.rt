@@ -2,7 +2,7 @@
 
 ghost use Rattle.std.specs.Prelude.{◌≡◌};
 ghost use Rattle.std.specs.List.{list_any};
-ghost use Rattle.watch_snapshot.specs.Standings.{answering_of, reading_of, standing_of, went_back};
+ghost use Rattle.watch_snapshot.specs.Standings.{answering_of, has_bad_votes, larger, reading_of, standing_of, top_of, went_back};
 
 use crate::source::SourceSeen;
 use blocks::{Ballot, Id};
@@ -59,6 +59,10 @@ pub struct Snapshot {
     pub chain: Id,
     /// Something could not be stored.
     pub is_unstored: bool,
+    /// How many files with parts of logs were kept when the watch began.
+    pub kept: u64,
+    /// How many of them were read.
+    pub kept_read: u64,
     /// The sources, in the order in which they are named.
     pub sources: Vec<SourceSeen>,
     /// The last commits, by rising view and id.
@@ -75,6 +79,12 @@ pub struct Snapshot {
     pub total: u64,
 }
 
+fn larger(a: u64, b: u64) -> u64
+    ensures { result ≡ larger a b }
+{
+    if a < b { b } else { a }
+}
+
 /// The worst that holds of what a watch knew.
 #[derive(Clone, Copy, Debug, PartialEq, Eq)]
 pub enum Standing {
@@ -86,8 +96,12 @@ pub enum Standing {
     WentBack,
     /// A source was set aside.
     SetAside,
+    /// Votes of a source are not good.
+    BadVotes,
     /// Something could not be stored.
     NotStored,
+    /// What was kept when the watch began is still read.
+    ReadingKept,
     /// No source answers.
     NothingRead,
     /// Some sources answer, and not all.
@@ -114,6 +128,24 @@ impl Snapshot {
         self.sources.iter().any(|source| source.went_back())
     }
 
+    fn has_bad_votes(&self) -> bool
+        ensures { result ≡ list_any has_bad_votes self.now.sources.items }
+    {
+        self.sources.iter().any(|source| source.has_bad_votes())
+    }
+
+    /// The greatest view of the good votes of all sources of which more is read.
+    #[tactic(auto, unfolding(crate::specs::Standings::top_of))]
+    pub fn top_view(&self) -> u64
+        ensures { result ≡ top_of self.now.sources.items }
+    {
+        let mut top = 0;
+        for source in &self.sources {
+            top = larger(top, source.view());
+        }
+        top
+    }
+
     fn has_aside(&self) -> bool
         ensures { result ≡ list_any (λ o. o.is_aside) self.now.sources.items }
     {
@@ -137,6 +169,9 @@ impl Snapshot {
         if self.has_aside() {
             return Standing::SetAside;
         }
+        if self.has_bad_votes() {
+            return Standing::BadVotes;
+        }
         self.reading(second)
     }
 
@@ -148,6 +183,9 @@ impl Snapshot {
         let answering = self.answering(second);
         if self.is_unstored {
             return Standing::NotStored;
+        }
+        if self.kept_read < self.kept {
+            return Standing::ReadingKept;
         }
         if answering == 0 {
             return Standing::NothingRead;

@@ -1,7 +1,7 @@
 //! A source as a watch saw it.
 
 ghost use Rattle.std.specs.Prelude.{◌≡◌};
-ghost use Rattle.watch_snapshot.specs.Standings.{answers, is_whole, went_back};
+ghost use Rattle.watch_snapshot.specs.Standings.{answers, has_bad_votes, is_whole, view_of, went_back};
 
 use crate::times::is_late;
 use blocks::Id;
@@ -24,6 +24,10 @@ pub struct SourceSeen {
     pub frames: u64,
     /// How many of them are entries.
     pub entries: u64,
+    /// How many of its votes are not good.
+    pub bad_votes: u64,
+    /// The greatest view of its good votes.
+    pub top_view: u64,
     /// What its first log's frames digest to: see docs/FORMATS.md.
     pub digest: Id,
     /// When it last answered.
@@ -64,5 +68,18 @@ impl SourceSeen {
         ensures { result ≡ went_back self.now }
     {
         0 < self.times_back
+    }
+
+    pub(crate) fn has_bad_votes(&self) -> bool
+        ensures { result ≡ has_bad_votes self.now }
+    {
+        0 < self.bad_votes
+    }
+
+    // The greatest view of its good votes, where more of it is read.
+    pub(crate) fn view(&self) -> u64
+        ensures { result ≡ view_of self.now }
+    {
+        if self.is_aside { 0 } else { self.top_view }
     }
 }

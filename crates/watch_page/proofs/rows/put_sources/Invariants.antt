@@ -4,4 +4,4 @@ use Rattle.watch_page.specs.Rows.{source_row}
 use Rattle.watch_page.proofs.rows.put_sources.Given as goal
 
 abbrev pub invariant-loop-source : goal.invariant-loop-source
-invariant-loop-source l = l.text.items ≡ l.fn.text.items ++ flat_map (source_row l.fn.every l.fn.second) (take l.source-index l.sources)
+invariant-loop-source l = l.text.items ≡ l.fn.text.items ++ flat_map (source_row l.fn.every l.fn.top l.fn.second) (take l.source-index l.sources)

@@ -1,0 +1,3 @@
+mod Digesting
+mod Framing
+mod Opening

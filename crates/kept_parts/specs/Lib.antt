@@ -1,0 +1,4 @@
+pub mod Digests
+pub mod Names
+pub mod Texts
+pub mod Logs

@@ -1,0 +1,261 @@
+//! The folder in which a watch keeps what it read.
+
+use crate::listing::names_in;
+use crate::storing::store_new;
+use blocks::Id;
+use kept_parts::{PartName, chain_text, put_in_order};
+use program_parts::{InputFault, MOST_OF_A_SHORT_FILE, read_file};
+use safe_files::sync_folder_of;
+use std::alloc::{AllocError, Global};
+use std::fs::{DirBuilder, File, Files, OpenOptions};
+use std::io::ErrorKind;
+use std::os::unix::fs::{DirBuilderExt, OpenOptionsExt};
+use std::str::from_utf8;
+use std::sync::atomic::{AtomicU64, Ordering};
+use std::{fs, io};
+
+/// The mode of a new folder.
+const FOLDER_MODE: u32 = 0o700;
+
+/// The mode of the files in it.
+const FILE_MODE: u32 = 0o600;
+
+/// How many bytes the file of a part has at most: its frames, of which one may lie behind the bytes with which it is full.
+const MOST_OF_A_PART_FILE: u64 = 2_097_152;
+
+/// Why a folder can't be used.
+#[derive(Clone, Copy, Debug, PartialEq, Eq)]
+pub enum StateFault {
+    /// Memory was refused.
+    Memory,
+    /// It is no folder, or can't be made or read.
+    Folder,
+    /// Another watch works in it.
+    Lock,
+    /// The file that says of which chain the logs are can't be read or written.
+    Chain,
+    /// It has the logs of another chain, or logs and no such file.
+    OtherChain,
+}
+
+impl From<AllocError> for StateFault {
+    fn from(_error: AllocError) -> StateFault {
+        StateFault::Memory
+    }
+}
+
+/// A folder with the parts of logs.
+#[derive(Drop)]
+pub struct StateFolder<'f, 'a, F> {
+    files: &'f F,
+    alloc: Global,
+    path: &'a str,
+    // How many bytes it may have in all.
+    most: u64,
+    // How many it has.
+    held: AtomicU64,
+    // The parts that were there at the start, in their order.
+    parts: Vec<PartName>,
+}
+
+/// Opens a folder for the logs of this chain, which may have so many bytes in all; it is made where it is not there. What a kill
+/// left unfinished is removed. Until the file that is answered beside it is dropped it is locked.
+pub fn open_state<'f, 'a, F: Files<File = File>>(
+    files: &'f F,
+    alloc: Global,
+    path: &'a str,
+    chain: &Id,
+    most: u64,
+) -> Result<(StateFolder<'f, 'a, F>, File), StateFault> {
+    make_folder(files, path)?;
+    let lock = lock_of(files, alloc, path)?;
+    let is_ours = has_chain(files, alloc, path, chain)?;
+    let mut folder = StateFolder {
+        files,
+        alloc,
+        path,
+        most,
+        held: AtomicU64::new(0),
+        parts: Vec::new(alloc),
+    };
+    folder.find_parts()?;
+    if !is_ours {
+        folder.begin(chain)?;
+    }
+    Ok((folder, lock))
+}
+
+// What a failed call of the system is.
+fn fault_of(error: &io::Error, fault: StateFault) -> StateFault {
+    match error.kind() {
+        ErrorKind::OutOfMemory => StateFault::Memory,
+        _ => fault,
+    }
+}
+
+fn make_folder<F: Files<File = File>>(files: &F, path: &str) -> Result<(), StateFault> {
+    match fs::metadata(files, path) {
+        Ok(found) if found.is_dir() => Ok(()),
+        Err(error) if error.kind() == ErrorKind::NotFound => {
+            let mut builder = DirBuilder::new();
+            builder.mode(FOLDER_MODE);
+            if let Err(error) = builder.create(files, path) {
+                return Err(fault_of(&error, StateFault::Folder));
+            }
+            sync_folder_of(files, path);
+            Ok(())
+        }
+        Ok(_) => Err(StateFault::Folder),
+        Err(error) => Err(fault_of(&error, StateFault::Folder)),
+    }
+}
+
+fn lock_of<F: Files<File = File>>(
+    files: &F,
+    alloc: Global,
+    folder: &str,
+) -> Result<File, StateFault> {
+    let path = format!(in alloc; "{folder}/lock")?;
+    let opened = OpenOptions::new()
+        .read(true)
+        .write(true)
+        .create(true)
+        .mode(FILE_MODE)
+        .open(files, &path);
+    match opened {
+        Ok(file) => match file.try_lock() {
+            Ok(()) => Ok(file),
+            Err(_) => Err(StateFault::Lock),
+        },
+        Err(error) => Err(fault_of(&error, StateFault::Lock)),
+    }
+}
+
+// Whether the folder says that it is of this chain; not where it says nothing yet.
+fn has_chain<F: Files<File = File>>(
+    files: &F,
+    alloc: Global,
+    folder: &str,
+    chain: &Id,
+) -> Result<bool, StateFault> {
+    let path = format!(in alloc; "{folder}/chain")?;
+    match fs::symlink_metadata(files, &path) {
+        Err(error) if error.kind() == ErrorKind::NotFound => return Ok(false),
+        Ok(found) if found.is_file() => {}
+        _ => return Err(StateFault::Chain),
+    }
+    let text = match read_file(files, alloc, &path, MOST_OF_A_SHORT_FILE) {
+        Ok(text) => text,
+        Err(InputFault::Memory) => return Err(StateFault::Memory),
+        Err(InputFault::Unreadable) => return Err(StateFault::Chain),
+    };
+    if text.as_slice() != chain_text(alloc, chain)?.as_slice() {
+        return Err(StateFault::OtherChain);
+    }
+    Ok(true)
+}
+
+impl<F: Files<File = File>> StateFolder<'_, '_, F> {
+    // Says of which chain it is. There is no part yet.
+    fn begin(&self, chain: &Id) -> Result<(), StateFault> {
+        if !self.parts.is_empty() {
+            return Err(StateFault::OtherChain);
+        }
+        let folder = self.path;
+        let path = format!(in self.alloc; "{folder}/chain")?;
+        let text = chain_text(self.alloc, chain)?;
+        let _before = self.held.fetch_add(text.len() as u64, Ordering::SeqCst);
+        match store_new(self.files, self.alloc, folder, &path, FILE_MODE, &text) {
+            Ok(()) => Ok(()),
+            Err(error) => Err(fault_of(&error, StateFault::Chain)),
+        }
+    }
+
+    // Finds the parts that are there, and how many bytes all files have.
+    fn find_parts(&mut self) -> Result<(), StateFault> {
+        let names = match names_in(self.files, self.alloc, self.path) {
+            Ok(names) => names,
+            Err(error) => return Err(fault_of(&error, StateFault::Folder)),
+        };
+        for name in names.split(|byte| *byte == 0) {
+            self.find(name)?;
+        }
+        put_in_order(&mut self.parts);
+        Ok(())
+    }
+
+    fn find(&mut self, name: &[u8]) -> Result<(), AllocError> {
+        let Ok(text) = from_utf8(name) else {
+            return Ok(());
+        };
+        if let Some(whole) = text.strip_suffix(".new")
+            && (whole == "chain" || PartName::of(self.alloc, whole.as_bytes())?.is_some())
+        {
+            let path = self.path_behind(text)?;
+            // What can't be removed stays, and then that part can't be stored: that is told.
+            let _ = fs::remove_file(self.files, path.as_str());
+            return Ok(());
+        }
+        let path = self.path_behind(text)?;
+        let Ok(found) = fs::symlink_metadata(self.files, &path) else {
+            return Ok(());
+        };
+        if found.is_file() {
+            let _before = self.held.fetch_add(found.len(), Ordering::SeqCst);
+            if let Some(part) = PartName::of(self.alloc, name)? {
+                self.parts.push(part)?;
+            }
+        }
+        Ok(())
+    }
+
+    fn path_behind(&self, name: &str) -> Result<String, AllocError> {
+        let folder = self.path;
+        format!(in self.alloc; "{folder}/{name}")
+    }
+
+    /// The parts that were there at the start, in their order.
+    pub fn parts(&self) -> &[PartName] {
+        &self.parts
+    }
+
+    /// How many bytes its files have, as far as this watch knows.
+    pub fn held(&self) -> u64 {
+        self.held.load(Ordering::SeqCst)
+    }
+
+    /// The path of a part.
+    pub fn path_of(&self, name: &PartName) -> Result<String, AllocError> {
+        let text = name.text(self.alloc)?;
+        match from_utf8(&text) {
+            Ok(text) => self.path_behind(text),
+            Err(_) => self.path_behind(""),
+        }
+    }
+
+    /// The bytes of a part; none where it can't be read.
+    pub fn text_of(&self, name: &PartName) -> Result<Option<Vec<u8>>, AllocError> {
+        let path = self.path_of(name)?;
+        match read_file(self.files, self.alloc, &path, MOST_OF_A_PART_FILE) {
+            Ok(text) => Ok(Some(text)),
+            Err(InputFault::Memory) => Err(AllocError),
+            Err(InputFault::Unreadable) => Ok(None),
+        }
+    }
+
+    /// Stores a part: whole and synced, or not at all. Not where the folder would have more bytes than it may.
+    pub fn store(&self, name: &PartName, text: &[u8]) -> io::Result<()> {
+        let path = self.path_of(name)?;
+        let length = text.len() as u64;
+        let before = self.held.fetch_add(length, Ordering::SeqCst);
+        let stored = if before.saturating_add(length) > self.most {
+            Err(io::Error::from(ErrorKind::StorageFull))
+        } else {
+            store_new(self.files, self.alloc, self.path, &path, FILE_MODE, text)
+        };
+        if stored.is_err() {
+            let _held = self.held.fetch_sub(length, Ordering::SeqCst);
+        }
+        stored
+    }
+}

@@ -1,0 +1,311 @@
+//! What was read of a source so far.
+
+use crate::draft::Draft;
+use crate::shop::{Delivery, NewPart, Shop, Target, Told};
+use evidence::EvidenceRefusal;
+use kept_parts::{LogDigest, NO_FRAMES, PartName, PartText, digest_then};
+use log_format::{Frames, Status};
+use source_reading::{FrameDigest, SourceLogs, digest_of};
+use std::alloc::{AllocError, Global};
+use std::fs::{File, Files};
+use std::sync::Wait;
+use std::sync::atomic::Ordering;
+use std::time::{Clock, Instant};
+use watch_service::seconds_now;
+use wire::MOST_ENTRIES;
+
+/// What was read of a source so far.
+#[derive(Drop)]
+pub(crate) struct Reader {
+    pub source: usize,
+    pub replica: u16,
+    /// Which of the sources of its replica it is.
+    pub nth: u16,
+    pub logs: SourceLogs,
+    /// What the frames digest to that were read of the log that it has now.
+    pub front: LogDigest,
+    // What the frames of its first log digest to.
+    digest: LogDigest,
+    // The log of which the last frame was new.
+    log: usize,
+    // How what came last ended, as it was told.
+    status: Option<Status>,
+    has_told_beyond: bool,
+    // When all of the log had been read last.
+    read_whole: Option<Instant>,
+    // All of it is read anew, and no other source's.
+    is_anew: bool,
+    // Once all of it was read, that is to begin with what was read before.
+    pub compares: bool,
+    // Something of it could not be stored: no more of it is, so that what is stored has no gap.
+    pub has_gap: bool,
+}
+
+impl Reader {
+    /// Nothing was read yet.
+    pub fn new(alloc: Global, source: usize, target: &Target) -> Result<Reader, AllocError> {
+        Ok(Reader {
+            source,
+            replica: target.replica,
+            nth: target.nth,
+            logs: SourceLogs::new(alloc)?,
+            front: NO_FRAMES,
+            digest: NO_FRAMES,
+            log: 0,
+            status: None,
+            has_told_beyond: false,
+            read_whole: None,
+            is_anew: false,
+            compares: false,
+            has_gap: false,
+        })
+    }
+
+    /// A part of it with no frame yet, which is to be stored.
+    pub fn draft<'c, T: Wait + Clock>(
+        &self,
+        shop: &Shop<'_, '_, 'c, T>,
+    ) -> Result<Draft<'c>, AllocError> {
+        let is_stored = shop.state.is_some() && !self.has_gap;
+        Draft::new(shop.alloc, shop.committee, self.replica, is_stored)
+    }
+
+    /// From here on its log is read from the beginning.
+    pub fn restart(&mut self) -> Result<(), AllocError> {
+        self.front = NO_FRAMES;
+        self.logs.restart()
+    }
+
+    /// Where all of the log was read long ago, and no other is read anew, begins to read it anew.
+    pub fn begin_anew<T: Wait + Clock>(
+        &mut self,
+        shop: &Shop<'_, '_, '_, T>,
+    ) -> Result<(), EvidenceRefusal> {
+        let Some(since) = self.read_whole else {
+            return Ok(());
+        };
+        let Ok(elapsed) = since.elapsed(shop.rt) else {
+            return Ok(());
+        };
+        if elapsed.as_secs() >= shop.words.reread && !shop.reads_anew.swap(true, Ordering::SeqCst) {
+            self.is_anew = true;
+            self.compares = true;
+            self.read_whole = None;
+            self.restart()?;
+        }
+        Ok(())
+    }
+
+    /// All that is there was read. Where it is compared, and does not begin with what was read before, it went back.
+    pub fn end_round<T: Wait + Clock>(&mut self, shop: &Shop<'_, '_, '_, T>) {
+        if self.is_anew {
+            self.is_anew = false;
+            shop.reads_anew.store(false, Ordering::SeqCst);
+        }
+        if self.status != Some(Status::Whole) {
+            return;
+        }
+        if self.compares {
+            self.compares = false;
+            if !self.logs.keeps() {
+                self.tell(shop, Told::WentBack);
+            }
+        }
+        if self.read_whole.is_none() {
+            self.read_whole = Instant::now(shop.rt).ok();
+        }
+    }
+
+    /// Whether an answer with these frames goes on where what was read ends.
+    pub fn goes_on(&self, frames: &Frames) -> bool {
+        self.logs.goes_on(first_digest(frames))
+    }
+
+    /// The answer has another frame where the last one stood, or none.
+    pub fn part_ways<T: Files<File = File> + Wait + Clock>(
+        &mut self,
+        shop: &Shop<'_, '_, '_, T>,
+        status: Status,
+    ) -> Result<bool, EvidenceRefusal> {
+        if status != Status::Whole {
+            let draft = self.draft(shop)?;
+            self.finish(shop, draft, status)?;
+            return Ok(false);
+        }
+        self.compares = false;
+        self.tell(shop, Told::WentBack);
+        self.restart()?;
+        Ok(true)
+    }
+
+    /// The place of its next frame, in this log of it.
+    pub fn next_place(&self, log: usize) -> PartName {
+        PartName {
+            replica: self.replica,
+            source: self.nth,
+            log: u16::try_from(log).unwrap_or(u16::MAX),
+            place: u16::try_from(self.logs.read()).unwrap_or(u16::MAX),
+            front: self.front,
+        }
+    }
+
+    /// Takes the next frame, and adds it where it is new; what does not go on with the draft is handed over first. Answers
+    /// whether more of it is taken.
+    pub fn take_frame<'c, T: Files<File = File> + Wait + Clock>(
+        &mut self,
+        shop: &Shop<'_, '_, 'c, T>,
+        draft: &mut Draft<'c>,
+        frame: &[u8],
+    ) -> Result<bool, EvidenceRefusal> {
+        if self.logs.read() >= MOST_ENTRIES {
+            return Ok(false);
+        }
+        let digest = digest_of(frame);
+        let mut place = self.next_place(0);
+        match self.logs.place(&digest)? {
+            source_reading::Place::Known => {
+                self.front = digest_then(&self.front, &digest);
+                return Ok(true);
+            }
+            source_reading::Place::Beyond => {
+                self.tell_beyond(shop);
+                return Ok(false);
+            }
+            source_reading::Place::Next(log) | source_reading::Place::Opens(log) => {
+                place.log = u16::try_from(log).unwrap_or(u16::MAX);
+            }
+        }
+        self.add_frame(shop, draft, &place, frame, &digest)?;
+        note_frame(shop, self.source);
+        Ok(true)
+    }
+
+    /// Adds a new frame, which stands there; what does not go on with the draft is handed over first.
+    pub fn add_frame<'c, T: Files<File = File> + Wait + Clock>(
+        &mut self,
+        shop: &Shop<'_, '_, 'c, T>,
+        draft: &mut Draft<'c>,
+        place: &PartName,
+        frame: &[u8],
+        digest: &FrameDigest,
+    ) -> Result<(), EvidenceRefusal> {
+        if !draft.goes_on(place) {
+            let next = draft.next(shop.alloc, shop.committee, self.replica)?;
+            let whole = std::mem::replace(draft, next);
+            self.hand_over(shop, whole, Status::Whole)?;
+        }
+        draft.add(shop.alloc, place, frame)?;
+        self.front = digest_then(&self.front, digest);
+        if place.log == 0 {
+            self.digest = self.front;
+        }
+        Ok(())
+    }
+
+    /// Hands over what came last, where it has frames or says how the log ends.
+    pub fn finish<'c, T: Files<File = File> + Wait + Clock>(
+        &mut self,
+        shop: &Shop<'_, '_, 'c, T>,
+        draft: Draft<'c>,
+        status: Status,
+    ) -> Result<(), EvidenceRefusal> {
+        if draft.frames() > 0 || self.status != Some(status) {
+            self.status = Some(status);
+            self.hand_over(shop, draft, status)?;
+        }
+        Ok(())
+    }
+
+    /// Hands over a part of a log that ended so. It is stored first.
+    pub fn hand_over<'c, T: Files<File = File> + Wait + Clock>(
+        &mut self,
+        shop: &Shop<'_, '_, 'c, T>,
+        draft: Draft<'c>,
+        status: Status,
+    ) -> Result<(), EvidenceRefusal> {
+        let Draft {
+            maker,
+            text,
+            name,
+            is_kept,
+        } = draft;
+        if let Some(name) = &name {
+            self.log = usize::from(name.log);
+        }
+        let unstored = self.store(shop, text, name)?;
+        let part = NewPart {
+            log: self.log,
+            part: maker.finish(shop.alloc, status)?,
+            digest: self.digest,
+            unstored,
+            is_kept,
+        };
+        self.tell(shop, Told::Part(part));
+        Ok(())
+    }
+
+    // Stores a part, where it is to be stored. Answers its path where it can't be.
+    fn store<T: Files<File = File> + Wait + Clock>(
+        &mut self,
+        shop: &Shop<'_, '_, '_, T>,
+        text: Option<PartText>,
+        name: Option<PartName>,
+    ) -> Result<Option<String>, AllocError> {
+        let (Some(state), Some(text), Some(name)) = (shop.state, text, name) else {
+            return Ok(None);
+        };
+        if self.has_gap || text.count() > MOST_ENTRIES {
+            return Ok(None);
+        }
+        if state.store(&name, &text.finish()?).is_ok() {
+            return Ok(None);
+        }
+        self.has_gap = true;
+        Ok(Some(state.path_of(&name)?))
+    }
+
+    fn tell_beyond<T: Wait + Clock>(&mut self, shop: &Shop<'_, '_, '_, T>) {
+        if !self.has_told_beyond {
+            self.has_told_beyond = true;
+            self.tell(shop, Told::Beyond);
+        }
+    }
+
+    /// Tells something of it.
+    pub fn tell<'c, T: Wait + Clock>(&self, shop: &Shop<'_, '_, 'c, T>, told: Told<'c>) {
+        shop.hand_over(Delivery {
+            source: self.source,
+            told,
+        });
+    }
+}
+
+// The digest of the first frame, if one came.
+fn first_digest(frames: &Frames) -> Option<FrameDigest> {
+    if frames.len() == 0 {
+        return None;
+    }
+    Some(digest_of(frames.payload(0)))
+}
+
+/// A source answered.
+pub(crate) fn note_answer<T: Wait + Clock>(
+    shop: &Shop<'_, '_, '_, T>,
+    source: usize,
+    status: Status,
+) {
+    if let Some(target) = shop.targets.get(source)
+        && status != Status::Failed
+    {
+        target
+            .answered
+            .store(seconds_now(shop.rt), Ordering::SeqCst);
+    }
+}
+
+// A frame came of it.
+fn note_frame<T: Wait + Clock>(shop: &Shop<'_, '_, '_, T>, source: usize) {
+    if let Some(target) = shop.targets.get(source) {
+        target.framed.store(seconds_now(shop.rt), Ordering::SeqCst);
+    }
+}
