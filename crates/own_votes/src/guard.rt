@@ -7,15 +7,15 @@ ghost use Rattle.own_votes.specs.OwnVotes.{IsFamiliar, IsFirstForeign, IsForeign
 use certificates::{Certificate, CheckedBlock, SignedVote};
 
 // Whether the vote is another replica's, or one of these.
-fn is_familiar(replica: u16, own: &[SignedVote], vote: &SignedVote) -> bool
+pub(crate) fn is_familiar(replica: u16, own: &[SignedVote], vote: &SignedVote) -> bool
     ensures yes { IsTrue result → IsFamiliar replica own.now vote.now }
     ensures no { result ≡ false → IsForeign replica own.now vote.now }
 {
     vote.replica != replica || own.contains(vote)
 }
 
-// Whether the certificate has a vote of this replica that is not one of these.
-fn has_foreign_vote(replica: u16, own: &[SignedVote], certificate: &Certificate) -> bool
+/// Whether the certificate, which need not be good, has a vote of this replica that is not one of these.
+pub fn has_foreign_vote(replica: u16, own: &[SignedVote], certificate: &Certificate) -> bool
     ensures { IsTrue result ↔ ShowsForeignVote replica own.now certificate.now }
 {
     for k in 0..certificate.count() {

@@ -1,1 +1,2 @@
 pub mod Unvoted
+mod Looked

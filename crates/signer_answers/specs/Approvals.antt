@@ -1,5 +1,5 @@
 -- Which blocks that hand over to another committee may be voted for.
-use Rattle.std.specs.Prelude.{◌≡◌, ◌≢◌, ℕ, List, Option, Some}
+use Rattle.std.specs.Prelude.{◌≢◌, ℕ, List, Option, Some}
 use Rattle.blocks.specs.Headers.{Header}
 use Rattle.handover.specs.Handovers.{IsHandover}
 

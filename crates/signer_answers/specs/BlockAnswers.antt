@@ -71,8 +71,9 @@ module _ {D : Type 0} (disk : Ghosts D) (committee : List ℕ) (replica : ℕ) (
   -- ---- a request
 
   -- what may come of a request: but for a block it is what comes of it at any replica; or the log was put back, and nothing is
-  -- delivered
+  -- delivered. Whether others are asked first is not looked at here
   abbrev pub IsSignerAnswer : Telling → Request → Told → Type 0
   IsSignerAnswer tells asked (told.PutBack ballot) = IsPutBack disk committee replica opening ballot
+  IsSignerAnswer tells asked told.Asking = ⊥
   IsSignerAnswer tells (asks.Block header certificate) (told.Came outcome) = IsBlockAnswer tells header certificate outcome
   IsSignerAnswer tells asked (told.Came outcome) = IsAnswerTo disk committee replica opening asked outcome

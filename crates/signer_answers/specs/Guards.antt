@@ -12,6 +12,8 @@ use Rattle.vote_desk.specs.SomeDesk.{IsDeskOf, SomeDesk, SomeDeskMoves}
 use Rattle.vote_desk.specs.Votes.{IsVoteFound, RefusesVoteIn}
 use Rattle.vote_desk.specs.declared.desk_error.DeskError.{DeskError}
 use Rattle.vote_desk.specs.declared.reply.Receipt.{Receipt}
+use Rattle.certificates.specs.Votes.{ballot_of}
+use Rattle.own_votes.specs.Forgotten.{IsForgottenVote}
 use Rattle.own_votes.specs.OwnVotes.{ShowsForeignVote}
 
 -- the votes that were found in a log
@@ -20,9 +22,13 @@ votes_found (Some receipt) = receipt.vote ∷ []
 votes_found None = []
 
 module _ {D : Type 0} (disk : Ghosts D) (committee : List ℕ) (replica : ℕ) (opening : List Stored) where
-  -- this is what some desk's log has in the certificate's view
+  -- this is what some desk's log has in a view
+  abbrev pub IsFoundIn : ℕ → Option Receipt → Type 0
+  IsFoundIn view found = SomeDesk (IsDeskOf disk committee replica opening) (λ d. IsVoteFound disk.bytes replica d.log view found)
+
+  -- .. in the certificate's
   abbrev pub IsFound : Certificate → Option Receipt → Type 0
-  IsFound c found = SomeDesk (IsDeskOf disk committee replica opening) (λ d. IsVoteFound disk.bytes replica d.log c.view found)
+  IsFound c found = IsFoundIn c.view found
 
   -- the certificate has a vote of this replica that some desk's log lacks
   pub record IsForgotten (c : Certificate) : Type 0 where
@@ -47,3 +53,17 @@ module _ {D : Type 0} (disk : Ghosts D) (committee : List ℕ) (replica : ℕ) (
     pub forgotten : IsForgotten certificate
     pub view : ballot.view ≡ certificate.view
     pub id : ballot.id ≡ certificate.id
+
+  -- ---- in another log
+
+  -- a good vote on what this ballot names, which some desk's log lacks
+  pub record IsForgottenOn (ballot : Ballot) : Type 0 where
+    pub vote : SignedVote
+    pub found : Option Receipt
+    pub read : IsFoundIn vote.view found
+    pub forgotten : IsForgottenVote committee replica (votes_found found) vote
+    pub on : ballot ≡ ballot_of vote
+
+  -- a good certificate showed it, or such a vote in another log
+  abbrev pub WasPutBack : Ballot → Type 0
+  WasPutBack ballot = IsPutBack ballot ⊎ IsForgottenOn ballot

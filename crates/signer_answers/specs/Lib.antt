@@ -2,3 +2,5 @@ pub mod Approvals
 pub mod Guards
 pub mod BlockAnswers
 pub mod Tellings
+pub mod Lookings
+pub mod Hearings

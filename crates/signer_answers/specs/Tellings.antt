@@ -8,9 +8,9 @@ use Rattle.signer_answers.specs.declared.told.Told.TheVariants as told
 -- with that of a vote
 abbrev pub receipts_behind : List Receipt → Told → List Receipt
 receipts_behind receipts (told.Came outcome) = receipts_after receipts outcome
-receipts_behind receipts (told.PutBack ballot) = receipts
+receipts_behind receipts _ = receipts
 
 -- the receipt of a vote that was told is among these
 abbrev pub HasItsReceipt : List Receipt → Told → Type 0
 HasItsReceipt receipts (told.Came outcome) = HasReceipt receipts outcome
-HasItsReceipt receipts (told.PutBack ballot) = Unit {0}
+HasItsReceipt receipts _ = Unit {0}

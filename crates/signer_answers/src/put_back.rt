@@ -1,7 +1,7 @@
 //! Whether a log was found to be put back.
 
 ghost use Rattle.std.specs.Prelude.{◌≡◌, IfSome, None, Some};
-ghost use Rattle.signer_answers.specs.Guards.{IsPutBack};
+ghost use Rattle.signer_answers.specs.Guards.{WasPutBack};
 
 use blocks::Ballot;
 use stable_log::Disk;
@@ -23,9 +23,9 @@ impl<N: DeskNaming, D: Disk> PutBack<N, D> {
         }
     }
 
-    /// What the certificate was on that showed it first, if one did.
+    /// What the certificate or the vote was on that showed it first, if one did.
     pub fn found<R: Wait>(&self, rt: &R) -> Option<Ballot>
-        ensures { IfSome result (IsPutBack D.Disk N.committee N.replica N.opening) }
+        ensures { IfSome result (WasPutBack D.Disk N.committee N.replica N.opening) }
     {
         let stop = self.stop.lock(rt);
         let stop = &*stop;
@@ -34,7 +34,7 @@ impl<N: DeskNaming, D: Disk> PutBack<N, D> {
 
     // It was found. Answers whether for the first time.
     pub(crate) fn find<R: Wait>(&self, rt: &R, ballot: Ballot) -> bool
-        requires { IsPutBack D.Disk N.committee N.replica N.opening ballot }
+        requires { WasPutBack D.Disk N.committee N.replica N.opening ballot }
     {
         let mut stop = self.stop.lock(rt);
         let stop = &mut *stop;
@@ -46,7 +46,7 @@ impl<N: DeskNaming, D: Disk> PutBack<N, D> {
     }
 }
 
-// What the certificate was on that showed it first, if one did.
+// What the certificate or the vote was on that showed it first, if one did.
 #[derive(Drop)]
 struct Stop<N: DeskNaming, D: Disk> {
     ballot: Option<Ballot>,
@@ -57,13 +57,13 @@ struct Stop<N: DeskNaming, D: Disk> {
 impl<N: DeskNaming, D: Disk> Model for Stop<N, D> {
     ghost use Rattle.std.specs.Prelude.{Option, IfSome};
     ghost use Rattle.blocks.specs.declared.ballot.Ballot.{Ballot};
-    ghost use Rattle.signer_answers.specs.Guards.{IsPutBack};
+    ghost use Rattle.signer_answers.specs.Guards.{WasPutBack};
 
     ghost Value = { Option Ballot };
 
     ghost view = { λ s. s.ballot };
 
-    ghost invariant = { λ s. IfSome s.ballot (IsPutBack D.Disk N.committee N.replica N.opening) };
+    ghost invariant = { λ s. IfSome s.ballot (WasPutBack D.Disk N.committee N.replica N.opening) };
 }
 
 impl<N: DeskNaming, D: Disk> Stop<N, D> {
@@ -79,13 +79,13 @@ impl<N: DeskNaming, D: Disk> Stop<N, D> {
 
     fn ballot(&self) -> Option<Ballot>
         ensures value { result ≡ self.now }
-        ensures found { IfSome result (IsPutBack D.Disk N.committee N.replica N.opening) }
+        ensures found { IfSome result (WasPutBack D.Disk N.committee N.replica N.opening) }
     {
         self.ballot
     }
 
     fn set(&mut self, ballot: Ballot)
-        requires { IsPutBack D.Disk N.committee N.replica N.opening ballot }
+        requires { WasPutBack D.Disk N.committee N.replica N.opening ballot }
         ensures { self.new ≡ Some ballot }
     {
         self.ballot = Some(ballot);

@@ -10,4 +10,6 @@ pub enum Told {
     Came(Outcome),
     /// Nothing was done: a certificate on what this names has a vote of the replica that its log lacks.
     PutBack(Ballot),
+    /// Nothing was done: logs of others are still asked for votes of this replica.
+    Asking,
 }

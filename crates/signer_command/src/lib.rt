@@ -1,9 +1,11 @@
 //! A replica that answers calls over HTTP: the words of its command line, its folder and its desk, where it listens, and
-//! threads that take connections, each with a session of its own. Needs threads that wait for one lock, sockets and a clock.
+//! threads that take connections, each with a session of its own, and others that ask for the logs of other replicas. Needs threads that wait for one lock, sockets and a clock.
 #![tactic(auto)]
 
 mod announcing;
+mod asking;
 mod calls_read;
+mod dialing;
 mod fault;
 mod handing_out;
 mod home;

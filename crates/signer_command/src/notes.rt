@@ -40,6 +40,13 @@ impl<'a, T: Wait, S: Sink> Notes<'a, T, S> {
         }
     }
 
+    /// Tells once that the log was put back.
+    pub fn tell_put_back(&self, line: &[u8]) {
+        if !self.was_put_back.swap(true, Ordering::SeqCst) {
+            self.tell(line);
+        }
+    }
+
     /// Tells a line.
     pub fn tell(&self, line: &[u8]) {
         let mut sink = self.sink.lock(self.rt);
@@ -59,8 +66,8 @@ impl<T: Wait, S: Sink> Witness for Notes<'_, T, S> {
         if stops(call) && !self.has_stopped.swap(true, Ordering::SeqCst) {
             self.tell(b"stopped desk 5\n");
         }
-        if call.body.starts_with(PUT_BACK) && !self.was_put_back.swap(true, Ordering::SeqCst) {
-            self.tell(call.body);
+        if call.body.starts_with(PUT_BACK) {
+            self.tell_put_back(call.body);
         }
     }
 }

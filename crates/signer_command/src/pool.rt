@@ -2,6 +2,7 @@
 
 ghost use Rattle.std.specs.Prelude.{◌≡◌};
 
+use crate::asking::{Hearing, ask_on};
 use crate::calls_read::CallsRead;
 use crate::handing_out::{Asker, hand_out};
 use crate::home::Home;
@@ -14,12 +15,13 @@ use blocks::CommitteeView;
 use good_votes::{GoodVotes, SideBySide};
 use http_server::{Config, Connection};
 use http1::Limits;
-use signing_service::{Commits, PutBack, Rules, Signer, Tallies, serve_calls};
+use program_parts::SourceWord;
+use signing_service::{Commits, Gate, PutBack, Rules, Signer, Tallies, serve_calls};
 use stable_log::Disk;
 use std::alloc::{AllocError, Global};
 use std::cell::Cell;
 use std::fs::{File, Files};
-use std::net::TcpStream;
+use std::net::{Net, TcpListener, TcpStream};
 use std::sync::Wait;
 use std::sync::atomic::{AtomicBool, AtomicU32, Ordering};
 use std::thread::Threads;
@@ -45,6 +47,8 @@ pub(crate) enum Job<N: DeskNaming> {
     Reads(Session<N>),
     /// Hands out the log.
     HandsOut,
+    /// Asks the source of this number.
+    Asks(usize),
 }
 
 /// What the threads share.
@@ -59,6 +63,9 @@ pub(crate) struct Shop<'a, N: DeskNaming, T: Wait, S: Sink, D: Disk> {
     pub tallies: &'a Tallies,
     pub good: &'a GoodVotes,
     pub put_back: &'a PutBack<N, D>,
+    pub gate: &'a Gate<N, D>,
+    pub sources: &'a [SourceWord<'a>],
+    pub hearing: &'a Hearing,
     pub home: &'a Home<'a, T, S>,
     pub sockets: &'a Sockets,
     pub notes: &'a Notes<'a, T, S>,
@@ -113,7 +120,12 @@ impl Start {
 /// are gone, and those that have begun are to end.
 pub(crate) fn work_all<
     N: DeskNaming + Send + Sync,
-    T: Threads + Wait + Clock + Files<File = File> + Sync,
+    T: Threads
+        + Wait
+        + Clock
+        + Files<File = File>
+        + Net<Listener = TcpListener, Stream = TcpStream>
+        + Sync,
     S: Sink + Send,
     D: Disk + Send,
 >(
@@ -134,10 +146,16 @@ where
 }
 
 // Takes connections until the signer ends.
-fn work<N: DeskNaming, T: Threads + Wait + Clock + Files<File = File>, S: Sink, D: Disk>(
-    shop: &Shop<'_, N, T, S, D>,
-    job: Job<N>,
-) -> Option<Session<N>> {
+fn work<
+    N: DeskNaming,
+    T: Threads
+        + Wait
+        + Clock
+        + Files<File = File>
+        + Net<Listener = TcpListener, Stream = TcpStream>,
+    S: Sink,
+    D: Disk,
+>(shop: &Shop<'_, N, T, S, D>, job: Job<N>) -> Option<Session<N>> {
     let _before = shop.start.begun.fetch_add(1, Ordering::SeqCst);
     let all_begun = shop.start.wait_for_all(shop.rt);
     match job {
@@ -158,6 +176,12 @@ fn work<N: DeskNaming, T: Threads + Wait + Clock + Files<File = File>, S: Sink, 
                 && all_begun
             {
                 hand_out_to_all(shop, place);
+            }
+            None
+        }
+        Job::Asks(source) => {
+            if all_begun {
+                ask_on(shop, source);
             }
             None
         }
@@ -183,6 +207,7 @@ fn take_calls<'x, N: DeskNaming, T: Threads + Wait + Clock + Files<File = File>,
         rules,
         shop.commits,
         shop.put_back,
+        shop.gate,
         shop.tallies,
         shop.notes,
         session,

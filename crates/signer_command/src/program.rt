@@ -167,6 +167,9 @@ where
         Ok(committee) => committee,
         Err(fault) => return Err(fault),
     };
+    if !are_known(&words, &committee) {
+        return Err(Fault::Usage);
+    }
     let notes = Notes::new(host.rt, host.alloc, notes, words.verbose);
     let closed = match stand_by(host, &words, &committee, &notes, input, out) {
         Ok(closed) => closed,
@@ -176,6 +179,12 @@ where
         Ok(()) => Ok(Ended::of(&closed)),
         Err(fault) => Err(fault),
     }
+}
+
+// Whether each source is of a replica of the committee.
+fn are_known(words: &Words<'_>, committee: &CommitteeView<'_>) -> bool {
+    let n = committee.n();
+    words.sources.iter().all(|source| source.replica < n)
 }
 
 // What the words ask for, and the bytes of the committee's file.
@@ -240,6 +249,7 @@ where
         sessions: sessions_of(words),
         while_input: words.while_input,
         successor: words.successor,
+        sources: &words.sources,
         folder: words.folder,
         sockets: &sockets,
         notes,

@@ -9,6 +9,7 @@ ghost use Rattle.signer_command.specs.Lines.{IsAnnounced, listening_text};
 ghost use Rattle.signer_command.specs.Sockets.{places_of};
 
 use crate::announcing::{Announced, announce, text_of};
+use crate::asking::Hearing;
 use crate::fault::{Fault, SignerFault};
 use crate::home::Home;
 use crate::listening::Place;
@@ -17,13 +18,14 @@ use crate::pool::{Job, Shop, Start, work_all};
 use crate::successor::Successor;
 use blocks::CommitteeView;
 use good_votes::GoodVotes;
-use program_parts::ProgramFault;
-use signing_service::{Commits, PutBack, Rules, Tallies};
+use program_parts::{ProgramFault, SourceWord};
+use signing_service::{Commits, Gate, PutBack, Rules, Tallies};
 use stable_log::{Disk, FileDisk};
 use std::alloc::{AllocError, Global};
 use std::fs::{File, Files};
 use std::hash::RandomState;
 use std::marker::Brand;
+use std::net::{Net, TcpListener, TcpStream};
 use std::sync::Wait;
 use std::sync::ledger::Blank;
 use std::thread;
@@ -56,6 +58,8 @@ pub(crate) struct Room<'a, T: Wait, S: Sink> {
     pub while_input: bool,
     /// Where the file of the committee that may come next is.
     pub successor: Option<&'a str>,
+    /// Where logs of others come from.
+    pub sources: &'a [SourceWord<'a>],
     /// Where the replica's folder is.
     pub folder: &'a str,
     pub sockets: &'a Sockets,
@@ -67,7 +71,12 @@ pub(crate) struct Room<'a, T: Wait, S: Sink> {
 /// One stay at a desk of its own. Where calls are taken is said once they are.
 pub(crate) fn stay_once<
     'a,
-    T: Threads + Wait + Clock + Files<File = File> + Sync,
+    T: Threads
+        + Wait
+        + Clock
+        + Files<File = File>
+        + Net<Listener = TcpListener, Stream = TcpStream>
+        + Sync,
     S: Sink + Send,
     R: Feed,
     W: Sink,
@@ -103,7 +112,12 @@ where
 fn stay<
     'a,
     N: DeskNaming + Send + Sync,
-    T: Threads + Wait + Clock + Files<File = File> + Sync,
+    T: Threads
+        + Wait
+        + Clock
+        + Files<File = File>
+        + Net<Listener = TcpListener, Stream = TcpStream>
+        + Sync,
     S: Sink + Send,
     D: Disk + Send,
     R: Feed,
@@ -147,7 +161,12 @@ where
 // Lets a thread with each session take calls, until they are to end. Answers what they hand back.
 fn answer_all<
     N: DeskNaming + Send + Sync,
-    T: Threads + Wait + Clock + Files<File = File> + Sync,
+    T: Threads
+        + Wait
+        + Clock
+        + Files<File = File>
+        + Net<Listener = TcpListener, Stream = TcpStream>
+        + Sync,
     S: Sink + Send,
     D: Disk + Send,
     R: Feed,
@@ -170,12 +189,15 @@ where
     ensures given_up { IfErr result (λ fault. IsGivenUp fault (W.text out.old) (W.text out.new)) }
     ensures counted { CountsWrites result (W.failed out.old) (W.failed out.new) }
 {
-    let Ok((jobs, text)) = prepared(room, sessions) else {
+    let (Ok((jobs, text)), Ok(hearing)) = (
+        prepared(room, sessions),
+        Hearing::new(room.alloc, committee.n()),
+    ) else {
         return Err(Fault::Memory);
     };
     let (commits, tallies) = (Commits::new(), Tallies::new(seconds_now(room.rt)));
     let good = GoodVotes::new(room.alloc);
-    let put_back = PutBack::new();
+    let (put_back, gate) = (PutBack::new(), Gate::new(!room.sources.is_empty()));
     let successor = Successor::new(room.rt, room.alloc, committee, room.successor, room.notes);
     let home = Home {
         successor,
@@ -192,6 +214,9 @@ where
         tallies: &tallies,
         good: &good,
         put_back: &put_back,
+        gate: &gate,
+        sources: room.sources,
+        hearing: &hearing,
         home: &home,
         sockets: room.sockets,
         notes: room.notes,
@@ -213,7 +238,7 @@ fn prepared<N: DeskNaming, T: Wait, S: Sink>(
     ensures { IfOk result (λ r.
         r.1.items ≡ listening_text (places_of room.now.sockets.now)) }
 {
-    let jobs = jobs_of(room.alloc, sessions, room.sockets)?;
+    let jobs = jobs_of(room.alloc, sessions, room.sockets, room.sources.len())?;
     Ok((jobs, text_of(room.alloc, room.sockets)?))
 }
 
@@ -241,7 +266,12 @@ fn open<N: DeskNaming, T: Wait, S: Sink, D: Disk>(
 // The threads at work, until they are to end, and beside them what says that calls are taken.
 fn work_and_announce<
     N: DeskNaming + Send + Sync,
-    T: Threads + Wait + Clock + Files<File = File> + Sync,
+    T: Threads
+        + Wait
+        + Clock
+        + Files<File = File>
+        + Net<Listener = TcpListener, Stream = TcpStream>
+        + Sync,
     S: Sink + Send,
     D: Disk + Send,
     R: Feed,
@@ -294,11 +324,12 @@ fn close<N: DeskNaming, D: Disk>(
     }
 }
 
-// A job for each session, those of the last two where callers only read, and two that hand out the log.
+// A job for each session, those of the last two where callers only read, two that hand out the log, and one for each source.
 fn jobs_of<N: DeskNaming>(
     alloc: Global,
     sessions: Vec<Session<N>>,
     sockets: &Sockets,
+    sources: usize,
 ) -> Result<Vec<Job<N>>, AllocError> {
     let mut reading = if sockets.reads.is_some() {
         usize::from(THREADS_BESIDE)
@@ -318,6 +349,9 @@ fn jobs_of<N: DeskNaming>(
         for _ in 0..THREADS_BESIDE {
             jobs.push(Job::HandsOut)?;
         }
+    }
+    for source in 0..sources {
+        jobs.push(Job::Asks(source))?;
     }
     Ok(jobs)
 }

@@ -6,11 +6,14 @@ use crate::fault::Fault;
 use clap::error::ErrorKind;
 use clap::{Arg, ArgAction, ArgMatches, Command as Grammar, Error};
 use printed_lines::number_in;
-use program_parts::{ProgramFault, number};
+use program_parts::{ProgramFault, SourceWord, number};
 use std::alloc::{AllocError, Global};
 
 /// How far above the vote view a view may lie, where nothing is said.
 const FURTHEST: u64 = 4096;
+
+/// How many sources are asked at most.
+const MOST_SOURCES: usize = 64;
 
 /// Where calls are taken.
 #[derive(Clone, Copy, Debug)]
@@ -62,6 +65,8 @@ pub(crate) struct Words<'a> {
     pub read: Option<&'a str>,
     pub serve: Option<&'a str>,
     pub successor: Option<&'a str>,
+    /// Where logs of others come from, which are asked for votes of this replica.
+    pub sources: Vec<SourceWord<'a>>,
     pub sessions: Sessions,
     pub furthest: u64,
     pub hosts: Vec<String>,
@@ -102,6 +107,9 @@ fn with_values<'a>(alloc: Global, grammar: Grammar<'a>) -> Result<Grammar<'a>, A
     let host = Arg::new(alloc, "HOST")
         .long("host")
         .action(ArgAction::Append);
+    let source = Arg::new(alloc, "SOURCE")
+        .long("ask")
+        .action(ArgAction::Append);
     grammar
         .arg(Arg::new(alloc, "WHERE").long("listen"))?
         .arg(Arg::new(alloc, "READ").long("read"))?
@@ -109,6 +117,7 @@ fn with_values<'a>(alloc: Global, grammar: Grammar<'a>) -> Result<Grammar<'a>, A
         .arg(Arg::new(alloc, "FILE").long("successor"))?
         .arg(Arg::new(alloc, "N").long("sessions"))?
         .arg(Arg::new(alloc, "D").long("furthest"))?
+        .arg(source)?
         .arg(host)
 }
 
@@ -148,6 +157,7 @@ fn given<'a>(alloc: Global, matches: &ArgMatches<'a>) -> Result<Words<'a>, Fault
         read: matches.get_str("READ"),
         serve: matches.get_str("SERVE"),
         successor: matches.get_str("FILE"),
+        sources: sources_in(alloc, matches)?,
         sessions,
         furthest,
         hosts: hosts_in(alloc, matches)?,
@@ -210,6 +220,24 @@ fn named<'a>(name: &str, place: Where<'a>) -> Result<Where<'a>, Fault<'a>>
         return Err(ProgramFault::Usage);
     }
     Ok(place)
+}
+
+// The sources that are asked.
+fn sources_in<'a>(alloc: Global, matches: &ArgMatches<'a>) -> Result<Vec<SourceWord<'a>>, Fault<'a>>
+    ensures { IfErr result (λ fault. fault ≢ ProgramFault.Output) }
+{
+    let mut sources = Vec::new(alloc);
+    let words = matches.get_strs("SOURCE").unwrap_or(&[]);
+    if words.len() > MOST_SOURCES {
+        return Err(ProgramFault::Usage);
+    }
+    for word in words {
+        match SourceWord::of(word) {
+            Some(source) => sources.push(source)?,
+            None => return Err(ProgramFault::Usage),
+        }
+    }
+    Ok(sources)
 }
 
 // The names, in lower case, as the names in calls are compared.

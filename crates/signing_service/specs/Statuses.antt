@@ -3,6 +3,8 @@ use Rattle.std.specs.Prelude.{◌++◌, ℕ, List, Option, Some, None, codes, de
 use Rattle.hex.specs.Hex.{encode_lower}
 use Rattle.blocks.specs.Genesis.{chain_id_of}
 use Rattle.blocks.specs.declared.ballot.Ballot.{Ballot}
+use Rattle.signing_service.specs.declared.halt.Halt.{Halt}
+use Rattle.signing_service.specs.declared.halt.Halt.TheVariants as halt
 use Rattle.http_server.specs.declared.response.Response.{Response}
 use Rattle.http_server.specs.Response.{IsResponse}
 use Rattle.vote_desk.specs.declared.desk_error.DeskError.{DeskError}
@@ -28,13 +30,14 @@ trouble_name (Some (desk.Core refusal)) = codes "full"
 trouble_name (Some desk.KeySpent) = codes "spent"
 trouble_name (Some _) = codes "stopped"
 
--- .. but where the log was put back
-abbrev pub state_name : Option Ballot → Option DeskError → List ℕ
-state_name (Some ballot) trouble = codes "put back"
+-- .. but where the log was put back, or others are asked first
+abbrev pub state_name : Option Halt → Option DeskError → List ℕ
+state_name (Some (halt.PutBack ballot)) trouble = codes "put back"
+state_name (Some halt.Asking) trouble = codes "asking"
 state_name None trouble = trouble_name trouble
 
-abbrev pub state_text : DeskStatus → Option Ballot → List ℕ
-state_text status put_back = codes ",\"state\":\"" ++ state_name put_back (trouble_of status) ++ codes "\""
+abbrev pub state_text : DeskStatus → Option Halt → List ℕ
+state_text status halted = codes ",\"state\":\"" ++ state_name halted (trouble_of status) ++ codes "\""
 
 abbrev pub views_text : DeskStatus → List ℕ
 views_text status =
@@ -51,11 +54,11 @@ committed_text None = codes "null"
 committed_text (Some ballot) = ballot_text ballot.view ballot.id
 
 -- the parts, one behind the other
-abbrev pub status_text : List ℕ → ℕ → DeskStatus → (put_back committed : Option Ballot) → List ℕ
-status_text chain replica status put_back committed =
-    name_text chain replica ++ state_text status put_back ++ views_text status ++ ballot_text status.lock.view status.lock.id
+abbrev pub status_text : List ℕ → ℕ → DeskStatus → Option Halt → Option Ballot → List ℕ
+status_text chain replica status halted committed =
+    name_text chain replica ++ state_text status halted ++ views_text status ++ ballot_text status.lock.view status.lock.id
     ++ counts_text status ++ codes ",\"committed\":" ++ committed_text committed ++ codes "}\n"
 
-abbrev pub IsStatusTold : List ℕ → ℕ → DeskStatus → (put_back committed : Option Ballot) → Response → Type 0
-IsStatusTold committee replica status put_back committed response =
-    IsResponse 200 (fields_of_kind Json) (status_text (chain_id_of committee) replica status put_back committed) response
+abbrev pub IsStatusTold : List ℕ → ℕ → DeskStatus → Option Halt → Option Ballot → Response → Type 0
+IsStatusTold committee replica status halted committed response =
+    IsResponse 200 (fields_of_kind Json) (status_text (chain_id_of committee) replica status halted committed) response

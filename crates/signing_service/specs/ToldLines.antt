@@ -38,6 +38,10 @@ abbrev pub put_back_line : Ballot → List ℕ
 put_back_line ballot =
     codes "stopped vote view " ++ decimal ballot.view ++ codes " id " ++ encode_lower ballot.id ++ codes " not in the log\n"
 
+-- others are still asked for votes of this replica
+abbrev pub asking_line : List ℕ
+asking_line = codes "asking\n"
+
 -- ---- statuses
 
 -- 507 where there is no more room, 412 where the core refuses the block, else 503

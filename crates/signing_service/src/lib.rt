@@ -3,6 +3,7 @@
 #![tactic(auto)]
 
 mod commits;
+mod halt;
 mod health;
 mod judging;
 mod laws;
@@ -21,7 +22,7 @@ pub use commits::Commits;
 pub use laws::each_is_counted_once;
 pub use serving::serve_calls;
 pub use signer::Signer;
-pub use signer_answers::{Approver, Keeper, NoSuccessor, PutBack};
+pub use signer_answers::{Approver, Gate, Keeper, NoSuccessor, PutBack, look_through};
 pub use signer_calls::{CallRefusal, Rules};
 pub use tallies::{Numbers, Tallies};
 pub use witness::{NoWitness, Seen, Witness};

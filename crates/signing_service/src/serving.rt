@@ -41,7 +41,7 @@ pub fn serve_calls<
     // Each call has a reading, and was told what its call is told. The receipt of each vote that was told is in the
     // session: so the vote stands in the log.
     ensures backed { All (IsBacked D.Disk N.committee N.replica N.opening signer.old.rules.now
-        (A.tells signer.old.approver.now) signer.new.session.receipts.items) (history connection.new).calls }
+        signer.old.gate.now.asks (A.tells signer.old.approver.now) signer.new.session.receipts.items) (history connection.new).calls }
     ensures grows { ReceiptsGrow signer.old.session.receipts.items
         signer.new.session.receipts.items }
 

@@ -1,19 +1,22 @@
 //! One caller's side of a desk, as a service.
 
-ghost use Rattle.std.specs.Prelude.{◌≡◌, ◌<◌, ◌≤◌, ◌+◌, IsFalse, IsTrue, OnErr, OnOk, Option, codes};
+ghost use Rattle.std.specs.Prelude.{◌≡◌, ◌<◌, ◌≤◌, ◌+◌, IsFalse, IsTrue, MatchOption, OnErr, OnOk, Option, codes};
 ghost use Rattle.http_server.specs.Response.{IsBlank};
-ghost use Rattle.signing_service.specs.CallAnswers.{IsCallServed, IsDeskHealthTold, IsDeskMetricsTold, IsDeskStatusTold, IsFar, IsHeaderTold, IsNear, IsOutcomeOf, IsPartTold, IsServed, IsVoteJudged, IsVoteTold, SomeOne, committed_by, from_export, parent_view_of, receipts_told};
+ghost use Rattle.signing_service.specs.CallAnswers.{IsCallServed, IsDeskHealthTold, IsDeskMetricsTold, IsDeskStatusTold, IsFar, IsHalt, IsHeaderTold, IsNear, IsOutcomeOf, IsPartTold, IsPast, IsServed, IsVoteJudged, IsVoteTold, SomeOne, committed_by, from_export, parent_view_of, receipts_told};
 ghost use Rattle.signing_service.specs.Refusals.{IsRefusalTold, refusal_fields};
 ghost use Rattle.signing_service.specs.Responses.{IsLine, IsReady};
 
 use crate::commits::Commits;
+use crate::halt::{Halt, tell_halt};
 use crate::health::tell_health;
 use crate::judging::tell_judgement;
 use crate::metrics::{METRICS_ROOM, tell_metrics};
 use crate::refusing::{refuse, tell_refused};
 use crate::status::tell_status;
 use crate::tallies::Tallies;
-use crate::telling::{tell_desk, tell_outcome, tell_put_back, tell_receipt, tell_text};
+use crate::telling::{
+    tell_asking, tell_desk, tell_outcome, tell_put_back, tell_receipt, tell_text,
+};
 use crate::witness::{Witness, seen_of};
 use crate::writing::{Kind, fill, make_ready, make_room};
 use blocks::{Ballot, CommitteeView, Id};
@@ -23,7 +26,7 @@ use good_votes::{Checker, Known};
 use http::Request;
 use http_server::{Response, Service};
 use replica_lines::{Outcome, Request as Asked};
-use signer_answers::{Approver, Keeper, PutBack, Told, answer};
+use signer_answers::{Approver, Gate, Keeper, PutBack, Told, answer};
 use signer_calls::{Call, CallRefusal, LogPart, Rules, call_of};
 use stable_log::Disk;
 use std::alloc::{AllocError, Global};
@@ -55,6 +58,7 @@ pub struct Signer<
     replica: u16,
     commits: &'a Commits<N>,
     put_back: &'a PutBack<N, D>,
+    gate: &'a Gate<N, D>,
     tallies: &'a Tallies,
     witness: &'a W,
     session: Session<N>,
@@ -83,6 +87,7 @@ impl<
         rules: &'a Rules,
         commits: &'a Commits<N>,
         put_back: &'a PutBack<N, D>,
+        gate: &'a Gate<N, D>,
         tallies: &'a Tallies,
         witness: &'a W,
         session: Session<N>,
@@ -92,6 +97,7 @@ impl<
         ensures session { result.session ≡ session }
         ensures rules { result.rules.now ≡ rules.now }
         ensures approver { result.approver.now ≡ approver.now }
+        ensures gate { result.gate.now ≡ gate.now }
     {
         Signer {
             rt,
@@ -104,6 +110,7 @@ impl<
             replica,
             commits,
             put_back,
+            gate,
             tallies,
             witness,
             session,
@@ -116,6 +123,21 @@ impl<
     {
         let Signer { session, .. } = self;
         session
+    }
+
+    // Why no block or timeout is taken, if none is: first that the log was put back.
+    fn halt(&self) -> Option<Halt>
+        ensures { MatchOption result
+            (IsPast D.Disk N.committee N.replica N.opening self.now.gate.now.asks)
+            (IsHalt D.Disk N.committee N.replica N.opening self.now.gate.now.asks) }
+    {
+        if let Some(ballot) = self.put_back.found(self.rt) {
+            return Some(Halt::PutBack(ballot));
+        }
+        if !self.gate.is_open(self.rt) {
+            return Some(Halt::Asking);
+        }
+        None
     }
 
     // Whether a view lies too far above the desk's vote view.
@@ -153,16 +175,19 @@ impl<
         }
     }
 
-    // What comes of a block or a timeout, unless the log was put back, or its view lies too far ahead.
+    // What comes of a block or a timeout, unless none is taken, or its view lies too far ahead.
     fn outcome_of(&mut self, asked: Asked) -> Option<Told>
         ensures outcome { IsOutcomeOf D.Disk N.committee N.replica N.opening
-            self.old.rules.now.furthest (A.tells self.old.approver.now) asked result }
+            self.old.rules.now.furthest self.old.gate.now.asks (A.tells self.old.approver.now) asked result }
         ensures receipts { self.new.session.receipts.items
             ≡ receipts_told self.old.session.receipts.items result }
-        ensures same { (self.new.rules ≡ self.old.rules) × (self.new.approver ≡ self.old.approver) }
+        ensures same { (self.new.rules ≡ self.old.rules) × (self.new.approver ≡ self.old.approver)
+            × (self.new.gate ≡ self.old.gate) }
     {
-        if let Some(ballot) = self.put_back.found(self.rt) {
-            return Some(Told::PutBack(ballot));
+        match self.halt() {
+            Some(Halt::PutBack(ballot)) => return Some(Told::PutBack(ballot)),
+            Some(Halt::Asking) => return Some(Told::Asking),
+            None => {}
         }
         if self.lies_far(&asked) {
             return None;
@@ -190,10 +215,11 @@ impl<
     // .. counted, with the time that a block takes.
     fn counted_outcome_of(&mut self, asked: Asked) -> Option<Told>
         ensures outcome { IsOutcomeOf D.Disk N.committee N.replica N.opening
-            self.old.rules.now.furthest (A.tells self.old.approver.now) asked result }
+            self.old.rules.now.furthest self.old.gate.now.asks (A.tells self.old.approver.now) asked result }
         ensures receipts { self.new.session.receipts.items
             ≡ receipts_told self.old.session.receipts.items result }
-        ensures same { (self.new.rules ≡ self.old.rules) × (self.new.approver ≡ self.old.approver) }
+        ensures same { (self.new.rules ≡ self.old.rules) × (self.new.approver ≡ self.old.approver)
+            × (self.new.gate ≡ self.old.gate) }
     {
         let is_block = is_block(&asked);
         let began = Instant::now(self.rt);
@@ -206,11 +232,11 @@ impl<
         outcome
     }
 
-    // Counts what is told of a block or a timeout. That the log was put back counts as the desk's refusal.
+    // Counts what is told of a block or a timeout. That none is taken counts as the desk's refusal.
     fn count(&self, told: &Option<Told>) {
         match told {
             Some(Told::Came(outcome)) => self.tallies.count_outcome(self.rt, outcome),
-            Some(Told::PutBack(_)) => {
+            Some(Told::PutBack(_) | Told::Asking) => {
                 let refused = Outcome::RefusedByDesk(DeskError::Stopped);
                 self.tallies.count_outcome(self.rt, &refused);
             }
@@ -222,15 +248,17 @@ impl<
     fn ask(&mut self, asked: Asked, response: &mut Response) -> Result<(), AllocError>
         requires { IsBlank response.old }
         ensures ok { OnOk result (IsCallServed D.Disk N.committee N.replica N.opening
-            self.old.rules.now (A.tells self.old.approver.now) (Call.Replica asked) self.old.session.receipts.items response.new
+            self.old.rules.now self.old.gate.now.asks (A.tells self.old.approver.now) (Call.Replica asked) self.old.session.receipts.items response.new
             self.new.session.receipts.items) }
-        ensures same { (self.new.rules ≡ self.old.rules) × (self.new.approver ≡ self.old.approver) }
+        ensures same { (self.new.rules ≡ self.old.rules) × (self.new.approver ≡ self.old.approver)
+            × (self.new.gate ≡ self.old.gate) }
         ensures err { OnErr result (self.new ≡ self.old) }
     {
         make_ready(response, Kind::Text)?;
         match self.counted_outcome_of(asked) {
             Some(Told::Came(outcome)) => tell_outcome(response, &outcome),
             Some(Told::PutBack(ballot)) => tell_put_back(response, &ballot),
+            Some(Told::Asking) => tell_asking(response),
             None => tell_refused(response, CallRefusal::Far),
         }
         Ok(())
@@ -305,25 +333,25 @@ impl<
     fn tell_desk_health(&self, response: &mut Response) -> Result<(), AllocError>
         requires { IsBlank response.old }
         ensures { OnOk result
-            (IsDeskHealthTold D.Disk N.committee N.replica N.opening response.new) }
+            (IsDeskHealthTold D.Disk N.committee N.replica N.opening self.now.gate.now.asks response.new) }
     {
         make_ready(response, Kind::Text)?;
-        match self.put_back.found(self.rt) {
-            Some(ballot) => tell_put_back(response, &ballot),
+        match self.halt() {
+            Some(halt) => tell_halt(response, halt),
             None => tell_health(response, &self.desk.status(self.rt)),
         }
         Ok(())
     }
 
-    // Tells whether a vote is good, unless the log was put back.
+    // Tells whether a vote is good, unless no block is taken.
     fn judge(&self, vote: &SignedVote, response: &mut Response) -> Result<(), AllocError>
         requires { IsBlank response.old }
         ensures { OnOk result
-            (IsVoteJudged D.Disk N.committee N.replica N.opening vote.now response.new) }
+            (IsVoteJudged D.Disk N.committee N.replica N.opening self.now.gate.now.asks vote.now response.new) }
     {
-        if let Some(ballot) = self.put_back.found(self.rt) {
+        if let Some(halt) = self.halt() {
             make_ready(response, Kind::Text)?;
-            tell_put_back(response, &ballot);
+            tell_halt(response, halt);
             return Ok(());
         }
         tell_judgement(self.committee, self.verifier, vote, response)
@@ -333,18 +361,18 @@ impl<
     fn tell_desk_status(&self, response: &mut Response) -> Result<(), AllocError>
         requires { IsBlank response.old }
         ensures { OnOk result
-            (IsDeskStatusTold D.Disk N.committee N.replica N.opening response.new) }
+            (IsDeskStatusTold D.Disk N.committee N.replica N.opening self.now.gate.now.asks response.new) }
     {
         make_ready(response, Kind::Json)?;
         let status = self.desk.status(self.rt);
-        let put_back = self.put_back.found(self.rt);
+        let halted = self.halt();
         let committed = self.commits.last(self.rt);
         tell_status(
             response,
             self.committee,
             self.replica,
             &status,
-            &put_back,
+            &halted,
             &committed,
         );
         Ok(())
@@ -369,9 +397,10 @@ impl<
     fn do_call(&mut self, call: Call, response: &mut Response) -> Result<(), AllocError>
         requires { IsBlank response.old }
         ensures ok { OnOk result (IsCallServed D.Disk N.committee N.replica N.opening
-            self.old.rules.now (A.tells self.old.approver.now) call self.old.session.receipts.items response.new
+            self.old.rules.now self.old.gate.now.asks (A.tells self.old.approver.now) call self.old.session.receipts.items response.new
             self.new.session.receipts.items) }
-        ensures same { (self.new.rules ≡ self.old.rules) × (self.new.approver ≡ self.old.approver) }
+        ensures same { (self.new.rules ≡ self.old.rules) × (self.new.approver ≡ self.old.approver)
+            × (self.new.gate ≡ self.old.gate) }
         ensures err { OnErr result (self.new ≡ self.old) }
     {
         match call {
@@ -399,9 +428,9 @@ impl<
     W: Witness,
 > Service for Signer<'a, N, R, D, V, A, W> {
     ghost answers = { λ old request response new.
-        IsServed D.Disk N.committee N.replica N.opening old.rules.now (A.tells old.approver.now)
+        IsServed D.Disk N.committee N.replica N.opening old.rules.now old.gate.now.asks (A.tells old.approver.now)
         old.session.receipts.items request response new.session.receipts.items
-        × (new.rules ≡ old.rules) × (new.approver ≡ old.approver) };
+        × (new.rules ≡ old.rules) × (new.approver ≡ old.approver) × (new.gate ≡ old.gate) };
 
     fn call(
         &mut self,

@@ -7,6 +7,7 @@ ghost use Rattle.signing_service.specs.Responses.{IsReady, fields_of_kind};
 ghost use Rattle.signing_service.specs.Statuses.{IsStatusTold, ballot_text, committed_text, counts_text, name_text, state_name, state_text, status_text, trouble_name, views_text};
 ghost use Rattle.signing_service.specs.declared.writing.TheConstants.{ROOM};
 
+use crate::halt::Halt;
 use crate::health::trouble_of;
 use crate::writing::{Kind, put, put_field, put_number};
 use blocks::{Ballot, CommitteeView, Id};
@@ -20,18 +21,18 @@ pub(crate) fn tell_status(
     committee: &CommitteeView,
     replica: u16,
     status: &DeskStatus,
-    put_back: &Option<Ballot>,
+    halted: &Option<Halt>,
     committed: &Option<Ballot>,
 )
     requires { IsReady (fields_of_kind Kind.Json) response.old }
-    ensures { IsStatusTold committee.now replica status.now put_back.now committed.now response.new }
+    ensures { IsStatusTold committee.now replica status.now halted.now committed.now response.new }
 {
     put_status(
         &mut response.body,
         &committee.chain(),
         replica,
         status,
-        put_back,
+        halted,
         committed,
     );
 }
@@ -41,14 +42,14 @@ fn put_status(
     chain: &Id,
     replica: u16,
     status: &DeskStatus,
-    put_back: &Option<Ballot>,
+    halted: &Option<Halt>,
     committed: &Option<Ballot>,
 )
     requires { (body.old.items ≡ []) × (ROOM ≤ body.old.spare) }
-    ensures { body.new.items ≡ status_text chain.now replica status.now put_back.now committed.now }
+    ensures { body.new.items ≡ status_text chain.now replica status.now halted.now committed.now }
 {
     put_name(body, chain, replica);
-    put_state(body, status, put_back);
+    put_state(body, status, halted);
     put_views(body, status);
     put_ballot(body, status.lock.view, &status.lock.id);
     put_counts(body, status);
@@ -68,22 +69,23 @@ fn put_name(body: &mut Rope, chain: &Id, replica: u16)
     put_number(body, replica);
 }
 
-fn put_state(body: &mut Rope, status: &DeskStatus, put_back: &Option<Ballot>)
+fn put_state(body: &mut Rope, status: &DeskStatus, halted: &Option<Halt>)
     requires { 256 ≤ body.old.spare }
-    ensures items { body.new.items ≡ body.old.items ++ state_text status.now put_back.now }
+    ensures items { body.new.items ≡ body.old.items ++ state_text status.now halted.now }
     ensures spare { body.old.spare ≤ body.new.spare + 256 }
 {
     put(body, b",\"state\":\"");
-    put(body, state_name(put_back, trouble_of(status)));
+    put(body, state_name(halted, trouble_of(status)));
     put(body, b"\"");
 }
 
-fn state_name(put_back: &Option<Ballot>, trouble: Option<DeskError>) -> &'static [u8]
-    ensures name { result.now ≡ state_name put_back.now trouble }
+fn state_name(halted: &Option<Halt>, trouble: Option<DeskError>) -> &'static [u8]
+    ensures name { result.now ≡ state_name halted.now trouble }
     ensures short { length result.now ≤ 20 }
 {
-    match put_back {
-        Some(_) => b"put back",
+    match halted {
+        Some(Halt::PutBack(_)) => b"put back",
+        Some(Halt::Asking) => b"asking",
         None => trouble_name(trouble),
     }
 }

@@ -5,7 +5,7 @@ ghost use Rattle.hex.specs.Hex.{encode_lower};
 ghost use Rattle.certificates.specs.Votes.{vote_text};
 ghost use Rattle.vote_desk.specs.declared.reply.Answer.TheVariants.{Voted};
 ghost use Rattle.replica_lines.specs.OutcomeLines.{answer_text, commit_text, numbered_line};
-ghost use Rattle.signing_service.specs.CallAnswers.{IsDeskTold, IsPutBackTold, IsReceiptTold};
+ghost use Rattle.signing_service.specs.CallAnswers.{IsAskingTold, IsDeskTold, IsPutBackTold, IsReceiptTold};
 ghost use Rattle.signing_service.specs.Responses.{IsLine, IsReady, fields_of_kind, named_line};
 ghost use Rattle.signing_service.specs.ToldLines.{core_status, desk_status, named_desk_line, outcome_status, put_back_line, told_line};
 ghost use Rattle.signing_service.specs.declared.writing.TheConstants.{ROOM};
@@ -51,6 +51,15 @@ fn put_put_back(body: &mut Rope, ballot: &Ballot)
     put(body, b" id ");
     put(body, &id_digits(&ballot.id));
     put(body, b" not in the log\n");
+}
+
+// Tells that others are still asked.
+pub(crate) fn tell_asking(response: &mut Response)
+    requires { IsReady (fields_of_kind Kind.Text) response.old }
+    ensures { IsAskingTold response.new }
+{
+    response.status = StatusCode::SERVICE_UNAVAILABLE;
+    put(&mut response.body, b"asking\n");
 }
 
 // Tells why the desk refuses.

@@ -10,7 +10,7 @@ use key_index_store::IndexStore;
 use lmots::PrivateSeed;
 use lms_tree::SigningTree;
 use signing_service::{
-    Commits, NoSuccessor, PutBack, Rules, Seen, Signer, Tallies, Witness, serve_calls,
+    Commits, Gate, NoSuccessor, PutBack, Rules, Seen, Signer, Tallies, Witness, serve_calls,
 };
 use stable_log::MemoryDisk;
 use std::alloc::{AllocError, Global};
@@ -115,6 +115,7 @@ fn sent<N: DeskNaming, R: Threads + Wait + Clock>(
     let good = GoodVotes::new(alloc);
     let checker = SideBySide::new(rt, &good);
     let put_back = PutBack::new();
+    let gate = Gate::new(false);
     let mut signer = Signer::new(
         rt,
         alloc,
@@ -126,6 +127,7 @@ fn sent<N: DeskNaming, R: Threads + Wait + Clock>(
         rules,
         &commits,
         &put_back,
+        &gate,
         &tallies,
         counts,
         session,

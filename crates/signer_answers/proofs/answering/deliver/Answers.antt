@@ -1,4 +1,4 @@
-use Rattle.std.proofs.Common.{◌≡◌, ℕ, List, ap, inl, inr, refl, subst}
+use Rattle.std.proofs.Common.{ℕ, List, ap, inl, inr, refl, subst}
 use Rattle.blocks.specs.Headers.{Header}
 use Rattle.certificates.specs.BlockChecks.{CheckedBlock, IsChecked}
 use Rattle.replica_answers.specs.Answers.{block_of}

@@ -1,4 +1,4 @@
-use Rattle.std.proofs.Common.{◌≡◌, ℕ, List, ap, inl, inr, rules, subst}
+use Rattle.std.proofs.Common.{ℕ, List, ap, inl, inr, rules, subst}
 use Rattle.std.specs.Prelude.{IsOk}
 use Rattle.blocks.specs.Headers.{Header}
 use Rattle.certificates.specs.BlockChecks.{CheckedBlock, IsChecked}

@@ -1,0 +1,3 @@
+pub use Rattle.certificates.specs.BlockChecks
+pub mod Enough
+pub mod Greatest
