@@ -34,6 +34,7 @@ hs_tool audit --why | SOURCE K frames are no entries | So many whole frames spel
 hs_tool audit --why | SOURCE V votes, G good: another committee, or another R? | The log names V different votes, of which G are good. | Compare chain ids (hs_show COMMITTEE), and see that it is the log of that replica.\n\
 hs_tool audit --why | verdict PATH | The verdict on a culprit stands at PATH. | Send it to everyone; each judges it by hs_check COMMITTEE PATH.\n\
 hs_signer | stopped vote view V id ID not in the log | A good certificate on that block has a vote of this replica that its log lacks: its folder was put back to a backup, or its key signs elsewhere too. It votes no more, and wrote DIR/put-back. | Leave put-back where it is, hand out the log, and tell the other operators: the replica counts as one of the f until there is a new committee.\n\
+hs_signer | asking | Before it takes a block it reads the logs of others, which --ask names, and replicas of more than a third of the weight were not heard yet. Nothing was done. | Ask again. Where it stays so, see that the others' logs can be reached.\n\
 hs_signer | successor not read | A block that hands over came, and the file of --successor can't be opened or read, or memory was refused. It is as if it were not there, and the block got no vote. | See to the file's mode: it is read anew at the next such block.\n\
 hs_signer | successor N NAME.. | The file of --successor is no committee's, by this refusal (1 to 7, as in fault committee), and is as if it were not there. | Lay the right file down by renaming it into its place; no restart is needed.\n\
 hs_signer | successor 8 OldKey K | Key K of the file of --successor is a key of this committee too: it would sign twice under one one-time key. The file is as if it were not there. | Have that replica make a new key in a new folder, and a new committee's file be made.\n\
@@ -53,6 +54,7 @@ hs_check, hs_tool, hs_show, hs_draw, hs_signer, hs_watch, hs_follow | fault comm
 hs_follow | fault committee 8 OldKey K | Key K of the new committee is one of the old committee's keys: it would sign twice under one one-time key. | Have that replica make a new key in a new folder, and make the committee's file anew.\n\
 hs_tool audit, hs_draw, hs_watch, hs_follow | fault source I | The word of source I, counted from 0, is not R=file:PATH or R=tcp:ADDRESS. | Put that word right.\n\
 hs_tool audit, hs_draw, hs_watch, hs_follow | fault collision | Two different headers have one id: SHA-256 is broken, and no audit of these sources holds. | Keep all sources.\n\
+hs_watch | fault state | The folder of --state has logs of another chain, or logs and no file that says of which. | Name another folder, or the committee's own.\n\
 hs_tool replica, hs_signer | fault store 2 | The committee has no replica R, or a disk failed while a store was recovered. | Compare R and COMMITTEE, and look at the disk: nothing is spent by trying again.\n\
 hs_tool migrate | fault store 2 | The disk failed. | Look at the disk.\n\
 hs_tool replica, hs_signer | fault store 3 | The keys of the folder are not those of replica R in their order, or log.hsj is no journal. | Compare R, COMMITTEE and DIR. Never rename seeds to make them fit.\n\
@@ -162,5 +164,5 @@ hs_watch | listening ADDRESS | What the watch knows is told over HTTP at this ad
 hs_watch /health | late | Its last round is older than 30 seconds and twice --every. | See whether the process runs, and start it again.\n\
 hs_watch /health | unstored | A verdict is not stored, and is tried again each round. | Make room in OUTDIR; the verdict is at /verdict-R.hsx meanwhile.\n\
 hs_watch | TIME round N set-aside I replica R | 64 votes of source I were not good; no more of it is read. | It is of another committee or replica, or its server lies.\n\
-hs_watch | TIME round N unstored PATH.. | A verdict can't be stored there, or something else stands there. | Look at OUTDIR and the disk."
+hs_watch | TIME round N unstored PATH.. | A verdict, or with --state a part of a log, can't be stored there, or something else stands there. | Look at OUTDIR, the folder of --state, and the disk."
 }
