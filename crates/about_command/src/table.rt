@@ -154,6 +154,7 @@ hs_follow | follows view V id ID | By what the logs prove the old committee hand
 hs_follow | follows another view V id ID payload HEX | The old committee handed its ledger over to another file than NEW. | Get the file whose digest begins as the payload says, behind HSN1.\n\
 hs_follow | follows none | The logs prove no handover. | Get more logs, or later ones.\n\
 hs_watch | TIME round N commit V ID | It is proved that the block ID of view V was committed. | Nothing.\n\
+hs_watch | TIME round N handover V ID payload HEX | It is proved that the committee hands its ledger over, by the block ID of view V. | See by hs_follow that the payload names the file that you approved.\n\
 hs_watch | TIME round N conflict ID ID | Two conflicting blocks were committed: the chain forked. | Stop what relies on the ledger, and send the verdicts to everyone who must agree to a removal.\n\
 hs_watch | TIME round N culprit R rule K views V V PATH.. | Replica R broke rule K by its votes in these views; the verdict is at PATH. | Send the verdict to everyone who must agree to the removal.\n\
 hs_watch | TIME round N culprit R kept PATH.. | A verdict on replica R was there at the start. | Send it to everyone who must agree to the removal.\n\

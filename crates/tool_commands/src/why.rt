@@ -7,10 +7,12 @@ use culprit_search::Report;
 use held_audit::HeldAudit;
 use held_logs::{HeldLog, Judgement};
 use lmots::PRIVATE_SEED_LEN;
+use log_format::Status;
 use printed_lines::write_printed;
 use program_parts::{Origin, SourceWord, read_named};
 use source_reasons::{Reason, Stranger};
 use std::alloc::Global;
+use std::fs;
 use std::fs::{File, Files};
 use streams::{Sink, write_all};
 
@@ -63,7 +65,10 @@ pub(crate) fn reason_of<F: Files<File = File>>(
 ) -> Option<Reason>
     ensures { IsWhy judged.now result }
 {
-    let stranger = stranger_at(files, alloc, word);
+    let stranger = match judged.report.status {
+        Status::Broken | Status::TooLong => stranger_at(files, alloc, word),
+        _ => Stranger::Unknown,
+    };
     let (failure, is_old) = match log {
         Some(log) => (log.failure(), begins_old(log)),
         None => (None, false),
@@ -125,7 +130,12 @@ fn stranger_at<F: Files<File = File>>(files: &F, alloc: Global, word: &str) -> S
     }
 }
 
+// A pipe has nothing left, and to open it once more could wait for ever.
 fn stranger_in<F: Files<File = File>>(files: &F, alloc: Global, path: &str) -> Stranger {
+    match fs::metadata(files, path) {
+        Ok(found) if found.is_file() => {}
+        _ => return Stranger::Unknown,
+    }
     let read: Result<Vec<u8>, Fault> = read_named(files, alloc, path, MOST_OF_A_STRANGER);
     match read {
         Ok(bytes) => stranger_of(&bytes),

@@ -1,2 +1,3 @@
-pub mod FaultLines
 pub mod Ends
+pub mod FaultLines
+pub mod HandoverNews

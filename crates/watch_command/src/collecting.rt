@@ -3,6 +3,7 @@
 ghost use Rattle.std.specs.Prelude.{◌≢◌, IfErr};
 
 use crate::fault::{Fault, fault_of_evidence};
+use crate::next_committee::{handover_in, put_handover};
 use crate::shop::{Delivery, NewPart, Shop, Told};
 use crate::showing::{
     Seen, show_commits, show_conflict, show_culprit, show_kept, show_round, show_source,
@@ -11,6 +12,7 @@ use crate::showing::{
 use crate::verdict_files::{Kept, VerdictFolder};
 use certificates::SignedVote;
 use culprit_search::{Commit, Conflict, Report, Verdict};
+use evidence::Evidence;
 use log_format::Status;
 use program_parts::ProgramFault;
 use shared_values::Shared;
@@ -76,6 +78,8 @@ struct Desk<'c> {
     pending: Vec<Pending>,
     commits: Vec<Commit>,
     conflict: Option<Conflict>,
+    // Whether it was told by which block the ledger was handed over.
+    has_told_handover: bool,
     round: u64,
     // Evidence grew, and was not audited since.
     is_due: bool,
@@ -132,6 +136,7 @@ impl<'c> Desk<'c> {
             pending: Vec::new(shop.alloc),
             commits: Vec::new(shop.alloc),
             conflict: None,
+            has_told_handover: false,
             round: 0,
             is_due: false,
             has_gap: false,
@@ -389,15 +394,39 @@ impl<'c> Desk<'c> {
         folder: &VerdictFolder<'_, '_, T>,
         stamp: &[u8],
     ) -> Result<(), AllocError> {
-        let (_evidence, report) = audit_so_far(shop.alloc, &self.collector)?;
+        let (evidence, report) = audit_so_far(shop.alloc, &self.collector)?;
+        let has_more = report.commits().len() > self.commits.len();
         self.say_commits(shop, stamp, &report)?;
         self.say_conflict(shop, stamp, &report)?;
+        if has_more {
+            self.say_handover(shop, stamp, &evidence)?;
+        }
         for verdict in report.verdicts() {
             self.name(shop, folder, stamp, verdict)?;
         }
         // Last, so that no conflict is shown without its culprits.
         show_commits(shop, &self.commits)?;
         show_conflict(shop, &self.conflict);
+        Ok(())
+    }
+
+    // Says by which block the ledger was handed over, once. What comes later does not change it but by a conflict, and then
+    // nothing is said of it.
+    fn say_handover<T: Wait + Clock>(
+        &mut self,
+        shop: &Shop<'_, '_, 'c, T>,
+        stamp: &[u8],
+        evidence: &Evidence,
+    ) -> Result<(), AllocError> {
+        if self.has_told_handover || self.conflict.is_some() {
+            return Ok(());
+        }
+        if let Some(block) = handover_in(shop.alloc, evidence)? {
+            self.has_told_handover = true;
+            let mut line = Vec::new(shop.alloc);
+            put_handover(&mut line, stamp, &block)?;
+            shop.queue.say(shop.rt, line);
+        }
         Ok(())
     }
 

@@ -49,10 +49,12 @@ fn follow_server<'c, T: Files<File = File> + Wait + Clock + Net<Stream = TcpStre
             shop.pause();
         }
     }
+    reader.let_others_read_anew(shop);
     Ok(())
 }
 
-// Asks the server once, and hands over what is new. Answers whether more is there at once.
+// Asks the server once, and hands over what is new. Answers whether something was read and more is there at once: a server that
+// gives nothing that goes on is left alone for a while, however much it gives.
 fn read_on<'c, T: Files<File = File> + Wait + Clock + Net<Stream = TcpStream>>(
     shop: &Shop<'_, '_, 'c, T>,
     reader: &mut Reader,
@@ -75,9 +77,10 @@ fn read_on<'c, T: Files<File = File> + Wait + Clock + Net<Stream = TcpStream>>(
     if !reader.goes_on(&frames) {
         return reader.part_ways(shop, status);
     }
-    let skip = usize::from(reader.logs.read() > 0);
-    take(shop, reader, &frames, skip, status)?;
-    Ok(answer.end == End::Stopped || frames.len() >= MOST_FRAMES_ASKED as usize)
+    let before = reader.logs.read();
+    take(shop, reader, &frames, usize::from(before > 0), status)?;
+    let has_more = answer.end == End::Stopped || frames.len() >= MOST_FRAMES_ASKED as usize;
+    Ok(has_more && reader.logs.read() > before)
 }
 
 // Hands over the frames from this one on.

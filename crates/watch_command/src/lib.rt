@@ -7,6 +7,7 @@ mod draft;
 mod fault;
 mod following;
 mod link;
+mod next_committee;
 mod patience;
 mod program;
 mod queue;

@@ -96,12 +96,17 @@ impl Reader {
         Ok(())
     }
 
-    /// All that is there was read. Where it is compared, and does not begin with what was read before, it went back.
-    pub fn end_round<T: Wait + Clock>(&mut self, shop: &Shop<'_, '_, '_, T>) {
+    /// It is not read anew any more, and another may be.
+    pub fn let_others_read_anew<T: Wait + Clock>(&mut self, shop: &Shop<'_, '_, '_, T>) {
         if self.is_anew {
             self.is_anew = false;
             shop.reads_anew.store(false, Ordering::SeqCst);
         }
+    }
+
+    /// All that is there was read. Where it is compared, and does not begin with what was read before, it went back.
+    pub fn end_round<T: Wait + Clock>(&mut self, shop: &Shop<'_, '_, '_, T>) {
+        self.let_others_read_anew(shop);
         if self.status != Some(Status::Whole) {
             return;
         }
