@@ -99,9 +99,9 @@ class Server:
 class Watch:
     """A watch over some servers: words are replicas beside servers, or as they are."""
 
-    def __init__(self, folder, sources, *words, every="0.1"):
+    def __init__(self, folder, sources, *words, every="0.1", committee=COMMITTEE):
         named = [f"{replica}=tcp:{server.address}" for replica, server in sources]
-        self.process = subprocess.Popen([WATCH, COMMITTEE, folder, *named, *words, "--every", every], stdin=subprocess.PIPE, stdout=subprocess.PIPE, stderr=subprocess.PIPE, text=True)
+        self.process = subprocess.Popen([WATCH, committee, folder, *named, *words, "--every", every], stdin=subprocess.PIPE, stdout=subprocess.PIPE, stderr=subprocess.PIPE, text=True)
         self.lines, self.begun = [], time.monotonic()
         threading.Thread(target=self.read, daemon=True).start()
 

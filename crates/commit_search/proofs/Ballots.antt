@@ -1,115 +1,100 @@
--- Votes that rise, searched for one on a block.
-use Rattle.std.proofs.Common.{◌≡◌, ◌⊎◌, ◌&&◌, Bool, true, false, inl, inr, ℕ, ◌+◌, ◌<◌, List, [], length, get_or, Result, Ok, Err, nat_eq, refl, sym, ◌∙◌, ap, subst, arith}
+-- Who voted for what, in the order of views and ids.
+use Rattle.std.proofs.Common.{◌≡◌, ◌↔◌, ◌&&◌, Bool, true, false, ℕ, ◌<◌, List, [], length, get_or, map, take, drop, nat_eq, refl, sym, ◌∙◌, ap, arith}
 use Rattle.std.specs.Cmp.{IsTotalOrder}
 use Rattle.std.specs.Cmp.Lexicographic.{slice_cmp}
-use Rattle.std.specs.List.{AllPairs}
-use Rattle.std.specs.List.Sorted.{IsBinarySearchResult, IsNonDecreasingBy, IsSearchInRange, IsSortedBy}
-use Rattle.std.specs.Ordering.{nat_cmp, ordering_index, ordering_reverse, ordering_then, is_lt}
-use Rattle.std.specs.Result.{is_ok}
+use Rattle.std.specs.List.{Contains}
+use Rattle.std.specs.Ordering.{is_le, is_lt, nat_cmp, ordering_then}
 use Rattle.std.specs.Str.{bytes_eq}
 use Rattle.std.specs.declared.cmp.Ordering.{Ordering}
-use Rattle.std.specs.declared.cmp.Ordering.TheVariants.{Less, Equal, Greater}
-use Rattle.std.proofs.lemmas.Bool.{and_parts, cases_lt, eqb-true, false_from_ne_true}
+use Rattle.std.proofs.lemmas.Bool.{and_parts, eqb-true}
 use Rattle.std.proofs.lemmas.Cmp.{nat_cmp_total, nat_eq_equiv, nat_list_cmp_total, on_total, then_total, tied_itself}
-use Rattle.std.proofs.lemmas.List.Folds.{list_any_at, list_any_none}
+use Rattle.std.proofs.lemmas.List.{get_or-map, get_or_default, length-map}
+use Rattle.std.proofs.lemmas.List.Folds.{list_any-from_Any}
 use Rattle.std.proofs.lemmas.List.Sorted.{searchable_from_sorted}
 use Rattle.std.proofs.lemmas.Map.Lookups.{exact_bytes, exact_unsigned}
 use Rattle.std.proofs.lemmas.Slice.Eq.{bytes_eq-Decides}
+use Rattle.blocks.proofs.Members.{Contains-from_Has}
 use Rattle.certificates.specs.declared.vote.SignedVote.{SignedVote}
-use Rattle.certificates.specs.VoteOrder.{IsLowerVote}
 use Rattle.certificates.proofs.VoteOrder.{both_equal}
+use Rattle.commit_search.specs.Casts.{AreCasts, CastsRise, cast_of, has_cast}
 use Rattle.commit_search.specs.Commits.{has_vote, is_vote_on}
+use Rattle.commit_search.specs.declared.by_ballot.Cast.{Cast}
+use Rattle.commit_search.proofs.Between.{Ends, RanksRise, tied_between_in}
+use Rattle.commit_search.proofs.Weights.{list_any-Has}
 
--- ---- ballots
+-- ---- their order
 
--- a replica, and the view and the id that it votes for
-abbrev pub Ballot : Type 0
-Ballot = ℕ × ℕ × List ℕ
+abbrev pub Key : Type 0
+Key = ℕ × List ℕ
 
-abbrev pub ballot_of : SignedVote → Ballot
-ballot_of v = (v.replica, v.view, v.id)
+abbrev pub key_of : Cast → Key
+key_of c = (c.view, c.id)
 
-abbrev pub ballot_cmp : Ballot → Ballot → Ordering
-ballot_cmp x y = ordering_then (ordering_then (nat_cmp x.0 y.0) (nat_cmp x.1 y.1)) (slice_cmp nat_cmp x.2 y.2)
+abbrev pub key_cmp : Key → Key → Ordering
+key_cmp x y = ordering_then (nat_cmp x.0 y.0) (slice_cmp nat_cmp x.1 y.1)
 
-ballots_total : IsTotalOrder ballot_cmp
-ballots_total =
-    then_total (then_total (on_total (λ (x : Ballot). x.0) nat_cmp_total) (on_total (λ (x : Ballot). x.1) nat_cmp_total))
-    (on_total (λ (x : Ballot). x.2) nat_list_cmp_total)
+pub keys_total : IsTotalOrder key_cmp
+keys_total = then_total (on_total (λ (x : Key). x.0) nat_cmp_total) (on_total (λ (x : Key). x.1) nat_list_cmp_total)
 
-ballots_apart : (x y : Ballot) → ballot_cmp x y ≡ Equal → x ≡ y
-ballots_apart x y e =
-    let a = both_equal (ordering_then (nat_cmp x.0 y.0) (nat_cmp x.1 y.1)) (slice_cmp nat_cmp x.2 y.2) e in
-    let b = both_equal (nat_cmp x.0 y.0) (nat_cmp x.1 y.1) a.0 in
-    ap (λ (n : ℕ). (n, x.1, x.2)) (exact_unsigned x.0 y.0 b.0) ∙ ap (λ (n : ℕ). (y.0, n, x.2)) (exact_unsigned x.1 y.1 b.1) ∙ ap (λ (l : List ℕ). (y.0, y.1, l)) (exact_bytes x.2 y.2 a.1)
+-- how it stands to a view and an id
+abbrev pub cast_rank : Key → Cast → Ordering
+cast_rank x c = key_cmp (key_of c) x
 
--- ---- votes rise by their ballots, too
+pub casts_rise : (cs : List Cast) (x : Key) → CastsRise cs → RanksRise (cast_rank x) cs
+casts_rise cs x rise = searchable_from_sorted keys_total key_of cs x rise
 
-not_behind : (a b c d : Ordering) → ordering_then a (ordering_then b (ordering_then c d)) ≡ Less → is_lt (ordering_reverse (ordering_then (ordering_then a b) c)) ≡ false
-not_behind Less b c d e = refl
-not_behind Greater b c d e = absurd cc
-not_behind Equal Less c d e = refl
-not_behind Equal Greater c d e = absurd cc
-not_behind Equal Equal Less d e = refl
-not_behind Equal Equal Equal d e = refl
-not_behind Equal Equal Greater d e = absurd cc
+-- those between where the keys below this one end, and where those up to it do
+pub casts_on_in : (cs ds es rest : List Cast) (view : ℕ) (id : List ℕ) (s n : ℕ) → ds ≡ cs → es ≡ cs → rest ≡ drop s es
+    → Ends (λ c. is_lt (cast_rank (view, id) c)) ds s → Ends (λ c. is_le (cast_rank (view, id) c)) rest n
+    → (c : Cast) → Contains (take n rest) c ↔ (Contains cs c × (c.view ≡ view) × (c.id ≡ id))
+casts_on_in cs ds es rest view id s n same again behind first second c =
+    let tied = tied_between_in (cast_rank (view, id)) cs ds es rest s n same again behind first second c in (
+      λ there.
+          (let t = tied.0 there in
+          let b = both_equal (nat_cmp c.view view) (slice_cmp nat_cmp c.id id) t.1 in
+          (t.0, exact_unsigned c.view view b.0, exact_bytes c.id id b.1)),
+      λ (there, at, on).
+          tied.1 (there, ap (λ (n : ℕ). key_cmp (n, c.id) (view, id)) at ∙ ap (λ (l : List ℕ). key_cmp (view, l) (view, id)) on ∙ tied_itself keys_total (view, id)),
+    )
 
-ballots_rise : (v w : SignedVote) → IsLowerVote v w → is_lt (ballot_cmp (ballot_of w) (ballot_of v)) ≡ false
-ballots_rise v w low =
-    ap is_lt (ballots_total.antisymm (ballot_of w) (ballot_of v))
-    ∙ not_behind (nat_cmp v.replica w.replica) (nat_cmp v.view w.view) (slice_cmp nat_cmp v.id w.id) (ordering_then (nat_cmp v.key w.key) (slice_cmp nat_cmp v.signature w.signature)) low
+-- ---- who voted for a block
 
-sorted_by_ballot : (vs : List SignedVote) → AllPairs IsLowerVote vs → IsSortedBy (λ v w. is_lt (ballot_cmp (ballot_of v) (ballot_of w))) vs
-sorted_by_ballot vs rising k d low there = ballots_rise (get_or vs k d) (get_or vs (k + 1) d) (rising k (k + 1) d (omega arith) there)
+in_map : (vs : List SignedVote) (v : SignedVote) → Contains vs v → Contains (map cast_of vs) (cast_of v)
+in_map vs v (k, there, is) = (k, omega (arith, length-map vs cast_of), get_or-map cast_of vs k v (cast_of v) there ∙ ap cast_of is)
 
-searchable : (vs : List SignedVote) (x : Ballot) → AllPairs IsLowerVote vs → IsNonDecreasingBy (λ v. ordering_index (ballot_cmp (ballot_of v) x)) vs
-searchable vs x rising = searchable_from_sorted ballots_total ballot_of vs x (sorted_by_ballot vs rising)
-
--- ---- a ballot for a block
+from_map : (vs : List SignedVote) (c : Cast) → Contains (map cast_of vs) c → (v : SignedVote) × Contains vs v × (cast_of v ≡ c)
+from_map vs c (k, there, is) =
+    let d : SignedVote = record { replica = 0; view = 0; id = []; key = 0; signature = [] } in
+    let inside : k < length vs = omega (arith, there, length-map vs cast_of) in
+    (get_or vs k d, (k, inside, get_or_default vs k _ d inside), sym (get_or-map cast_of vs k d c inside) ∙ is)
 
 both_true : (a b : Bool) → a ≡ true → b ≡ true → (a && b) ≡ true
 both_true true b p q = q
 both_true false b p q = p
 
-is_ballot : (view : ℕ) (id : List ℕ) (r : ℕ) (v : SignedVote) → ballot_of v ≡ (r, view, id) → is_vote_on view id r v ≡ true
-is_ballot view id r v same =
-    subst (λ (x : Ballot). (nat_eq v.replica x.0 && (nat_eq v.view x.1 && bytes_eq v.id x.2)) ≡ true) same
-    (both_true _ _ (nat_eq_equiv.refl v.replica) (both_true _ _ (nat_eq_equiv.refl v.view) ((bytes_eq-Decides v.id v.id).1 refl)))
+same_answer : (a b : Bool) → (a ≡ true → b ≡ true) → (b ≡ true → a ≡ true) → a ≡ b
+same_answer true b f g = sym (f refl)
+same_answer false true f g = g refl
+same_answer false false f g = refl
 
-ballot_is : (view : ℕ) (id : List ℕ) (r : ℕ) (v : SignedVote) → is_vote_on view id r v ≡ true → ballot_of v ≡ (r, view, id)
-ballot_is view id r v t =
-    let x = and_parts (nat_eq v.replica r) (nat_eq v.view view && bytes_eq v.id id) t in
-    let y = and_parts (nat_eq v.view view) (bytes_eq v.id id) x.1 in
-    ap (λ (n : ℕ). (n, v.view, v.id)) (eqb-true v.replica r x.0) ∙ ap (λ (n : ℕ). (r, n, v.id)) (eqb-true v.view view y.0)
-    ∙ ap (λ (l : List ℕ). (r, view, l)) ((bytes_eq-Decides v.id id).0 y.1)
-
-not_equal : (o : Ordering) → o ≡ Equal → (o ≡ Less) ⊎ (o ≡ Greater) → ⊥
-not_equal Less e f = absurd cc
-not_equal Greater e f = absurd cc
-not_equal Equal e (inl f) = absurd cc
-not_equal Equal e (inr f) = absurd cc
-
--- ---- what a search answers
-
-abbrev pub Finds : List SignedVote → Ballot → Result ℕ ℕ → Type 0
-Finds vs x res = IsBinarySearchResult (λ v. ballot_cmp (ballot_of v) x) vs res
-
-found : (vs : List SignedVote) (view : ℕ) (id : List ℕ) (r k : ℕ) → k < length vs → Finds vs (r, view, id) (Ok k) → has_vote vs view id r ≡ true
-found vs view id r k there ties =
-    let d : SignedVote = record { replica = 0; view = 0; id = []; key = 0; signature = [] } in
-    list_any_at (is_vote_on view id r) vs k d there (is_ballot view id r (get_or vs k d) (ballots_apart (ballot_of (get_or vs k d)) (r, view, id) (ties d)))
-
-missing : (vs : List SignedVote) (view : ℕ) (id : List ℕ) (r p : ℕ) → AllPairs IsLowerVote vs → Finds vs (r, view, id) (Err p) → has_vote vs view id r ≡ false
-missing vs view id r p rising parted =
-    let parts = parted (searchable vs (r, view, id) rising) in
-    list_any_none (is_vote_on view id r) vs (λ k d there. false_from_ne_true _ (λ t.
-    let same = ballot_is view id r (get_or vs k d) t in
-    let tie : ballot_cmp (ballot_of (get_or vs k d)) (r, view, id) ≡ Equal = ap (λ (x : Ballot). ballot_cmp x (r, view, id)) same ∙ tied_itself ballots_total (r, view, id) in
-    not_equal _ tie (elim (cases_lt k p) [
-      | inl before ↦ inl (parts.0 k d (omega arith) before)
-      | inr behind ↦ inr (parts.1 k d behind there)
-    ])))
-
-pub finds_vote : (vs : List SignedVote) (view : ℕ) (id : List ℕ) (r : ℕ) (res : Result ℕ ℕ) → AllPairs IsLowerVote vs → IsSearchInRange res (length vs) → Finds vs (r, view, id) res → is_ok res ≡ has_vote vs view id r
-finds_vote vs view id r (Ok k) rising there ties = sym (found vs view id r k there ties)
-finds_vote vs view id r (Err p) rising there parted = sym (missing vs view id r p rising parted)
+-- among the casts for a block, a replica's is one of its votes on the block
+pub cast_is_vote : (votes : List SignedVote) (casts on : List Cast) (view : ℕ) (id : List ℕ) (r : ℕ) → AreCasts votes casts
+    → ((c : Cast) → Contains on c ↔ (Contains casts c × (c.view ≡ view) × (c.id ≡ id)))
+    → has_cast on r ≡ has_vote votes view id r
+cast_is_vote votes casts on view id r are those =
+    same_answer (has_cast on r) (has_vote votes view id r)
+    (λ t.
+    let c = list_any-Has (λ (c : Cast). nat_eq c.replica r) on t in
+    let there = (those c.0).0 (Contains-from_Has on c.0 c.1) in
+    let v = from_map votes c.0 ((are c.0).0 there.0) in
+    let by : nat_eq v.0.replica r ≡ true = ap (λ (x : Cast). nat_eq x.replica r) v.2 ∙ c.2 in
+    let at : nat_eq v.0.view view ≡ true = ap (λ (x : Cast). nat_eq x.view view) v.2 ∙ ap (λ (n : ℕ). nat_eq n view) there.1 ∙ nat_eq_equiv.refl view in
+    let for : bytes_eq v.0.id id ≡ true = (bytes_eq-Decides v.0.id id).1 (ap (λ (x : Cast). x.id) v.2 ∙ there.2) in
+    list_any-from_Any (is_vote_on view id r) votes (v.1.0, v.0, v.1.1, v.1.2, both_true _ _ by (both_true _ _ at for)))
+    (λ t.
+    let v = list_any-Has (is_vote_on view id r) votes t in
+    let x = and_parts (nat_eq v.0.replica r) (nat_eq v.0.view view && bytes_eq v.0.id id) v.2 in
+    let y = and_parts (nat_eq v.0.view view) (bytes_eq v.0.id id) x.1 in
+    let in_casts = (are (cast_of v.0)).1 (in_map votes v.0 (Contains-from_Has votes v.0 v.1)) in
+    let there = (those (cast_of v.0)).1 (in_casts, eqb-true v.0.view view y.0, (bytes_eq-Decides v.0.id id).0 y.1) in
+    list_any-from_Any (λ (c : Cast). nat_eq c.replica r) on (there.0, cast_of v.0, there.1, there.2, x.0))

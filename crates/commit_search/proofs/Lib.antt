@@ -2,6 +2,7 @@ pub mod Weights
 pub mod ConflictsAccuse
 pub mod NamedPairs
 pub mod Choices
+pub mod Between
 pub mod Parents
 pub mod Orders
 pub mod CommitFacts

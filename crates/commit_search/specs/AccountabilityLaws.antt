@@ -2,7 +2,7 @@
 -- that of BFT Protocol Forensics, Sheng and others, CCS 2021; the rules are this project's own).
 use Rattle.std.specs.Prelude.{◌≡◌, ◌<◌, ◌≤◌, ◌+◌, ◌*◌, ℕ, List, length, false}
 use Rattle.blocks.specs.Chains.{Conflict, NoCollision}
-use Rattle.blocks.specs.Committees.{IsCommittee, has_weights, n_of, weight_at}
+use Rattle.blocks.specs.Committees.{has_weights, n_of, weight_at}
 use Rattle.blocks.specs.Headers.{Header, IsGenesis}
 use Rattle.certificates.specs.declared.vote.SignedVote.{SignedVote}
 use Rattle.evidence.specs.Evidence.{Evidence, IsEvidence}

@@ -2,6 +2,7 @@
 //! third. Needs no threads, files or network.
 #![tactic(auto)]
 
+mod by_ballot;
 mod by_parent;
 mod certified;
 mod commits;

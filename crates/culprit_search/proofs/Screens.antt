@@ -1,5 +1,5 @@
 -- What the screen passes over.
-use Rattle.std.proofs.Common.{◌≡◌, Bool, true, false, not, inl, inr, ℕ, ◌-◌, ◌<◌, ◌≤◌, List, length, get_or, take, ltb-true, refl, sym, ◌∙◌, ap, subst, arith}
+use Rattle.std.proofs.Common.{◌≡◌, ◌⊎◌, Bool, true, false, not, inl, inr, ℕ, ◌-◌, ◌<◌, ◌≤◌, List, length, get_or, take, ltb-true, refl, sym, ◌∙◌, ap, subst, arith}
 use Rattle.std.specs.Prelude.{◌↔◌, IsTrue, nat_eq, nat_lt}
 use Rattle.std.specs.Cmp.Lexicographic.{slice_cmp}
 use Rattle.std.specs.List.{All, AllPairs}
@@ -20,7 +20,7 @@ use Rattle.certificates.specs.declared.vote.SignedVote.{SignedVote}
 use Rattle.evidence.specs.Evidence.{Evidence, IsEvidence}
 use Rattle.certificates.specs.VoteOrder.{IsLowerVote}
 use Rattle.verdict_format.specs.declared.parts.Shown.TheVariants.{DoubleVote, LockViolation}
-use Rattle.culprit_search.specs.Searches.{AreByOne, AreOwnVotes, HasNoLockAbove, IsFoundAt, IsOnParentBelow, LowerHaveNoLockAbove, NoneBreaksWith, NoneIsDouble, StandBetween}
+use Rattle.culprit_search.specs.Searches.{AreByOne, AreOwnVotes, BeginsAt, EndsAt, HasNoLockAbove, IsFoundAt, IsOnParentBelow, LowerHaveNoLockAbove, NoneBreaksWith, NoneIsDouble, StandBetween}
 use Rattle.culprit_search.proofs.Breaches.{only_one}
 use Rattle.culprit_search.proofs.VotesInOrder.{Parts, greater, in_front, view_of}
 
@@ -100,6 +100,45 @@ stand_between own view start end first last = record {
       elim (cases_lt i end) [ inl l ↦ l | inr past ↦ (let high = last.high i d past there in absurd (omega arith)) ],
     ),
   );
+}
+
+-- where one vote and the one before it tell that a view begins
+pub begins : (own : List SignedVote) (view place : ℕ) (x y : SignedVote) → IsNonDecreasingBy view_of own → place < length own → get_or own place x ≡ x → view ≤ x.view
+    → (place ≡ 0) ⊎ ((get_or own (place - 1) y ≡ y) × (y.view < view)) → BeginsAt own view place
+begins own view place x y up there at high low = record {
+  before = λ i d less. elim low [
+    | inl none ↦ absurd (omega arith)
+    | inr (is, below) ↦
+        let le = up i (place - 1) y (omega arith) (omega arith) in
+        let here : (get_or own (place - 1) y).view ≡ y.view = ap view_of is in
+        let same : (get_or own i y).view ≡ (get_or own i d).view = ap view_of (get_or_default own i y d (omega arith)) in
+        omega arith
+  ];
+  after = λ i d le inside.
+      (let more = up place i x le inside in
+      let here : (get_or own place x).view ≡ x.view = ap view_of at in
+      let same : (get_or own i x).view ≡ (get_or own i d).view = ap view_of (get_or_default own i x d inside) in
+      omega arith);
+}
+
+-- .. and one vote and the one behind it that it ends
+pub ends : (own : List SignedVote) (view place : ℕ) (x y : SignedVote) → IsNonDecreasingBy view_of own → 1 ≤ place → place ≤ length own → get_or own (place - 1) x ≡ x → x.view ≤ view
+    → (place ≡ length own) ⊎ ((get_or own place y ≡ y) × (view < y.view)) → EndsAt own view place
+ends own view place x y up some within at low high = record {
+  within = within;
+  before = λ i d less.
+      (let le = up i (place - 1) x (omega arith) (omega arith) in
+      let here : (get_or own (place - 1) x).view ≡ x.view = ap view_of at in
+      let same : (get_or own i x).view ≡ (get_or own i d).view = ap view_of (get_or_default own i x d (omega arith)) in
+      omega arith);
+  after = λ i d le inside. elim high [
+    | inl all ↦ absurd (omega arith)
+    | inr (is, above) ↦
+        let more = up place i y le inside in
+        let here : (get_or own place y).view ≡ y.view = ap view_of is in
+        let same : (get_or own i y).view ≡ (get_or own i d).view = ap view_of (get_or_default own i y d inside) in
+        omega arith
+  ];
 }
 
 -- the place of a vote that were a double vote with w

@@ -83,6 +83,17 @@ pub record StandBetween (own : List SignedVote) (view start end : ℕ) : Type 0 
   pub within : end ≤ length own
   pub exact : (i : ℕ) (d : SignedVote) → i < length own → ((start ≤ i) × (i < end)) ↔ ((get_or own i d).view ≡ view)
 
+-- the votes before this place are below the view, and those from it on are not
+pub record BeginsAt (own : List SignedVote) (view place : ℕ) : Type 0 where
+  pub before : (i : ℕ) (d : SignedVote) → i < place → (get_or own i d).view < view
+  pub after : (i : ℕ) (d : SignedVote) → place ≤ i → i < length own → view ≤ (get_or own i d).view
+
+-- the votes before this place are up to the view, and those from it on are above it
+pub record EndsAt (own : List SignedVote) (view place : ℕ) : Type 0 where
+  pub within : place ≤ length own
+  pub before : (i : ℕ) (d : SignedVote) → i < place → (get_or own i d).view ≤ view
+  pub after : (i : ℕ) (d : SignedVote) → place ≤ i → i < length own → view < (get_or own i d).view
+
 -- none of these votes is a double vote with w
 abbrev pub NoneIsDouble : List SignedVote → SignedVote → Type 0
 NoneIsDouble own w = (v : SignedVote) → Contains own v → IsDoubleVote (ballot_of v) (ballot_of w) → ⊥

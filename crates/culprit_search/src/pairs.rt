@@ -98,7 +98,7 @@ fn least_pair(evidence: &Evidence, own: &[Shared<SignedVote>]) -> Option<Offence
     for w in own {
         let w = w.get();
         locks = join_lower(evidence, own, w.view, locks);
-        if may_break(evidence, own, w, locks.greatest) {
+        if may_break(evidence, own, w, locks) {
             if let Some(offence) = least_against(evidence, own, w) {
                 return Some(offence);
             }

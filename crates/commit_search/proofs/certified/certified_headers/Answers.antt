@@ -2,6 +2,8 @@ use Rattle.std.proofs.Common.{◌≡◌, ◌<◌, List, length, get_or, subst}
 use Rattle.std.proofs.lemmas.Bool.{iff_false}
 use Rattle.blocks.specs.Headers.{Header}
 use Rattle.blocks.specs.Weights.{committee_of}
+use Rattle.certificates.specs.declared.vote.SignedVote.{SignedVote}
+use Rattle.commit_search.specs.Casts.{AreCasts}
 use Rattle.commit_search.specs.Commits.{IsCertified}
 use Rattle.commit_search.proofs.Choices.{chosen_over, chosen_more}
 use Rattle.commit_search.proofs.certified.certified_headers.Goals as goal
@@ -23,3 +25,6 @@ loop-header-preserved c =
           rw w.chosen-is (rw w.in_ok-push.ensures.items (chosen_more Is e.headers chosen i x c.headers-header-items.ensures.is_evidence.headers_rise there is before (c.is_certified.ensures.0 w.if-is_certified.true)))
       | else-is_certified w ↦ rw w.chosen-is (chosen_over Is e.headers chosen i x there is before (iff_false c.is_certified.ensures w.if-is_certified.false))
     ]
+
+pub is_certified-requires : goal.is_certified-requires
+is_certified-requires c = subst (λ (vs : List SignedVote). AreCasts vs c.in_ok-casts.casts) c.votes.ensures.value c.in_ok-casts.ensures

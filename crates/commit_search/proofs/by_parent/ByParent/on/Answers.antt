@@ -5,7 +5,8 @@ use Rattle.std.specs.List.Sorted.{IsPartitionedBy}
 use Rattle.std.specs.Ordering.{is_le, is_lt}
 use Rattle.blocks.specs.Headers.{Header}
 use Rattle.commit_search.specs.Successors.{ParentsRise}
-use Rattle.commit_search.proofs.Parents.{parted_below, parted_up_to, rank, those_on_in}
+use Rattle.commit_search.proofs.Between.{parted_below, parted_up_to}
+use Rattle.commit_search.proofs.Parents.{rank, ranks_rise, those_on_in}
 use Rattle.commit_search.proofs.by_parent.ByParent.on.Goals as goal
 
 pub returns : goal.returns
@@ -18,8 +19,8 @@ returns c =
     let rise : ParentsRise hs = subst ParentsRise (sym c.deref.ensures.value) c.self.invariant in
     let rise_again : ParentsRise again = subst ParentsRise (sym c.deref-2.ensures.value) c.self.invariant in
     let second_part : IsPartitionedBy (λ h. is_le (rank id h)) rest =
-    subst (IsPartitionedBy (λ h. is_le (rank id h))) (sym (take_rest again start)) (parted_up_to again id start rise_again) in
-    let first = IsPartitionPoint-from_clause (λ (h : Header). is_lt (rank id h)) hs start c.partition_point-start.ensures.partitioned (parted_below hs id rise) (λ a r q k. search rules) in
+    subst (IsPartitionedBy (λ h. is_le (rank id h))) (sym (take_rest again start)) (parted_up_to (rank id) again start (ranks_rise again id rise_again)) in
+    let first = IsPartitionPoint-from_clause (λ (h : Header). is_lt (rank id h)) hs start c.partition_point-start.ensures.partitioned (parted_below (rank id) hs (ranks_rise hs id rise)) (λ a r q k. search rules) in
     let second = IsPartitionPoint-from_clause (λ (h : Header). is_le (rank id h)) rest c.partition_point-len.result c.partition_point-len.ensures.partitioned second_part (λ a r q k. search rules) in
     those_on_in c.args.self.now hs again rest id start c.partition_point-len.result (c.deref.ensures.value ∙ c.self.view_is) (c.deref-2.ensures.value ∙ c.self.view_is) (take_rest again start)
     (c.partition_point-start.ensures.bound, first) (c.partition_point-len.ensures.bound, second)
