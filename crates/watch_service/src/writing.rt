@@ -50,9 +50,10 @@ fn policy_of(kind: Kind) -> HeaderValue
         Kind::Picture => HeaderValue::from_static(
             "default-src 'none'; style-src 'sha256-nv+mA1/+eDLQBvWnup7N70zAVvINwphGa2YpCorNbPE='; img-src 'self' data:; base-uri 'none'; form-action 'none'; frame-ancestors 'none'",
         ),
-        Kind::Text | Kind::Json | Kind::Metrics | Kind::Verdict | Kind::Html | Kind::Refused => HeaderValue::from_static(
-            "default-src 'none'; style-src 'sha256-AOUb0+aR/aOeyqL1OuCfuZiMOZP3SZMLNUkcNunTkx4='; img-src 'self' data:; base-uri 'none'; form-action 'none'; frame-ancestors 'none'",
-        ),
+        Kind::Text | Kind::Json | Kind::Metrics | Kind::Verdict | Kind::Html | Kind::Refused =>
+            HeaderValue::from_static(
+                "default-src 'none'; style-src 'sha256-AOUb0+aR/aOeyqL1OuCfuZiMOZP3SZMLNUkcNunTkx4='; img-src 'self' data:; base-uri 'none'; form-action 'none'; frame-ancestors 'none'",
+            ),
     }
 }
 
