@@ -1,14 +1,5 @@
 pub use Rattle.printed_lines.specs.Printed
 pub mod FaultLines
 pub mod Words
-pub mod Digits
-pub mod Series
-pub mod Findings
-pub mod DrawnBlocks
-pub mod Lanes
-pub mod Sources
-pub mod Pictures
-pub mod Choices
-pub mod Standings
 pub mod Outputs
 pub mod Faults

@@ -7,9 +7,9 @@ use Rattle.evidence.specs.Evidence.{Evidence, IsEvidence}
 use Rattle.evidence.specs.Logs.{ReceivedLog}
 use Rattle.parallel_verify.specs.Collections.{IsEvidenceOfSources}
 use Rattle.culprit_search.specs.Reports.{IsAudit, Report}
-use Rattle.draw_command.specs.Findings.{findings_of}
-use Rattle.draw_command.specs.Pictures.{Drawn, IsPicture}
-use Rattle.draw_command.specs.Standings.{IsDrawn}
+use Rattle.fork_picture.specs.Findings.{findings_of}
+use Rattle.fork_picture.specs.Pictures.{Drawn, IsPicture}
+use Rattle.fork_picture.specs.Drawings.{IsDrawn}
 use Rattle.draw_command.specs.Words.{AskForPicture}
 use Rattle.draw_command.specs.declared.words.SourceFile.{SourceFile}
 

@@ -10,11 +10,10 @@ ghost use Rattle.draw_command.specs.Faults.{GivesUp, IsPictureFault};
 ghost use Rattle.draw_command.specs.Outputs.{IsOutput, IsPictureOf};
 ghost use Rattle.draw_command.specs.Words.{IsUsage};
 
-use crate::drawing::draw;
-use crate::placing::scene_of;
 use crate::reading::read_evidence;
 use crate::words::{SourceFile, Words, read_words};
 use culprit_search::audit;
+use fork_picture::{Purpose, draw, scene_of};
 use program_parts::{
     ProgramFault, SourceFault, exit_status, parse_committee, read_committee, write_out,
 };
@@ -105,5 +104,5 @@ where
     let evidence = read_evidence(files, rt, alloc, &committee, sources)?;
     let report = audit(alloc, &evidence)?;
     let scene = scene_of(alloc, &evidence, &report)?;
-    Ok(draw(alloc, &scene)?)
+    Ok(draw(alloc, &scene, Purpose::Audit)?)
 }

@@ -6,8 +6,8 @@ use crate::fault::{Fault, fault_of_evidence};
 use crate::next_committee::{handover_in, put_handover};
 use crate::shop::{Delivery, NewPart, Shop, Told};
 use crate::showing::{
-    Seen, show_commits, show_conflict, show_culprit, show_kept, show_round, show_source,
-    show_stored,
+    Seen, show_commits, show_conflict, show_culprit, show_kept, show_picture, show_round,
+    show_source, show_stored,
 };
 use crate::verdict_files::{Kept, VerdictFolder};
 use certificates::SignedVote;
@@ -407,7 +407,7 @@ impl<'c> Desk<'c> {
         // Last, so that no conflict is shown without its culprits.
         show_commits(shop, &self.commits)?;
         show_conflict(shop, &self.conflict);
-        Ok(())
+        show_picture(shop, &evidence, &report)
     }
 
     // Says by which block the ledger was handed over, once. What comes later does not change it but by a conflict, and then

@@ -3,8 +3,9 @@
 use crate::shop::{Place, Shop, Target};
 use crate::words::Words;
 use blocks::{Ballot, CommitteeView};
-use culprit_search::{Commit, Conflict, Verdict};
-use evidence::SourceReport;
+use culprit_search::{Commit, Conflict, Report, Verdict};
+use evidence::{Evidence, SourceReport};
+use fork_picture::recent_picture;
 use log_format::Status;
 use std::alloc::{AllocError, Global};
 use std::sync::Wait;
@@ -46,6 +47,7 @@ pub(crate) fn first_snapshot(
         culprits: Vec::new(alloc),
         weight: 0,
         total: committee.total(),
+        picture: None,
     })
 }
 
@@ -175,6 +177,21 @@ pub(crate) fn show_conflict<T: Wait + Clock>(
             second: conflict.second,
         });
     }
+}
+
+/// Shows the picture of what came so far.
+pub(crate) fn show_picture<T: Wait + Clock>(
+    shop: &Shop<'_, '_, '_, T>,
+    evidence: &Evidence,
+    report: &Report,
+) -> Result<(), AllocError> {
+    let Some(server) = shop.server else {
+        return Ok(());
+    };
+    let picture = recent_picture(shop.alloc, evidence, report)?;
+    let mut shown = server.seen.lock(shop.rt);
+    shown.picture = Some(picture);
+    Ok(())
 }
 
 /// Shows a culprit that a verdict names.

@@ -1,5 +1,5 @@
 -- The page of a watch.
-use Rattle.std.specs.Prelude.{◌≡◌, ◌<◌, ◌++◌, ◌==◌, ℕ, Bool, true, false, List, Option, codes, decimal, length, nat_lt, if◌then◌else◌}
+use Rattle.std.specs.Prelude.{◌≡◌, ◌<◌, ◌++◌, ◌==◌, ℕ, Bool, true, false, List, Option, codes, decimal, is_some, length, nat_lt, if◌then◌else◌}
 use Rattle.std.specs.List.{flat_map}
 use Rattle.hex.specs.Hex.{encode_lower}
 use Rattle.watch_lines.specs.Times.{IsUtcText}
@@ -24,7 +24,7 @@ reload_text false = codes "<meta http-equiv=\"refresh\" content=\"10; url=/\">\n
 
 -- colours for light and for dark, and a banner that a page shows by itself 40 seconds after it was loaded
 unfoldable pub style_text : List ℕ
-style_text = codes "body{font-family:Arial,Helvetica,sans-serif;margin:1rem auto;max-width:70rem;padding:0 1rem;color:#1a1a1a;background:#fff}h1{padding:.6rem .8rem;border:3px solid;font-size:1.4rem}.alarm h1{color:#b00020;background:#fde3e3}.warning h1{color:#7a4a00;background:#fff3d6}.fine h1{color:#115c2d;background:#e2f4e8}.banner{padding:.5rem .8rem;border:2px dashed #b00020;color:#b00020;font-weight:bold}.later{visibility:hidden;animation:later 0s 40s forwards}@keyframes later{to{visibility:visible}}.wide{overflow-x:auto}table{border-collapse:collapse}th,td{border:1px solid #888;padding:.25rem .5rem;text-align:left}code{overflow-wrap:anywhere}@media(prefers-color-scheme:dark){body{color:#eee;background:#16181c}a{color:#8ab4f8}.alarm h1{color:#ff9aa6;background:#3d1218}.warning h1{color:#ffcf70;background:#382a0c}.fine h1{color:#8fe0ab;background:#10301c}.banner{color:#ff9aa6;border-color:#ff9aa6}}"
+style_text = codes ":root{color-scheme:light dark}body{font-family:Arial,Helvetica,sans-serif;margin:1rem auto;max-width:70rem;padding:0 1rem;color:#1a1a1a;background:#fff}h1{padding:.6rem .8rem;border:3px solid;font-size:1.4rem}.alarm h1{color:#b00020;background:#fde3e3}.warning h1{color:#7a4a00;background:#fff3d6}.fine h1{color:#115c2d;background:#e2f4e8}.banner{padding:.5rem .8rem;border:2px dashed #b00020;color:#b00020;font-weight:bold}.later{visibility:hidden;animation:later 0s 40s forwards}@keyframes later{to{visibility:visible}}.wide{overflow-x:auto}table{border-collapse:collapse}th,td{border:1px solid #888;padding:.25rem .5rem;text-align:left}code{overflow-wrap:anywhere}@media(prefers-color-scheme:dark){body{color:#eee;background:#16181c}a{color:#8ab4f8}.alarm h1{color:#ff9aa6;background:#3d1218}.warning h1{color:#ffcf70;background:#382a0c}.fine h1{color:#8fe0ab;background:#10301c}.banner{color:#ff9aa6;border-color:#ff9aa6}}"
 
 unfoldable pub title_text : Standing → (k m : ℕ) → (is_still : Bool) → List ℕ
 title_text standing k m is_still =
@@ -70,6 +70,11 @@ first_text standing k m time round =
     codes "<h1>" ++ state_text standing k m ++ codes "</h1>\n<p>" ++ advice_text standing ++ codes "</p>\n<p>Round " ++ decimal round ++ codes ", " ++ time
     ++ codes "; " ++ share_text k m ++ codes " sources answer.</p>\n"
 
+-- the picture, where there is one, in a box that scrolls; what it shows stands in words beside it
+unfoldable pub picture_text : (is_there : Bool) → List ℕ
+picture_text false = codes ""
+picture_text true = codes "<h2>Picture</h2>\n<p>Blocks of the latest views for which a replica voted, the last commits, and what stands around a conflict and the votes of culprits. <a href=\"/fork.svg\">The picture alone</a></p>\n<div class=\"wide\"><img src=\"/fork.svg\" alt=\"The blocks in columns by their views, each with what is proved of it and a line to its parent; below them each culprit with its two votes. The conflict and the culprits stand in words on this page.\"></div>\n"
+
 unfoldable pub sources_text : (every top second : ℕ) → List SourceSeen → List ℕ
 sources_text every top second sources =
     codes "<h2>Sources</h2>\n<div class=\"wide\"><table>\n<tr><th>Source</th><th>Replica</th><th></th><th>Log</th><th>Entries</th><th>Behind by</th><th>Last answer</th><th>Last frame</th></tr>\n"
@@ -88,7 +93,7 @@ foot_text chain =
 
 unfoldable pub body_text : Snapshot → (second : ℕ) → (is_still : Bool) → (time : List ℕ) → List ℕ
 body_text s second is_still time =
-    culprits_text s (answering_of s second) (length s.sources.items) time ++ commits_text s.commit_count s.commits.items s.conflict
+    culprits_text s (answering_of s second) (length s.sources.items) time ++ picture_text (is_some s.picture) ++ commits_text s.commit_count s.commits.items s.conflict
     ++ sources_text s.every (top_of s.sources.items) second s.sources.items ++ links_text is_still ++ foot_text s.chain
 
 unfoldable pub front_text : Snapshot → (second : ℕ) → (is_still : Bool) → (time : List ℕ) → List ℕ

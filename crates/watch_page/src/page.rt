@@ -1,7 +1,7 @@
 //! The page of a watch.
 
 ghost use Rattle.std.specs.Prelude.{◌≡◌, ◌++◌, IfOk, OnOk};
-ghost use Rattle.watch_page.specs.Pages.{IsPage, banner_text, body_text, commits_text, culprits_text, first_text, foot_text, found_text, front_text, kept_line, kept_text, links_text, looks_text, none_text, page_text, reload_text, sources_text, style_text, title_text};
+ghost use Rattle.watch_page.specs.Pages.{IsPage, banner_text, body_text, commits_text, culprits_text, first_text, foot_text, found_text, front_text, kept_line, kept_text, links_text, looks_text, none_text, page_text, picture_text, reload_text, sources_text, style_text, title_text};
 
 use crate::rows::{put_commits, put_conflict, put_culprits, put_sources};
 use crate::words::{Level, level_of, put_advice, put_class, put_icon, put_share, put_state};
@@ -33,7 +33,7 @@ fn put_style(text: &mut Vec<u8>) -> Result<(), AllocError>
 {
     append(
         text,
-        b"body{font-family:Arial,Helvetica,sans-serif;margin:1rem auto;max-width:70rem;padding:0 1rem;color:#1a1a1a;background:#fff}h1{padding:.6rem .8rem;border:3px solid;font-size:1.4rem}.alarm h1{color:#b00020;background:#fde3e3}.warning h1{color:#7a4a00;background:#fff3d6}.fine h1{color:#115c2d;background:#e2f4e8}.banner{padding:.5rem .8rem;border:2px dashed #b00020;color:#b00020;font-weight:bold}.later{visibility:hidden;animation:later 0s 40s forwards}@keyframes later{to{visibility:visible}}.wide{overflow-x:auto}table{border-collapse:collapse}th,td{border:1px solid #888;padding:.25rem .5rem;text-align:left}code{overflow-wrap:anywhere}@media(prefers-color-scheme:dark){body{color:#eee;background:#16181c}a{color:#8ab4f8}.alarm h1{color:#ff9aa6;background:#3d1218}.warning h1{color:#ffcf70;background:#382a0c}.fine h1{color:#8fe0ab;background:#10301c}.banner{color:#ff9aa6;border-color:#ff9aa6}}",
+        b":root{color-scheme:light dark}body{font-family:Arial,Helvetica,sans-serif;margin:1rem auto;max-width:70rem;padding:0 1rem;color:#1a1a1a;background:#fff}h1{padding:.6rem .8rem;border:3px solid;font-size:1.4rem}.alarm h1{color:#b00020;background:#fde3e3}.warning h1{color:#7a4a00;background:#fff3d6}.fine h1{color:#115c2d;background:#e2f4e8}.banner{padding:.5rem .8rem;border:2px dashed #b00020;color:#b00020;font-weight:bold}.later{visibility:hidden;animation:later 0s 40s forwards}@keyframes later{to{visibility:visible}}.wide{overflow-x:auto}table{border-collapse:collapse}th,td{border:1px solid #888;padding:.25rem .5rem;text-align:left}code{overflow-wrap:anywhere}@media(prefers-color-scheme:dark){body{color:#eee;background:#16181c}a{color:#8ab4f8}.alarm h1{color:#ff9aa6;background:#3d1218}.warning h1{color:#ffcf70;background:#382a0c}.fine h1{color:#8fe0ab;background:#10301c}.banner{color:#ff9aa6;border-color:#ff9aa6}}",
     )
 }
 
@@ -142,6 +142,20 @@ fn put_all_culprits(
         return put_none(text, k, m, time);
     }
     put_found(text, &seen.culprits)
+}
+
+// The picture, where there is one.
+#[tactic(auto, unfolding(crate::specs::Pages::picture_text))]
+fn put_picture(text: &mut Vec<u8>, is_there: bool) -> Result<(), AllocError>
+    ensures { OnOk result (text.new.items ≡ text.old.items ++ picture_text is_there) }
+{
+    if !is_there {
+        return append(text, b"");
+    }
+    append(
+        text,
+        b"<h2>Picture</h2>\n<p>Blocks of the latest views for which a replica voted, the last commits, and what stands around a conflict and the votes of culprits. <a href=\"/fork.svg\">The picture alone</a></p>\n<div class=\"wide\"><img src=\"/fork.svg\" alt=\"The blocks in columns by their views, each with what is proved of it and a line to its parent; below them each culprit with its two votes. The conflict and the culprits stand in words on this page.\"></div>\n",
+    )
 }
 
 fn put_first(
@@ -274,6 +288,7 @@ fn put_body(
 {
     let k = seen.answering(second);
     put_all_culprits(text, seen, k, seen.sources.len(), time)?;
+    put_picture(text, seen.picture.is_some())?;
     put_all_commits(text, seen.commit_count, &seen.commits, &seen.conflict)?;
     put_all_sources(text, seen.every, seen.top_view(), second, &seen.sources)?;
     put_links(text, is_still)?;

@@ -1,5 +1,5 @@
 -- What is answered to a request.
-use Rattle.std.specs.Prelude.{◌≡◌, ◌⊎◌, ℕ, true, false, List, Option, Some, None, String, codes}
+use Rattle.std.specs.Prelude.{◌≡◌, ◌⊎◌, ℕ, true, false, List, Option, Some, None, String, codes, string_bytes}
 use Rattle.std.specs.List.{find}
 use Rattle.std.specs.Str.{bytes_eq}
 use Rattle.std.specs.declared.alloc.Global.{Global}
@@ -17,7 +17,7 @@ use Rattle.watch_snapshot.specs.declared.snapshot.Snapshot.{Snapshot}
 use Rattle.watch_service.specs.Places.{place_in, verdict_path}
 use Rattle.watch_service.specs.Replies.{IsTold, health_status, health_text}
 use Rattle.watch_service.specs.declared.place.Place.{Place}
-use Rattle.watch_service.specs.declared.place.Place.TheVariants.{Page, Still, Report, Metrics, Health, Other, Nowhere}
+use Rattle.watch_service.specs.declared.place.Place.TheVariants.{Page, Still, Picture, Report, Metrics, Health, Other, Nowhere}
 use Rattle.watch_service.specs.declared.writing.Kind.TheVariants as kind
 
 -- the first culprit whose verdict is at this path
@@ -32,6 +32,11 @@ abbrev pub IsVerdictTold : Option Culprit → Response → Type 0
 IsVerdictTold (Some c) response = IsTold 200 kind.Verdict c.verdict.items response
 IsVerdictTold None response = IsNowhereTold response
 
+-- the picture, where there is one
+abbrev pub IsPictureTold : Option (String Global) → Response → Type 0
+IsPictureTold (Some text) response = IsTold 200 kind.Picture (string_bytes text) response
+IsPictureTold None response = IsNowhereTold response
+
 -- the page, one that reloads or one that stays
 abbrev pub IsPageTold : Snapshot → (second : ℕ) → Place → Response → Type 0
 IsPageTold s second Page response = (text : List ℕ) × IsPage s second false text × IsTold 200 kind.Html text response
@@ -41,6 +46,7 @@ IsPageTold s second _ response = (text : List ℕ) × IsPage s second true text 
 abbrev pub IsPlaceTold : Snapshot → (second : ℕ) → (path : List ℕ) → Place → Response → Type 0
 IsPlaceTold s second path Page response = IsPageTold s second Page response
 IsPlaceTold s second path Still response = IsPageTold s second Still response
+IsPlaceTold s second path Picture response = IsPictureTold s.picture response
 IsPlaceTold s second path Health response = IsTold (health_status s second) kind.Text (health_text s second) response
 IsPlaceTold s second path Metrics response = IsTold 200 kind.Metrics (metrics_text s) response
 IsPlaceTold s second path Report response = IsTold 200 kind.Json (report_text s) response

@@ -5,7 +5,7 @@ use Rattle.http_uri.specs.Uri.{uri_authority, uri_path, uri_query, uri_scheme}
 use Rattle.http.specs.declared.request.Request.{Request}
 use Rattle.http.specs.Request.{head_of}
 use Rattle.watch_service.specs.declared.place.Place.{Place}
-use Rattle.watch_service.specs.declared.place.Place.TheVariants.{Page, Still, Report, Metrics, Health, Other, Nowhere}
+use Rattle.watch_service.specs.declared.place.Place.TheVariants.{Page, Still, Picture, Report, Metrics, Health, Other, Nowhere}
 
 -- a path with no query
 unfoldable pub path_place : List ℕ → Place
@@ -14,6 +14,7 @@ path_place path =
     else if bytes_eq path (codes "/health") then Health
     else if bytes_eq path (codes "/metrics") then Metrics
     else if bytes_eq path (codes "/report.json") then Report
+    else if bytes_eq path (codes "/fork.svg") then Picture
     else Other
 
 -- a path with a query: `/?still` alone is there

@@ -6,7 +6,7 @@ use Rattle.http_server.specs.Response.{IsResponse}
 use Rattle.watch_snapshot.specs.Times.{is_late}
 use Rattle.watch_snapshot.specs.declared.snapshot.Snapshot.{Snapshot}
 use Rattle.watch_service.specs.declared.writing.Kind.{Kind}
-use Rattle.watch_service.specs.declared.writing.Kind.TheVariants.{Text, Json, Metrics, Verdict, Html, Refused}
+use Rattle.watch_service.specs.declared.writing.Kind.TheVariants.{Text, Json, Metrics, Verdict, Html, Picture, Refused}
 
 abbrev pub type_text : Kind → List ℕ
 type_text Text = codes "text/plain; charset=utf-8"
@@ -14,13 +14,19 @@ type_text Json = codes "application/json"
 type_text Metrics = codes "text/plain; version=0.0.4; charset=utf-8"
 type_text Verdict = codes "application/octet-stream"
 type_text Html = codes "text/html; charset=utf-8"
+type_text Picture = codes "image/svg+xml"
 type_text Refused = codes "text/plain; charset=utf-8"
 
--- nothing is stored on the way, nothing is read as another type, and nothing runs or is fetched in a page but its own style and icon
-abbrev pub common_fields : List Header
-common_fields =
+-- nothing runs or is fetched in a page or a picture but its own style, and a page's icon and picture
+abbrev pub policy_text : Kind → List ℕ
+policy_text Picture = codes "default-src 'none'; style-src 'sha256-nv+mA1/+eDLQBvWnup7N70zAVvINwphGa2YpCorNbPE='; img-src 'self' data:; base-uri 'none'; form-action 'none'; frame-ancestors 'none'"
+policy_text _ = codes "default-src 'none'; style-src 'sha256-AOUb0+aR/aOeyqL1OuCfuZiMOZP3SZMLNUkcNunTkx4='; img-src 'self' data:; base-uri 'none'; form-action 'none'; frame-ancestors 'none'"
+
+-- nothing is stored on the way, and nothing is read as another type
+abbrev pub common_fields : Kind → List Header
+common_fields kind =
     (codes "cache-control", codes "no-store")
-    ∷ (codes "content-security-policy", codes "default-src 'none'; style-src 'sha256-hhnSe7Op4tbhiIUxPVudEHfax0d53dZ47L1SEfFJjSs='; img-src 'self' data:; base-uri 'none'; form-action 'none'; frame-ancestors 'none'")
+    ∷ (codes "content-security-policy", policy_text kind)
     ∷ (codes "x-content-type-options", codes "nosniff")
     ∷ (codes "referrer-policy", codes "no-referrer")
     ∷ (codes "connection", codes "close") ∷ []
@@ -32,7 +38,7 @@ own_fields Refused = (codes "allow", codes "GET, HEAD") ∷ []
 own_fields _ = []
 
 abbrev pub fields_of : Kind → List Header
-fields_of kind = (codes "content-type", type_text kind) ∷ common_fields ++ own_fields kind
+fields_of kind = (codes "content-type", type_text kind) ∷ common_fields kind ++ own_fields kind
 
 -- the response has this status, a body of this kind, and this body
 abbrev pub IsTold : ℕ → Kind → List ℕ → Response → Type 0

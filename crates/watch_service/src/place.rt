@@ -15,6 +15,8 @@ pub enum Place {
     Page,
     /// `/?still`: the page, which stays.
     Still,
+    /// `/fork.svg`
+    Picture,
     /// `/report.json`
     Report,
     /// `/metrics`
@@ -42,6 +44,9 @@ fn path_place(path: &[u8]) -> Place
     }
     if path == b"/report.json".as_slice() {
         return Place::Report;
+    }
+    if path == b"/fork.svg".as_slice() {
+        return Place::Picture;
     }
     Place::Other
 }

@@ -6,7 +6,7 @@ ghost use Rattle.std.specs.Str.{bytes_eq};
 ghost use Rattle.http_server.specs.Response.{IsBlank};
 ghost use Rattle.watch_report.specs.Metrics.{metrics_text};
 ghost use Rattle.watch_report.specs.Reports.{report_text};
-ghost use Rattle.watch_service.specs.Answers.{IsNowhereTold, IsPageTold, IsPlaceTold, IsVerdictTold, culprit_at};
+ghost use Rattle.watch_service.specs.Answers.{IsNowhereTold, IsPageTold, IsPictureTold, IsPlaceTold, IsVerdictTold, culprit_at};
 ghost use Rattle.watch_service.specs.Places.{verdict_path};
 ghost use Rattle.watch_service.specs.Replies.{IsTold, health_status, health_text};
 
@@ -109,6 +109,16 @@ fn tell_report(alloc: Global, response: &mut Response, seen: &Snapshot) -> Resul
     tell(response, StatusCode::OK, Kind::Json, &text)
 }
 
+fn tell_picture(response: &mut Response, picture: &Option<String>) -> Result<(), AllocError>
+    requires { IsBlank response.old }
+    ensures { OnOk result (IsPictureTold picture.now response.new) }
+{
+    match picture {
+        Some(text) => tell(response, StatusCode::OK, Kind::Picture, text.as_bytes()),
+        None => tell_nowhere(response),
+    }
+}
+
 fn tell_page(
     alloc: Global,
     response: &mut Response,
@@ -150,6 +160,7 @@ pub(crate) fn tell_place(
     match place {
         Place::Page => tell_page(alloc, response, seen, second),
         Place::Still => tell_still(alloc, response, seen, second),
+        Place::Picture => tell_picture(response, &seen.picture),
         Place::Health => tell_health(response, seen, second),
         Place::Metrics => tell_metrics(alloc, response, seen),
         Place::Report => tell_report(alloc, response, seen),

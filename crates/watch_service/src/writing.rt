@@ -2,7 +2,7 @@
 
 ghost use Rattle.std.specs.Prelude.{◌≡◌, ◌∷◌, [], OnOk, codes};
 ghost use Rattle.http_server.specs.Response.{IsBlank, IsResponse};
-ghost use Rattle.watch_service.specs.Replies.{IsTold, common_fields, fields_of, type_text};
+ghost use Rattle.watch_service.specs.Replies.{IsTold, common_fields, fields_of, policy_text, type_text};
 
 use bytes::BufMut;
 use http::StatusCode;
@@ -23,6 +23,8 @@ pub enum Kind {
     Verdict,
     /// A page.
     Html,
+    /// A picture.
+    Picture,
     /// A line that refuses a method.
     Refused,
 }
@@ -36,13 +38,29 @@ fn type_of(kind: Kind) -> HeaderValue
         Kind::Metrics => HeaderValue::from_static("text/plain; version=0.0.4; charset=utf-8"),
         Kind::Verdict => HeaderValue::from_static("application/octet-stream"),
         Kind::Html => HeaderValue::from_static("text/html; charset=utf-8"),
+        Kind::Picture => HeaderValue::from_static("image/svg+xml"),
+    }
+}
+
+// What a page or a picture may use: its style is told by its digest.
+fn policy_of(kind: Kind) -> HeaderValue
+    ensures { result.bytes ≡ policy_text kind }
+{
+    match kind {
+        Kind::Picture => HeaderValue::from_static(
+            "default-src 'none'; style-src 'sha256-nv+mA1/+eDLQBvWnup7N70zAVvINwphGa2YpCorNbPE='; img-src 'self' data:; base-uri 'none'; form-action 'none'; frame-ancestors 'none'",
+        ),
+        Kind::Text | Kind::Json | Kind::Metrics | Kind::Verdict | Kind::Html | Kind::Refused =>
+            HeaderValue::from_static(
+                "default-src 'none'; style-src 'sha256-AOUb0+aR/aOeyqL1OuCfuZiMOZP3SZMLNUkcNunTkx4='; img-src 'self' data:; base-uri 'none'; form-action 'none'; frame-ancestors 'none'",
+            ),
     }
 }
 
 // Adds what the responses of all kinds have.
 fn add_common(response: &mut Response, kind: Kind) -> Result<(), AllocError>
     requires { IsBlank response.old }
-    ensures { OnOk result (IsResponse 200 ((codes "content-type", type_text kind) ∷ common_fields)
+    ensures { OnOk result (IsResponse 200 ((codes "content-type", type_text kind) ∷ common_fields kind)
         [] response.new) }
 {
     response.add_header(HeaderName::from_static("content-type"), type_of(kind))?;
@@ -52,9 +70,7 @@ fn add_common(response: &mut Response, kind: Kind) -> Result<(), AllocError>
     )?;
     response.add_header(
         HeaderName::from_static("content-security-policy"),
-        HeaderValue::from_static(
-            "default-src 'none'; style-src 'sha256-hhnSe7Op4tbhiIUxPVudEHfax0d53dZ47L1SEfFJjSs='; img-src 'self' data:; base-uri 'none'; form-action 'none'; frame-ancestors 'none'",
-        ),
+        policy_of(kind),
     )?;
     response.add_header(
         HeaderName::from_static("x-content-type-options"),

@@ -77,6 +77,8 @@ pub struct Snapshot {
     pub weight: u64,
     /// How much all replicas count together.
     pub total: u64,
+    /// The picture of the last audit, as SVG; none before the first one.
+    pub picture: Option<String>,
 }
 
 fn larger(a: u64, b: u64) -> u64

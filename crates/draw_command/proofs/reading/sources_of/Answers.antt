@@ -2,7 +2,7 @@ use Rattle.std.proofs.Common.{◌<◌, length, arith}
 use Rattle.std.proofs.lemmas.List.Elements.{All-push}
 use Rattle.parallel_verify.specs.Collections.{MayBeTried}
 use Rattle.draw_command.proofs.Sources.{IsSourceOf}
-use Rattle.draw_command.proofs.Zips.{zip_more}
+use Rattle.fork_picture.proofs.Zips.{zip_more}
 use Rattle.draw_command.proofs.reading.sources_of.Goals as goal
 
 pub loop-word-preserved : goal.loop-word-preserved

@@ -2,7 +2,8 @@ use Rattle.std.proofs.Common.{◌<◌, ℕ, List, String, length, get_or, string
 use Rattle.std.proofs.lemmas.List.{get_or_read}
 use Rattle.std.specs.declared.alloc.Global.{Global}
 use Rattle.draw_command.specs.Words.{IsSource, SpellsFile, SpellsNoFile}
-use Rattle.draw_command.proofs.Zips.{partners_before, zip_more}
+use Rattle.draw_command.proofs.Zips.{partners_before}
+use Rattle.fork_picture.proofs.Zips.{zip_more}
 use Rattle.draw_command.proofs.words.read_sources.Goals as goal
 
 pub returns-in-None-clause-refused : goal.returns-in-None-clause-refused

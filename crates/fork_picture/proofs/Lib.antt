@@ -1,0 +1,4 @@
+pub mod Zips
+mod Picking
+mod Copies
+mod Series

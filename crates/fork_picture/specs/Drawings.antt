@@ -1,0 +1,42 @@
+-- What is drawn of evidence and its audit.
+use Rattle.std.specs.Prelude.{◌≡◌, ℕ, List, [], IsPermutation, map}
+use Rattle.std.specs.List.{All, AllZip}
+use Rattle.blocks.specs.Headers.{Header}
+use Rattle.evidence.specs.Evidence.{Evidence}
+use Rattle.culprit_search.specs.Reports.{Report}
+use Rattle.fork_picture.specs.Choices.{AreOfAudit, AreRecent}
+use Rattle.fork_picture.specs.Findings.{findings_of}
+use Rattle.fork_picture.specs.Lanes.{IsCulpritOf}
+use Rattle.fork_picture.specs.Pictures.{Drawn, IsPicture}
+use Rattle.fork_picture.specs.Standings.{IsJudged}
+use Rattle.fork_picture.specs.declared.scene.Block.{Block}
+
+-- with what is proved of it, and who voted for it
+abbrev pub IsJudgedBlock : Evidence → Report → Block → Type 0
+IsJudgedBlock e r b = IsJudged e r b.header b.standing b.support
+
+-- the blocks that are chosen, each once and as what is proved of it; and the culprit of each verdict
+pub record IsDrawnOf (e : Evidence) (r : Report) (chosen : List Header) (drawn : Drawn) : Type 0 where
+  pub each : IsPermutation chosen (map (λ b. b.header) drawn.blocks)
+  pub judged : All (IsJudgedBlock e r) drawn.blocks
+  pub culprits : AllZip IsCulpritOf r.verdicts drawn.culprits
+
+-- .. of an audit, and the report of each source
+pub record IsDrawn (e : Evidence) (r : Report) (drawn : Drawn) : Type 0 where
+  pub chosen : List Header
+  pub are_chosen : AreOfAudit e chosen
+  pub of : IsDrawnOf e r chosen drawn
+  pub reports : drawn.reports ≡ e.sources
+
+-- .. of a watch, which tells of its sources elsewhere
+pub record IsRecent (e : Evidence) (r : Report) (drawn : Drawn) : Type 0 where
+  pub chosen : List Header
+  pub are_chosen : AreRecent e r chosen
+  pub of : IsDrawnOf e r chosen drawn
+  pub reports : drawn.reports ≡ []
+
+-- the picture of a watch
+pub record IsRecentPicture (e : Evidence) (r : Report) (text : List ℕ) : Type 0 where
+  pub drawn : Drawn
+  pub is_drawn : IsRecent e r drawn
+  pub picture : IsPicture (findings_of e.committee r) drawn text

@@ -1,0 +1,10 @@
+pub mod Digits
+pub mod Series
+pub mod Findings
+pub mod DrawnBlocks
+pub mod Lanes
+pub mod Sources
+pub mod Pictures
+pub mod Choices
+pub mod Standings
+pub mod Drawings

@@ -1,0 +1,38 @@
+-- The text of a picture.
+use Rattle.std.specs.Prelude.{◌≡◌, ◌++◌, ℕ, List, codes}
+use Rattle.evidence.specs.declared.source.SourceReport.{SourceReport}
+use Rattle.fork_picture.specs.Findings.{Findings, findings_text}
+use Rattle.fork_picture.specs.DrawnBlocks.{AreBlocks}
+use Rattle.fork_picture.specs.Lanes.{IsCulpritsText}
+use Rattle.fork_picture.specs.Sources.{AreSourceLines}
+use Rattle.fork_picture.specs.declared.scene.Block.{Block}
+use Rattle.fork_picture.specs.declared.scene.Culprit.{Culprit}
+use Rattle.fork_picture.specs.declared.scene.Scene.{Scene}
+
+abbrev pub front : List ℕ
+front = codes "<svg xmlns=\"http://www.w3.org/2000/svg\" "
+
+abbrev pub end : List ℕ
+end = codes "</svg>\n"
+
+-- what a picture draws beside its findings
+pub record Drawn : Type 0 where
+  pub blocks : List Block
+  pub culprits : List Culprit
+  pub reports : List SourceReport
+
+abbrev pub drawn_in : Scene → Drawn
+drawn_in scene = record { blocks = scene.blocks.items; culprits = scene.culprits.items; reports = scene.sources.items }
+
+-- an SVG document that says these findings and draws this; no clause says where
+pub record IsPicture (findings : Findings) (drawn : Drawn) (text : List ℕ) : Type 0 where
+  pub above : List ℕ
+  pub lines : List ℕ
+  pub blocks : List ℕ
+  pub are_blocks : AreBlocks findings.replicas findings.total drawn.blocks blocks
+  pub lanes : List ℕ
+  pub are_lanes : IsCulpritsText drawn.culprits lanes
+  pub legend : List ℕ
+  pub sources : List ℕ
+  pub are_sources : AreSourceLines drawn.reports sources
+  pub text_is : text ≡ front ++ above ++ findings_text findings ++ lines ++ blocks ++ lanes ++ legend ++ sources ++ end
