@@ -6,7 +6,7 @@ _wezhgula_options() {
         hs_check | 'hs_tool ') echo --help --version ;;
         hs_show) echo --committee --statement --explain --help --version ;;
         hs_signer) echo --listen --read --serve --successor --ask --sessions --furthest --host --group --while-input --verbose --help --version ;;
-        hs_watch) echo --every --reread --listen --host --state --keep-most --until-culprit --until-input-ends ;;
+        hs_watch) echo --every --reread --listen --host --state --keep-most --until-culprit --until-input-ends --export ;;
         hs_follow) echo --proof ;;
         'hs_tool keygen') echo --key --random --stdin ;;
         'hs_tool replica') echo --workers --serve --requests ;;

@@ -54,7 +54,7 @@ hs_check, hs_tool, hs_show, hs_draw, hs_signer, hs_watch, hs_follow | fault comm
 hs_follow | fault committee 8 OldKey K | Key K of the new committee is one of the old committee's keys: it would sign twice under one one-time key. | Have that replica make a new key in a new folder, and make the committee's file anew.\n\
 hs_tool audit, hs_draw, hs_watch, hs_follow | fault source I | The word of source I, counted from 0, is not R=file:PATH or R=tcp:ADDRESS. | Put that word right.\n\
 hs_tool audit, hs_draw, hs_watch, hs_follow | fault collision | Two different headers have one id: SHA-256 is broken, and no audit of these sources holds. | Keep all sources.\n\
-hs_watch | fault state | The folder of --state has logs of another chain, or logs and no file that says of which. | Name another folder, or the committee's own.\n\
+hs_watch | fault state | The folder of --state has logs of another chain, or logs and no file that says of which; or, with --export, nothing of that source. | Name another folder, or the committee's own; R-I is how the names of its files begin.\n\
 hs_tool replica, hs_signer | fault store 2 | The committee has no replica R, or a disk failed while a store was recovered. | Compare R and COMMITTEE, and look at the disk: nothing is spent by trying again.\n\
 hs_tool migrate | fault store 2 | The disk failed. | Look at the disk.\n\
 hs_tool replica, hs_signer | fault store 3 | The keys of the folder are not those of replica R in their order, or log.hsj is no journal. | Compare R, COMMITTEE and DIR. Never rename seeds to make them fit.\n\
@@ -140,6 +140,7 @@ hs_tool keygen | key HEX | The public key, in 112 digits. | Tell the others its 
 hs_tool committee, hs_tool weighted | chain HEX | The chain id of the committee that was written. | Compare it with the other operators by telephone.\n\
 hs_tool migrate | migrated N | The log was carried over; it has N entries. | Put NEW in the place of log.hsj, as hs_tool-migrate(1) says.\n\
 hs_tool export | exported N | The export has N entries. | Give OUT to who audits.\n\
+hs_watch --export | exported LOG frames F | LOG is R-I-K: log K that was kept of source I of replica R is at OUT/R-I-K.hsl, and has F frames. | Audit it, or give it to who audits.\n\
 hs_tool audit | source I replica R Whole frames F entries E | The log of source I came whole: F frames, of which E are log entries. | Nothing.\n\
 hs_tool audit | source I replica R Cut frames F entries E | The log of source I ended early: what came was judged. | Get it again before you conclude anything.\n\
 hs_tool audit | source I replica R Broken frames F entries E | What source I gave is no export, or does not end as one: what came before was judged. | Get it again.\n\

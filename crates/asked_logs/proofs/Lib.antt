@@ -1,1 +1,2 @@
 mod Frames
+pub mod Asked

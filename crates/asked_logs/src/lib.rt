@@ -5,5 +5,5 @@
 mod enough;
 mod greatest;
 
-pub use enough::are_enough;
+pub use enough::{are_enough, can_be_enough};
 pub use greatest::greatest_certified;

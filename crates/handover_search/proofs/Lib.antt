@@ -1,3 +1,4 @@
 pub mod Best
 pub mod Highest
+pub mod Judged
 pub mod Lifted

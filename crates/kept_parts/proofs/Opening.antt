@@ -1,10 +1,10 @@
 -- A part that opens a log.
-use Rattle.std.specs.Prelude.{◌≡◌, ◌≢◌, ◌≤◌, ◌<◌, ◌∷◌, ℕ, List, [], length, take, slice_index_or, refl}
-use Rattle.std.proofs.Common.{◌⊎◌, arith, inl, inr, sym, ap, subst, ◌∙◌}
+use Rattle.std.specs.Prelude.{◌≡◌, ◌≢◌, ◌<◌, ◌∷◌, ℕ, List, [], length, take, slice_index_or, refl}
+use Rattle.std.proofs.Common.{arith, inl, inr, sym, ap, subst, ◌∙◌}
 use Rattle.std.specs.List.{All}
 use Rattle.std.proofs.lemmas.List.Elements.{All-get_or}
 use Rattle.kept_parts.specs.Digests.{log_digest}
-use Rattle.kept_parts.specs.Logs.{BeginsAs, HasFront, Opens, StandsBehind}
+use Rattle.kept_parts.specs.Logs.{HasFront, Opens, StandsBehind}
 use Rattle.kept_parts.specs.declared.name.PartName.{PartName}
 
 -- it stands behind some frames, and behind the beginning of no log

@@ -2,6 +2,7 @@
 
 ghost use Rattle.std.specs.List.{All};
 ghost use Rattle.std.specs.Prelude.{◌≡◌, ◌↔◌, IsTrue, ◌≤◌, ◌<◌, ◌++◌, ◌∷◌, [], ℕ, List, IfOk, MatchOption, OnOk, length, slice_index_or, slice_set, take};
+ghost use Rattle.source_reading.specs.Following.{BeginsWith};
 ghost use Rattle.kept_parts.specs.Digests.{log_digest};
 ghost use Rattle.kept_parts.specs.Logs.{BeginsAs, GoesOn, HasFront, IsFront, Opens, StandsBehind};
 
@@ -88,6 +89,13 @@ impl KeptLog {
         log_digest(&self.frames[..place]) == name.front
     }
 
+    // Whether these frames begin with all of it.
+    fn begins(&self, frames: &[FrameDigest]) -> bool
+        ensures { IsTrue result ↔ BeginsWith self.now frames.now }
+    {
+        frames.starts_with(&self.frames)
+    }
+
     // So many of its first frames.
     fn first(&self, count: usize) -> &[FrameDigest]
         requires { count ≤ length self.now }
@@ -104,6 +112,19 @@ fn first_with_front(logs: &[KeptLog], name: &PartName) -> Option<usize>
 {
     for (k, log) in logs.iter().enumerate() {
         if log.has_front(name) {
+            return Some(k);
+        }
+    }
+    None
+}
+
+// The first of the logs with all of which these frames begin.
+fn first_begun(logs: &[KeptLog], frames: &[FrameDigest]) -> Option<usize>
+    ensures { MatchOption result (All (λ log. BeginsWith log frames.now → ⊥) logs.now)
+        (λ k. (k < length logs.now) × BeginsWith (slice_index_or logs.now k []) frames.now) }
+{
+    for (k, log) in logs.iter().enumerate() {
+        if log.begins(frames) {
             return Some(k);
         }
     }
@@ -177,6 +198,14 @@ impl KeptLogs {
             Some(k) => Some(self.logs[k].first(usize::from(name.place))),
             None => None,
         }
+    }
+
+    /// The first log with all of which these frames begin: the source that has them lost nothing of that log.
+    pub fn begun(&self, frames: &[FrameDigest]) -> Option<usize>
+        ensures { MatchOption result (All (λ log. BeginsWith log frames.now → ⊥) self.now)
+            (λ k. (k < length self.now) × BeginsWith (slice_index_or self.now k []) frames.now) }
+    {
+        first_begun(&self.logs, frames)
     }
 
     /// Opens the next log, which begins with these frames.

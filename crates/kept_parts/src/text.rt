@@ -1,6 +1,7 @@
 //! The text of a part.
 
-ghost use Rattle.std.specs.Prelude.{◌≡◌, ◌<◌, ◌≤◌, ◌++◌, ◌∷◌, [], ℕ, List, IfOk, OnOk, length};
+ghost use Rattle.std.specs.Prelude.{◌≡◌, ◌<◌, ◌≤◌, ◌++◌, ◌∷◌, [], ℕ, List, IfOk, OnOk, codes, length};
+ghost use Rattle.std.specs.List.{flat_map};
 ghost use Rattle.log_format.specs.Exports.{frame_text, stream_text};
 ghost use Rattle.wire.specs.declared.limits.TheConstants.{LONGEST_PAYLOAD, MOST_ENTRIES};
 ghost use Rattle.kept_parts.specs.Texts.{HasFrames};
@@ -62,6 +63,15 @@ impl PartText {
         ensures { result ≡ self.now.count }
     {
         self.count
+    }
+
+    /// The text without an end mark, so that who reads it sees that more is missing.
+    pub fn cut(self) -> Vec<u8>
+        ensures { (frames : List (List ℕ)) → HasFrames frames self
+            → result.items ≡ codes "HSL1" ++ flat_map frame_text frames }
+    {
+        let PartText { text, .. } = self;
+        text
     }
 
     /// The whole text, with its end mark.

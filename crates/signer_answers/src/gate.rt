@@ -61,6 +61,8 @@ impl<N: DeskNaming, D: Disk> Gate<N, D> {
         requires committee { committee.now ≡ N.committee }
         requires replica { replica ≡ N.replica }
         ensures enough { IfOk result (λ is. IsTrue is ↔ AreEnough N.committee N.replica whole.now) }
+        ensures timed_out { IfOk result (λ is. IsTrue is
+            → IsTimedOut D.Disk N.committee N.replica N.opening greatest) }
         ensures refused { IfErr result (λ e. (e ≡ DeskError.Stopped)
             × SomeDesk (IsDeskOf D.Disk N.committee N.replica N.opening) (λ d. IsStopped d)) }
     {

@@ -53,7 +53,7 @@ pub(crate) fn forgets<N: DeskNaming, T: Wait, D: Disk>(
     }
 }
 
-// The log was put back: stops all callers, and has it put down where that is not done yet. Answers what the certificate is on.
+// The log was put back: has it put down where that is not done yet, and stops all callers. Answers what the certificate is on.
 pub(crate) fn stop<N: DeskNaming, T: Wait, D: Disk, K: Keeper>(
     rt: &T,
     desk: &Desk<N, D>,
@@ -67,8 +67,7 @@ pub(crate) fn stop<N: DeskNaming, T: Wait, D: Disk, K: Keeper>(
 {
     let certificate = block.certificate();
     let ballot = certificate.ballot();
-    if put_back.find(rt, ballot) {
-        keeper.keep(block.header(), certificate, desk.status(rt).entries);
-    }
+    let entries = desk.status(rt).entries;
+    put_back.find(rt, keeper, ballot, block.header(), certificate, entries);
     ballot
 }

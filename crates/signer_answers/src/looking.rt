@@ -102,7 +102,7 @@ fn shown_by<N: DeskNaming, T: Wait, D: Disk>(
     }
 }
 
-// The log was put back: stops all callers, and has it put down where that is not done yet. Answers what the vote is on.
+// The log was put back: has it put down where that is not done yet, and stops all callers. Answers what the vote is on.
 fn stop_for<N: DeskNaming, T: Wait, D: Disk, K: Keeper>(
     rt: &T,
     desk: &Desk<N, D>,
@@ -114,13 +114,15 @@ fn stop_for<N: DeskNaming, T: Wait, D: Disk, K: Keeper>(
     ensures { result ≡ ballot_of shown.now.vote }
 {
     let ballot = shown.vote.ballot();
-    if put_back.find(rt, ballot) {
-        keeper.keep(
-            shown.entry.block(),
-            shown.entry.certificate(),
-            desk.status(rt).entries,
-        );
-    }
+    let entries = desk.status(rt).entries;
+    put_back.find(
+        rt,
+        keeper,
+        ballot,
+        shown.entry.block(),
+        shown.entry.certificate(),
+        entries,
+    );
     ballot
 }
 

@@ -3,7 +3,9 @@
 ghost use Rattle.std.specs.Prelude.{◌≡◌, IfSome, None, Some};
 ghost use Rattle.signer_answers.specs.Guards.{WasPutBack};
 
-use blocks::Ballot;
+use crate::keeper::Keeper;
+use blocks::{Ballot, Header};
+use certificates::Certificate;
 use stable_log::Disk;
 use std::marker::{Model, PhantomData};
 use std::sync::{Mutex, Wait};
@@ -32,17 +34,26 @@ impl<N: DeskNaming, D: Disk> PutBack<N, D> {
         stop.ballot()
     }
 
-    // It was found. Answers whether for the first time.
-    pub(crate) fn find<R: Wait>(&self, rt: &R, ballot: Ballot) -> bool
+    // It was found, by this certificate, which came with the block of this header. Where it is for the first time the keeper
+    // puts it down, and only then it is told: the lock is held meanwhile, so whoever asks waits for that, and no caller is let
+    // past.
+    pub(crate) fn find<R: Wait, K: Keeper>(
+        &self,
+        rt: &R,
+        keeper: &K,
+        ballot: Ballot,
+        header: &Header,
+        certificate: &Certificate,
+        entries: usize,
+    )
         requires { WasPutBack D.Disk N.committee N.replica N.opening ballot }
     {
         let mut stop = self.stop.lock(rt);
         let stop = &mut *stop;
-        if stop.ballot().is_some() {
-            return false;
+        if stop.ballot().is_none() {
+            keeper.keep(header, certificate, entries);
+            stop.set(ballot);
         }
-        stop.set(ballot);
-        true
     }
 }
 

@@ -16,6 +16,7 @@ use crate::notes::Notes;
 use crate::socket_file::{Callers, SocketFault, listen_at};
 use crate::stay::{Room, Sockets, THREADS_BESIDE, stay_once};
 use crate::words::{Where, Words, read_words};
+use asked_logs::can_be_enough;
 use blocks::CommitteeView;
 use itoa::Buffer;
 use printed_lines::Line;
@@ -167,8 +168,9 @@ where
         Ok(committee) => committee,
         Err(fault) => return Err(fault),
     };
-    if !are_known(&words, &committee) {
-        return Err(Fault::Usage);
+    match see_sources(host.alloc, &words, &committee) {
+        Ok(()) => {}
+        Err(fault) => return Err(fault),
     }
     let notes = Notes::new(host.rt, host.alloc, notes, words.verbose);
     let closed = match stand_by(host, &words, &committee, &notes, input, out) {
@@ -185,6 +187,28 @@ where
 fn are_known(words: &Words<'_>, committee: &CommitteeView<'_>) -> bool {
     let n = committee.n();
     words.sources.iter().all(|source| source.replica < n)
+}
+
+// Sees that each source is of a replica of the committee, and that those that are asked, if any are, weigh enough together: else
+// no block would ever be taken.
+fn see_sources<'a>(
+    alloc: Global,
+    words: &Words<'_>,
+    committee: &CommitteeView<'_>,
+) -> Result<(), Fault<'a>>
+    ensures { IfErr result (λ fault. fault ≢ ProgramFault.Output) }
+{
+    if words.sources.is_empty() {
+        return Ok(());
+    }
+    let mut asked = Vec::new(alloc);
+    for source in &words.sources {
+        asked.push(source.replica)?;
+    }
+    if !are_known(words, committee) || !can_be_enough(committee, words.replica, &asked) {
+        return Err(Fault::Usage);
+    }
+    Ok(())
 }
 
 // What the words ask for, and the bytes of the committee's file.

@@ -1,3 +1,3 @@
-mod Digests
+pub mod Digests
 mod Came
 mod Placing

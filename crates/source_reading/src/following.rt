@@ -118,6 +118,13 @@ impl SourceLogs {
         self.present.len()
     }
 
+    /// The log that the source has now, as far as it was read.
+    pub fn present(&self) -> &[FrameDigest]
+        ensures { result.now ≡ self.now.present }
+    {
+        &self.present
+    }
+
     /// How many logs came.
     pub fn logs(&self) -> usize
         ensures { result ≡ length self.now.logs }

@@ -70,6 +70,36 @@ pub fn open_state<'f, 'a, F: Files<File = File>>(
     make_folder(files, path)?;
     let lock = lock_of(files, alloc, path)?;
     let is_ours = has_chain(files, alloc, path, chain)?;
+    let folder = with_parts(files, alloc, path, most)?;
+    if !is_ours {
+        folder.begin(chain)?;
+    }
+    Ok((folder, lock))
+}
+
+/// Opens a folder that is there, of whatever chain, to read its parts: it may get no more. What a kill left unfinished is
+/// removed. Until the file that is answered beside it is dropped it is locked.
+pub fn open_kept<'f, 'a, F: Files<File = File>>(
+    files: &'f F,
+    alloc: Global,
+    path: &'a str,
+) -> Result<(StateFolder<'f, 'a, F>, File), StateFault> {
+    match fs::metadata(files, path) {
+        Ok(found) if found.is_dir() => {}
+        Ok(_) => return Err(StateFault::Folder),
+        Err(error) => return Err(fault_of(&error, StateFault::Folder)),
+    }
+    let lock = lock_of(files, alloc, path)?;
+    Ok((with_parts(files, alloc, path, 0)?, lock))
+}
+
+// A folder and the parts that are there.
+fn with_parts<'f, 'a, F: Files<File = File>>(
+    files: &'f F,
+    alloc: Global,
+    path: &'a str,
+    most: u64,
+) -> Result<StateFolder<'f, 'a, F>, StateFault> {
     let mut folder = StateFolder {
         files,
         alloc,
@@ -79,10 +109,7 @@ pub fn open_state<'f, 'a, F: Files<File = File>>(
         parts: Vec::new(alloc),
     };
     folder.find_parts()?;
-    if !is_ours {
-        folder.begin(chain)?;
-    }
-    Ok((folder, lock))
+    Ok(folder)
 }
 
 // What a failed call of the system is.

@@ -5,5 +5,5 @@ mod folder;
 mod listing;
 mod storing;
 
-pub use folder::{StateFault, StateFolder, open_state};
+pub use folder::{StateFault, StateFolder, open_kept, open_state};
 pub use storing::store_new;

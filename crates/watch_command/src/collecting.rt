@@ -37,13 +37,34 @@ const MOST_BAD_VOTES: usize = 64;
 /// How long the collector waits for what comes, in milliseconds: then it looks whether the watch is to end.
 const PATIENCE_MILLISECONDS: u64 = 500;
 
-// What is known of a source beside its logs.
+// What is known of a log of a source.
+#[derive(Drop)]
+struct LogState {
+    // The collector's number for it.
+    number: usize,
+    // How it ended when that was told last.
+    told: Option<Status>,
+    // How many votes are not good of what was kept of it. They count once the source is found to give it still.
+    kept_bad: usize,
+}
+
+impl LogState {
+    // Nothing was told of it yet.
+    fn of(number: usize) -> LogState {
+        LogState {
+            number,
+            told: None,
+            kept_bad: 0,
+        }
+    }
+}
+
+// What is known of a source.
 #[derive(Drop)]
 struct SourceState {
-    // The collector's number for each of its logs, and how it ended when that was told last.
-    logs: Vec<(usize, Option<Status>)>,
+    logs: Vec<LogState>,
     bad: usize,
-    // The greatest view of its good votes.
+    // The greatest view of its votes that came in parts of which no vote is bad.
     top_view: u64,
     // How often it went back.
     times_back: u64,
@@ -120,7 +141,7 @@ impl<'c> Desk<'c> {
         for (i, target) in shop.targets.iter().enumerate() {
             replicas.push(target.replica)?;
             let mut logs = Vec::new(shop.alloc);
-            logs.push((i, None))?;
+            logs.push(LogState::of(i))?;
             sources.push(SourceState {
                 logs,
                 bad: 0,
@@ -204,8 +225,8 @@ impl<'c> Desk<'c> {
                 digest: state.digest,
                 times_back: state.times_back,
             };
-            for (number, told) in &state.logs {
-                seen.add(*told, self.collector.reports().get(*number));
+            for log in &state.logs {
+                seen.add(log.told, self.collector.reports().get(log.number));
             }
             show_source(shop, i, &seen);
         }
@@ -228,6 +249,11 @@ impl<'c> Desk<'c> {
                     state.times_back = state.times_back.saturating_add(1);
                 }
                 say_alarm(shop, stamp, b"went-back", source)?;
+                Ok(false)
+            }
+            Told::GivesKept(log) => {
+                let bad = self.take_kept_bad(source, log);
+                self.count_bad(shop, stamp, source, bad)?;
                 Ok(false)
             }
             Told::Beyond => {
@@ -270,13 +296,15 @@ impl<'c> Desk<'c> {
             Some(bad) => bad,
             None => return Ok(false),
         };
-        if !new.is_kept {
-            self.say_status(shop, stamp, source, new.log, number)?;
-        }
         if bad == 0 {
             self.note_views(source, new.part.votes());
         }
-        self.count_bad(shop, stamp, source, bad)?;
+        if new.is_kept {
+            self.note_kept_bad(source, new.log, bad);
+        } else {
+            self.say_status(shop, stamp, source, new.log, number)?;
+            self.count_bad(shop, stamp, source, bad)?;
+        }
         Ok(new.part.report().frames > 0)
     }
 
@@ -333,12 +361,12 @@ impl<'c> Desk<'c> {
         else {
             return Ok(0);
         };
-        if let Some((number, _)) = state.logs.get(log) {
-            return Ok(*number);
+        if let Some(known) = state.logs.get(log) {
+            return Ok(known.number);
         }
         let number = self.collector.logs();
         self.collector.also(target.replica)?;
-        state.logs.push((number, None))?;
+        state.logs.push(LogState::of(number))?;
         Ok(number)
     }
 
@@ -357,15 +385,35 @@ impl<'c> Desk<'c> {
         let Some(state) = self.sources.get_mut(source) else {
             return Ok(());
         };
-        if let Some((_, told)) = state.logs.get_mut(log)
-            && *told != Some(report.status)
+        if let Some(known) = state.logs.get_mut(log)
+            && known.told != Some(report.status)
         {
-            *told = Some(report.status);
+            known.told = Some(report.status);
             let mut line = Vec::new(shop.alloc);
             put_source(&mut line, stamp, source, report)?;
             shop.queue.say(shop.rt, line);
         }
         Ok(())
+    }
+
+    // So many votes are not good of what was kept of a log of a source.
+    fn note_kept_bad(&mut self, source: usize, log: usize, bad: usize) {
+        if let Some(state) = self.sources.get_mut(source)
+            && let Some(known) = state.logs.get_mut(log)
+        {
+            known.kept_bad = known.kept_bad.saturating_add(bad);
+        }
+    }
+
+    // How many votes are not good of what was kept of a log of a source. They are counted once.
+    fn take_kept_bad(&mut self, source: usize, log: usize) -> usize {
+        let Some(state) = self.sources.get_mut(source) else {
+            return 0;
+        };
+        match state.logs.get_mut(log) {
+            Some(known) => std::mem::replace(&mut known.kept_bad, 0),
+            None => 0,
+        }
     }
 
     // Counts bad votes of a source, and sets it aside where they are too many.

@@ -1,8 +1,8 @@
 //! Why a watch gives up, and the line that it prints then.
 
-ghost use Rattle.std.specs.Prelude.{◌≡◌, ◌≢◌};
+ghost use Rattle.std.specs.Prelude.{◌≡◌, ◌≢◌, []};
 ghost use Rattle.blocks.specs.Headers.{Header as HeaderValue};
-ghost use Rattle.watch_command.specs.FaultLines.{name_behind, own_line};
+ghost use Rattle.watch_command.specs.FaultLines.{log_behind, name_behind, own_line};
 
 use evidence::EvidenceRefusal;
 use itoa::Buffer;
@@ -20,7 +20,7 @@ pub enum WatchFault<'a> {
     Sources(SourceFault),
     /// This file of the folder at this path can't be made, read or locked.
     FileIn(&'a str, FolderFile),
-    /// The folder of what is kept is of another chain.
+    /// The folder of what is kept is of another chain, or has nothing of the source that is to be given out.
     State,
     /// The place for HTTP can't be listened at.
     Listen,
@@ -28,7 +28,7 @@ pub enum WatchFault<'a> {
     Threads,
 }
 
-/// A file of the folder of verdicts, or of that of what is kept.
+/// A file of the folder of verdicts, of that of what is kept, or of that of what is given out.
 #[derive(Clone, Copy, Debug, PartialEq, Eq)]
 pub enum FolderFile {
     /// Its lock.
@@ -37,6 +37,10 @@ pub enum FolderFile {
     Verdict(u16),
     /// What says of which chain the logs are that are kept.
     Chain,
+    /// What is given out of a log: the replica, which of its sources, and which log of that.
+    Export(u16, u16, u16),
+    /// The part of a log that stands behind so many frames: all but its end, which tells what those digest to.
+    Part(u16, u16, u16, u16),
 }
 
 impl FolderFile {
@@ -53,9 +57,31 @@ impl FolderFile {
                 name.push(Buffer::new().format(replica).as_bytes());
                 name.push(b".hsx");
             }
+            FolderFile::Export(replica, source, log) => {
+                push_log(&mut name, replica, source, log);
+                name.push(b".hsl");
+            }
+            FolderFile::Part(replica, source, log, place) => {
+                push_log(&mut name, replica, source, log);
+                name.push(b"-");
+                name.push(Buffer::new().format(place).as_bytes());
+            }
         }
         name
     }
+}
+
+// `/R-I-K`, of at most 18 bytes.
+fn push_log(name: &mut Line, replica: u16, source: u16, log: u16)
+    requires { name.old ≡ [] }
+    ensures { name.new ≡ log_behind replica source log }
+{
+    name.push(b"/");
+    name.push(Buffer::new().format(replica).as_bytes());
+    name.push(b"-");
+    name.push(Buffer::new().format(source).as_bytes());
+    name.push(b"-");
+    name.push(Buffer::new().format(log).as_bytes());
 }
 
 impl FaultLine for WatchFault<'_> {

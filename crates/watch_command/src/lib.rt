@@ -4,6 +4,7 @@
 
 mod collecting;
 mod draft;
+mod exporting;
 mod fault;
 mod following;
 mod link;

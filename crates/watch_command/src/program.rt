@@ -6,6 +6,7 @@ ghost use Rattle.watch_command.specs.Ends.{Fault as FaultValue};
 ghost use Rattle.watch_command.specs.FaultLines.{watch_fault_line};
 
 use crate::collecting::collect;
+use crate::exporting::give_out;
 use crate::fault::{Fault, FolderFile, WatchFault, fault_of_evidence};
 use crate::following::follow;
 use crate::patience::addresses_of;
@@ -14,7 +15,7 @@ use crate::serving::{Server, answer_all};
 use crate::shop::{Place, Shop, Target, answerers_of};
 use crate::showing::first_snapshot;
 use crate::verdict_files::VerdictFolder;
-use crate::words::{Words, read_words};
+use crate::words::{Task, Words, read_words};
 use blocks::CommitteeView;
 use program_parts::{
     Origin, ProgramFault, SourceFault, SourceWord, exit_status, parse_committee, read_committee,
@@ -57,8 +58,8 @@ enum Job {
     Answer,
 }
 
-/// Runs a watch as the words say, until what they say ends it, or until it is killed. Answers the exit status: 3 where there were
-/// culprits, else 0, and 2 at a fault, whose line then goes to `faults`.
+/// Runs a watch as the words say, until what they say ends it, or until it is killed; or gives out what one kept. Answers the
+/// exit status: 3 where there were culprits, else 0, and 2 at a fault, whose line then goes to `faults`.
 pub fn run_watch<
     'h,
     T: Files<File = File>
@@ -98,7 +99,11 @@ where
     T::Dir: Send,
     ensures { IfOk result (λ status. (status ≡ 0) ⊎ (status ≡ 3)) }
 {
-    let words = read_words(host.alloc, words)?;
+    let words = match read_words(host.alloc, words) {
+        Ok(Task::Watch(words)) => words,
+        Ok(Task::Export(words)) => return give_out(host, &words, out),
+        Err(fault) => return Err(fault),
+    };
     let bytes = read_committee(host.rt, host.alloc, words.committee)?;
     let committee = parse_committee(&bytes)?;
     let folder = VerdictFolder {
@@ -142,7 +147,7 @@ fn state_of<'a, 'h, T: Files<File = File>>(
     }
 }
 
-fn fault_of_state<'a>(path: &'a str, fault: StateFault) -> Fault<'a>
+pub(crate) fn fault_of_state<'a>(path: &'a str, fault: StateFault) -> Fault<'a>
     ensures { result ≢ ProgramFault.Output }
 {
     match fault {

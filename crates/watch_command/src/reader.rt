@@ -3,7 +3,7 @@
 use crate::draft::Draft;
 use crate::shop::{Delivery, NewPart, Shop, Target, Told};
 use evidence::EvidenceRefusal;
-use kept_parts::{LogDigest, NO_FRAMES, PartName, PartText, digest_then};
+use kept_parts::{KeptLogs, LogDigest, NO_FRAMES, PartName, PartText, digest_then};
 use log_format::{Frames, Status};
 use source_reading::{FrameDigest, SourceLogs, digest_of};
 use std::alloc::{AllocError, Global};
@@ -13,6 +13,17 @@ use std::sync::atomic::Ordering;
 use std::time::{Clock, Instant};
 use watch_service::seconds_now;
 use wire::MOST_ENTRIES;
+
+/// What all of a log is compared with, once it was read from the beginning.
+#[derive(Drop)]
+pub(crate) enum Compared {
+    /// Nothing.
+    Nothing,
+    /// What was read before, with which it is to begin.
+    Before,
+    /// The logs that were kept, at a start: it is to begin with one of them.
+    Kept(KeptLogs),
+}
 
 /// What was read of a source so far.
 #[derive(Drop)]
@@ -35,8 +46,8 @@ pub(crate) struct Reader {
     read_whole: Option<Instant>,
     // All of it is read anew, and no other source's.
     is_anew: bool,
-    // Once all of it was read, that is to begin with what was read before.
-    pub compares: bool,
+    // What all of it is compared with, once it was read.
+    pub compared: Compared,
     // Something of it could not be stored: no more of it is, so that what is stored has no gap.
     pub has_gap: bool,
 }
@@ -56,7 +67,7 @@ impl Reader {
             has_told_beyond: false,
             read_whole: None,
             is_anew: false,
-            compares: false,
+            compared: Compared::Nothing,
             has_gap: false,
         })
     }
@@ -89,7 +100,7 @@ impl Reader {
         };
         if elapsed.as_secs() >= shop.words.reread && !shop.reads_anew.swap(true, Ordering::SeqCst) {
             self.is_anew = true;
-            self.compares = true;
+            self.compared = Compared::Before;
             self.read_whole = None;
             self.restart()?;
         }
@@ -104,20 +115,29 @@ impl Reader {
         }
     }
 
-    /// All that is there was read. Where it is compared, and does not begin with what was read before, it went back.
+    /// All that is there was read, and is compared.
     pub fn end_round<T: Wait + Clock>(&mut self, shop: &Shop<'_, '_, '_, T>) {
         self.let_others_read_anew(shop);
         if self.status != Some(Status::Whole) {
             return;
         }
-        if self.compares {
-            self.compares = false;
-            if !self.logs.keeps() {
-                self.tell(shop, Told::WentBack);
-            }
-        }
+        self.compare(shop);
         if self.read_whole.is_none() {
             self.read_whole = Instant::now(shop.rt).ok();
+        }
+    }
+
+    // Where it does not begin with what it is compared with, it went back.
+    fn compare<T: Wait + Clock>(&mut self, shop: &Shop<'_, '_, '_, T>) {
+        let given = match std::mem::replace(&mut self.compared, Compared::Nothing) {
+            Compared::Nothing => return,
+            Compared::Before if self.logs.keeps() => return,
+            Compared::Before => None,
+            Compared::Kept(kept) => kept.begun(self.logs.present()),
+        };
+        match given {
+            Some(log) => self.tell(shop, Told::GivesKept(log)),
+            None => self.tell(shop, Told::WentBack),
         }
     }
 
@@ -137,7 +157,7 @@ impl Reader {
             self.finish(shop, draft, status)?;
             return Ok(false);
         }
-        self.compares = false;
+        self.compared = Compared::Nothing;
         self.tell(shop, Told::WentBack);
         self.restart()?;
         Ok(true)

@@ -1,7 +1,7 @@
 //! What is kept of a source, read again at the start.
 
 use crate::draft::Draft;
-use crate::reader::Reader;
+use crate::reader::{Compared, Reader};
 use crate::shop::{Shop, Told};
 use evidence::EvidenceRefusal;
 use kept_parts::{KeptLogs, PartName, digest_then};
@@ -15,8 +15,8 @@ use std::time::Clock;
 use wire::MOST_ENTRIES;
 
 impl Reader {
-    /// Reads what is kept of it, and hands it over. Then its log is read from the beginning, and compared with the last of those
-    /// that are kept.
+    /// Reads what is kept of it, and hands it over. Then its log is read from the beginning, and compared with those that are
+    /// kept. Which of them it had last is not kept.
     pub fn restore<T: Files<File = File> + Wait + Clock>(
         &mut self,
         shop: &Shop<'_, '_, '_, T>,
@@ -41,7 +41,9 @@ impl Reader {
         if draft.frames() > 0 {
             self.hand_over(shop, draft, Status::Failed)?;
         }
-        self.compares = kept.len() > 0;
+        if kept.len() > 0 {
+            self.compared = Compared::Kept(kept);
+        }
         self.restart()?;
         Ok(())
     }

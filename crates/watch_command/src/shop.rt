@@ -46,6 +46,8 @@ pub(crate) enum Told<'c> {
     Part(NewPart<'c>),
     /// Its log went back.
     WentBack,
+    /// At a start: what it gives goes on with this log, which was kept.
+    GivesKept(usize),
     /// It gave one log too many.
     Beyond,
     /// What stands at this path, among what is kept, is no part of a log of it.

@@ -6,7 +6,7 @@ use crate::fault::{Fault, WatchFault};
 use clap::error::ErrorKind;
 use clap::{Arg, ArgAction, ArgMatches, Command as Grammar, Error};
 use printed_lines::number_in;
-use program_parts::{ProgramFault, SourceFault, SourceWord};
+use program_parts::{ProgramFault, SourceFault, SourceWord, number};
 use std::alloc::{AllocError, Global};
 
 /// How many sources a watch has at most.
@@ -47,9 +47,28 @@ pub(crate) struct Words<'a> {
     pub keep_most: u64,
 }
 
+/// Of which source what was kept is given out, and where.
+#[derive(Clone, Copy, Debug)]
+pub(crate) struct ExportWords<'a> {
+    pub replica: u16,
+    /// Which of the sources of that replica it is, from 0.
+    pub source: u16,
+    /// The folder that gets a file for each log.
+    pub folder: &'a str,
+    /// Where it was kept.
+    pub state: &'a str,
+}
+
+/// What there is to do.
+#[derive(Drop)]
+pub(crate) enum Task<'a> {
+    Watch(Words<'a>),
+    Export(ExportWords<'a>),
+}
+
 /// Reads the words, without the program's name. Refused as usage where they are not written as docs/hs_watch.md says, and else
 /// for the first source that is not.
-pub(crate) fn read_words<'a>(alloc: Global, words: &'a [String]) -> Result<Words<'a>, Fault<'a>>
+pub(crate) fn read_words<'a>(alloc: Global, words: &'a [String]) -> Result<Task<'a>, Fault<'a>>
     ensures refused { IfErr result (λ fault. fault ≢ ProgramFault.Output) }
 {
     // `clap` would pass over it.
@@ -57,7 +76,11 @@ pub(crate) fn read_words<'a>(alloc: Global, words: &'a [String]) -> Result<Words
         return Err(ProgramFault::Usage);
     }
     match parsed(alloc, words) {
-        Ok(matches) => given(alloc, &matches),
+        Ok(matches) if is_set(&matches, "export") => exported(&matches),
+        Ok(matches) => match given(alloc, &matches) {
+            Ok(words) => Ok(Task::Watch(words)),
+            Err(fault) => Err(fault),
+        },
         Err(error) if error.kind() == ErrorKind::OutOfMemory => Err(ProgramFault::Memory),
         Err(_) => Err(ProgramFault::Usage),
     }
@@ -89,12 +112,53 @@ fn with_switches<'a>(alloc: Global, grammar: Grammar<'a>) -> Result<Grammar<'a>,
         .arg(Arg::new(alloc, "DIR").long("state"))?
         .arg(Arg::new(alloc, "BYTES").long("keep-most"))?
         .arg(host)?
+        .arg(switch(alloc, "export"))?
         .arg(switch(alloc, "until-culprit"))?
         .arg(switch(alloc, "until-input-ends"))
 }
 
 fn switch<'a>(alloc: Global, name: &'a str) -> Arg<'a> {
     Arg::new(alloc, name).long(name).action(ArgAction::SetTrue)
+}
+
+// The options that go with `--state` alone where what was kept is given out.
+const NOT_OF_AN_EXPORT: [&str; 5] = ["SECONDS", "REREAD", "ADDRESS", "BYTES", "HOST"];
+
+// `R-I OUT`, with nothing beside them but where it was kept.
+fn exported<'a>(matches: &ArgMatches<'a>) -> Result<Task<'a>, Fault<'a>>
+    ensures refused { IfErr result (λ fault. fault ≢ ProgramFault.Output) }
+{
+    let (Some(source), Some(folder), Some(state)) = (
+        matches.get_str("COMMITTEE"),
+        matches.get_str("OUTDIR"),
+        matches.get_str("DIR"),
+    ) else {
+        return Err(ProgramFault::Usage);
+    };
+    let has_more = NOT_OF_AN_EXPORT
+        .iter()
+        .any(|name| matches.get_strs(name).is_some());
+    let is_watch = is_set(matches, "until-culprit") || is_set(matches, "until-input-ends");
+    if has_more || is_watch || !matches.get_strs("SOURCE").unwrap_or(&[]).is_empty() {
+        return Err(ProgramFault::Usage);
+    }
+    match source_in(source) {
+        Some((replica, source)) if !folder.is_empty() && !state.is_empty() => {
+            Ok(Task::Export(ExportWords {
+                replica,
+                source,
+                folder,
+                state,
+            }))
+        }
+        _ => Err(ProgramFault::Usage),
+    }
+}
+
+// `R-I`: a replica, and which of its sources.
+fn source_in(word: &str) -> Option<(u16, u16)> {
+    let (replica, source) = word.split_once('-')?;
+    Some((number(replica)?, number(source)?))
 }
 
 fn given<'a>(alloc: Global, matches: &ArgMatches<'a>) -> Result<Words<'a>, Fault<'a>>

@@ -2,7 +2,7 @@ use Rattle.std.proofs.Common.{List, sym, subst}
 use Rattle.std.specs.List.{All, Contains}
 use Rattle.blocks.specs.Headers.{Header}
 use Rattle.ancestry.specs.Known.{all_of}
-use Rattle.watch_command.proofs.Judged.{commits_of}
+use Rattle.handover_search.proofs.Judged.{commits_of}
 use Rattle.watch_command.proofs.next_committee.handover_in.Goals as goal
 
 pub first_handover-requires : goal.first_handover-requires
