@@ -1,5 +1,5 @@
 """What the trials of hs_watch share: servers that hand out given frames, honest or not, and watches over them."""
-import contextlib, os, shutil, socket, struct, subprocess, tempfile, threading, time
+import contextlib, http.client, os, shutil, socket, struct, subprocess, tempfile, threading, time
 
 HERE = os.path.dirname(os.path.abspath(__file__))
 TOP = os.path.dirname(os.path.dirname(HERE))
@@ -99,11 +99,16 @@ class Server:
 class Watch:
     """A watch over some servers: words are replicas beside servers, or as they are."""
 
-    def __init__(self, folder, sources, *words, every="0.1", committee=COMMITTEE):
+    def __init__(self, folder, sources, *words, every="0.1", committee=COMMITTEE, **environment):
         named = [f"{replica}=tcp:{server.address}" for replica, server in sources]
-        self.process = subprocess.Popen([WATCH, committee, folder, *named, *words, "--every", every], stdin=subprocess.PIPE, stdout=subprocess.PIPE, stderr=subprocess.PIPE, text=True)
+        pipes = {name: subprocess.PIPE for name in ("stdin", "stdout", "stderr")}
+        self.process = subprocess.Popen([WATCH, committee, folder, *named, *words, "--every", every], text=True, env={**os.environ, **environment}, **pipes)
         self.lines, self.begun = [], time.monotonic()
+        self.begin()
         threading.Thread(target=self.read, daemon=True).start()
+
+    def begin(self):
+        """What its first lines say."""
 
     def read(self):
         for line in self.process.stdout:
@@ -130,3 +135,23 @@ class Watch:
             raise Failed(f"it did not end within {seconds} s: {self.lines}")
         if ended != status:
             raise Failed(f"it ended with {ended}, not {status}: {self.lines}, {self.process.stderr.read()}")
+
+
+class Listening(Watch):
+    """A watch that is asked over HTTP, too."""
+
+    def __init__(self, folder, words, sources, **environment):
+        super().__init__(folder, sources, *words, "--until-input-ends", "--listen", "127.0.0.1:0", **environment)
+
+    def begin(self):
+        first = self.process.stdout.readline()
+        if not first.startswith("listening 127.0.0.1:"):
+            raise Failed(f"the first line is {first!r}")
+        self.port = int(first.rstrip("\n").rpartition(":")[2])
+
+    def ask(self, path):
+        """The status and the body of an answer."""
+        connection = http.client.HTTPConnection("127.0.0.1", self.port, timeout=20)
+        connection.request("GET", path)
+        answer = connection.getresponse()
+        return answer.status, answer.read()
