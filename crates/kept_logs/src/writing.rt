@@ -2,7 +2,7 @@
 
 ghost use Rattle.std.specs.Prelude.{◌≡◌, OnErr, OnOk};
 ghost use Rattle.streams.specs.Counting.{Counts};
-ghost use Rattle.streams.specs.Streams.{Wrote};
+ghost use Rattle.streams.specs.Streams.{Wrote, WrotePart};
 ghost use Rattle.log_export.specs.Sent.{cut_text};
 ghost use Rattle.kept_logs.specs.Kept.{HasPayloads, kept_text};
 
@@ -15,6 +15,8 @@ use streams::{Fault, Sink};
 fn write_frames<W: Sink>(log: &HeldLog, sink: &mut W) -> Result<(), Fault>
     requires { HasPayloads log.now }
     ensures ok { OnOk result (Wrote (W.text sink.old) (W.text sink.new) (cut_text log.now.frames)) }
+    ensures err { OnErr result (WrotePart (W.text sink.old) (W.text sink.new)
+        (cut_text log.now.frames)) }
     ensures counted { Counts (W.failed sink.old) (W.failed sink.new) result }
 {
     begin_export(sink)?;
@@ -31,6 +33,7 @@ fn write_frames<W: Sink>(log: &HeldLog, sink: &mut W) -> Result<(), Fault>
 pub fn write_kept<W: Sink>(log: &HeldLog, sink: &mut W) -> Result<(), Fault>
     requires { HasPayloads log.now }
     ensures ok { OnOk result (Wrote (W.text sink.old) (W.text sink.new) (kept_text log.now)) }
+    ensures err { OnErr result (WrotePart (W.text sink.old) (W.text sink.new) (kept_text log.now)) }
     ensures counted { Counts (W.failed sink.old) (W.failed sink.new) result }
 {
     write_frames(log, sink)?;

@@ -1,10 +1,10 @@
 //! Writes streams of frames.
 
-ghost use Rattle.std.specs.Prelude.{◌≡◌, ◌≤◌, OnOk, codes, length};
+ghost use Rattle.std.specs.Prelude.{◌≡◌, ◌≤◌, OnErr, OnOk, codes, length};
 ghost use Rattle.wire.specs.declared.limits.TheConstants.{LONGEST_PAYLOAD};
 ghost use Rattle.log_format.specs.Exports.{end_mark, frame_text};
 ghost use Rattle.streams.specs.Counting.{Counts};
-ghost use Rattle.streams.specs.Streams.{Wrote};
+ghost use Rattle.streams.specs.Streams.{Wrote, WrotePart};
 ghost use Rattle.log_export.specs.Sent.{sent_text};
 
 use crate::splitting::JournalFront;
@@ -13,6 +13,7 @@ use streams::{Fault, Sink, write_all};
 /// Begins a stream of frames. After a fault, of this call as of the others, a first part was written.
 pub fn begin_export<W: Sink>(sink: &mut W) -> Result<(), Fault>
     ensures ok { OnOk result (Wrote (W.text sink.old) (W.text sink.new) (codes "HSL1")) }
+    ensures err { OnErr result (WrotePart (W.text sink.old) (W.text sink.new) (codes "HSL1")) }
     ensures counted { Counts (W.failed sink.old) (W.failed sink.new) result }
 {
     write_all(sink, b"HSL1")
@@ -23,6 +24,8 @@ pub fn begin_export<W: Sink>(sink: &mut W) -> Result<(), Fault>
 pub fn send_frame<W: Sink>(sink: &mut W, payload: &[u8]) -> Result<(), Fault>
     requires { length payload.now ≤ LONGEST_PAYLOAD }
     ensures ok { OnOk result (Wrote (W.text sink.old) (W.text sink.new) (frame_text payload.now)) }
+    ensures err { OnErr result (WrotePart (W.text sink.old) (W.text sink.new)
+        (frame_text payload.now)) }
     ensures counted { Counts (W.failed sink.old) (W.failed sink.new) result }
 {
     write_all(sink, &(payload.len() as u32).to_be_bytes())?;
@@ -33,6 +36,7 @@ pub fn send_frame<W: Sink>(sink: &mut W, payload: &[u8]) -> Result<(), Fault>
 #[tactic(auto, using(streams::proofs::Writing::wrote_both), unfolding(log_format::specs::Exports::end_mark))]
 pub fn end_export<W: Sink>(sink: &mut W, count: u32) -> Result<(), Fault>
     ensures ok { OnOk result (Wrote (W.text sink.old) (W.text sink.new) (end_mark count)) }
+    ensures err { OnErr result (WrotePart (W.text sink.old) (W.text sink.new) (end_mark count)) }
     ensures counted { Counts (W.failed sink.old) (W.failed sink.new) result }
 {
     write_all(sink, &[0; 4])?;
@@ -43,6 +47,7 @@ pub fn end_export<W: Sink>(sink: &mut W, count: u32) -> Result<(), Fault>
 /// reader sees that more is missing.
 pub fn send_export<W: Sink>(front: &JournalFront, sink: &mut W) -> Result<(), Fault>
     ensures ok { OnOk result (Wrote (W.text sink.old) (W.text sink.new) (sent_text front.now)) }
+    ensures err { OnErr result (WrotePart (W.text sink.old) (W.text sink.new) (sent_text front.now)) }
     ensures counted { Counts (W.failed sink.old) (W.failed sink.new) result }
 {
     begin_export(sink)?;

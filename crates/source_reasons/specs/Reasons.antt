@@ -1,5 +1,6 @@
 -- Why a source is not sound, and the words that say so.
-use Rattle.std.specs.Prelude.{◌≡◌, ◌≢◌, ◌⊎◌, ◌-◌, ◌++◌, ℕ, List, Option, None, Some, codes, decimal, false, true}
+use Rattle.std.specs.Prelude.{◌≡◌, ◌≢◌, ◌⊎◌, ◌-◌, ◌++◌, ◌==◌, ℕ, Bool, List, Option, None, Some, codes, decimal, false, true, if◌then◌else◌}
+use Rattle.log_format.specs.declared.status.Status.{Status}
 use Rattle.log_format.specs.declared.status.Status.TheVariants.{Whole, Cut, Broken, TooLong, Failed}
 use Rattle.log_transfer.specs.declared.failure.Failure.{Failure}
 use Rattle.log_transfer.specs.declared.failure.Failure.TheVariants.{NoSuchFile, Folder, Unreadable, NoSuchHost, Refused, Reset, TimedOut}
@@ -9,7 +10,34 @@ use Rattle.source_reasons.specs.declared.reason.Reason.TheVariants.{Call, Early,
 use Rattle.source_reasons.specs.declared.reason.Stranger.{Stranger}
 use Rattle.source_reasons.specs.declared.reason.Stranger.TheVariants.{Unknown, Journal, Committee, Verdict, Seed}
 
--- it is the first reason that holds of a log of which this was found
+-- why a call failed, where it is known
+abbrev pub failure_or : Option Failure → Failure
+failure_or None = Unreadable
+failure_or (Some failure) = failure
+
+-- of a whole log the first reason that holds
+abbrev pub whole_reason : Judgement → Bool → Reason
+whole_reason j is_old =
+    if j.report.entries == j.report.frames then Votes j.votes j.good
+    else if is_old then Old
+    else Frames (j.report.frames - j.report.entries)
+
+-- of a log that ended so
+abbrev pub reason_by : Judgement → Option Failure → Stranger → Bool → Status → Reason
+reason_by j failure stranger is_old Failed = Call (failure_or failure)
+reason_by j failure stranger is_old Cut = Early
+reason_by j failure stranger is_old Broken = NoExport stranger
+reason_by j failure stranger is_old TooLong = NoExport stranger
+reason_by j failure stranger is_old Whole = whole_reason j is_old
+
+-- the first reason that holds of a log of which this was found, and none where it is sound
+abbrev pub why : Judgement → Option Failure → Stranger → Bool → Option Reason
+why j failure stranger is_old =
+    if j.sound then None else Some (reason_by j failure stranger is_old j.report.status)
+
+-- ---- whatever stands beside what was found
+
+-- it is the first reason that holds
 abbrev pub IsReasonOf : Judgement → Reason → Type 0
 IsReasonOf j (Call failure) = j.report.status ≡ Failed
 IsReasonOf j Early = j.report.status ≡ Cut

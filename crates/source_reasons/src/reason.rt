@@ -1,7 +1,7 @@
 //! Why a source is not sound.
 
 ghost use Rattle.std.specs.Prelude.{◌≡◌, IfOk, string_bytes};
-ghost use Rattle.source_reasons.specs.Reasons.{IsWhy, failure_text, reason_text, stranger_text};
+ghost use Rattle.source_reasons.specs.Reasons.{IsWhy, failure_text, reason_text, stranger_text, why};
 
 use held_logs::Judgement;
 use log_format::Status;
@@ -49,7 +49,8 @@ impl Reason {
         stranger: Stranger,
         is_old: bool,
     ) -> Option<Reason>
-        ensures { IsWhy judged.now result }
+        ensures exact { result ≡ why judged.now failure stranger is_old }
+        ensures holds { IsWhy judged.now result }
     {
         if judged.sound {
             return None;
