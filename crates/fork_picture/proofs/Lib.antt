@@ -1,3 +1,4 @@
+mod Ballots
 pub mod Zips
 mod Picking
 mod Copies

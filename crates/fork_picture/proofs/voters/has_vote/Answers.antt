@@ -2,7 +2,7 @@ use Rattle.std.proofs.Common.{List, ℕ, ◌∙◌, ap, rules}
 use Rattle.std.proofs.lemmas.Fn.{always_returns_same}
 use Rattle.blocks.specs.Headers.{Header}
 use Rattle.commit_search.specs.Commits.{has_vote}
-use Rattle.commit_search.proofs.Ballots.{ballot_of, finds_vote}
+use Rattle.fork_picture.proofs.Ballots.{ballot_of, finds_vote}
 use Rattle.fork_picture.proofs.voters.has_vote.Goals as goal
 
 pub returns : goal.returns
