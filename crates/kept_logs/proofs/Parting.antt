@@ -4,7 +4,7 @@ use Rattle.std.specs.Prelude.{codes}
 use Rattle.std.specs.List.{flat_map}
 use Rattle.std.proofs.Math.Seq.{take-length}
 use Rattle.streams.specs.Streams.{Wrote, WrotePart}
-use Rattle.log_format.specs.Exports.{asked_for, end_mark, export_text, frame_text, stream_text}
+use Rattle.log_format.specs.Exports.{end_mark, export_text, frame_text, stream_text}
 use Rattle.log_format.specs.declared.status.Status.{Status}
 use Rattle.log_format.specs.declared.status.Status.TheVariants.{Whole, Cut, Broken, TooLong, Failed}
 use Rattle.evidence.specs.Logs.{ReceivedLog}

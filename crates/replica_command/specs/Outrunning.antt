@@ -1,5 +1,5 @@
 -- Votes of a log under one-time keys that an index store did not reserve.
-use Rattle.std.specs.Prelude.{ℕ, ◌+◌, ◌*◌, ◌≤◌, List, IsSomeAnd}
+use Rattle.std.specs.Prelude.{◌≡◌, ℕ, ◌+◌, ◌*◌, ◌<◌, ◌≤◌, List, Some, IsSomeAnd, slice_get}
 use Rattle.wire.specs.Pieces.{number_at}
 use Rattle.certificates.specs.Votes.{IsGoodVote}
 use Rattle.certificates.specs.declared.vote.SignedVote.{SignedVote}
@@ -13,3 +13,12 @@ index_of v = INDICES * v.key + number_at 4 v.signature 0
 -- the entry has a vote of the replica that verifies, at an index that is not below the boundary
 abbrev pub Outruns : List ℕ → ℕ → ℕ → Entry → Type 0
 Outruns committee replica boundary e = IsSomeAnd (own_vote_of e replica) (λ v. (boundary ≤ index_of v) × IsGoodVote committee v)
+
+-- one of these entries does
+abbrev pub SomeOutruns : List ℕ → ℕ → ℕ → List Entry → Type 0
+SomeOutruns committee replica boundary entries = (k : ℕ) × IsSomeAnd (slice_get entries k) (Outruns committee replica boundary)
+
+-- none of the first so many of these entries does
+abbrev pub NoneOutruns : List ℕ → ℕ → ℕ → List Entry → ℕ → Type 0
+NoneOutruns committee replica boundary entries count =
+    (k : ℕ) (e : Entry) → k < count → slice_get entries k ≡ Some e → Outruns committee replica boundary e → ⊥

@@ -1,8 +1,7 @@
 //! A log that is newer than the index store beside it: put back, the store would give out one-time keys that signed already.
 
-ghost use Rattle.std.specs.Prelude.{◌≡◌, ◌≤◌, ◌↔◌, ◌<◌, IfOk, IsFalse, IsTrue, slice_get, Some, ℕ};
-ghost use Rattle.log_format.specs.EntryText.{Entry as EntryValue};
-ghost use Rattle.replica_command.specs.Outrunning.{index_of, Outruns};
+ghost use Rattle.std.specs.Prelude.{◌≡◌, ◌≤◌, ◌↔◌, IfOk, IfSome, IsTrue, false, length};
+ghost use Rattle.replica_command.specs.Outrunning.{index_of, NoneOutruns, Outruns, SomeOutruns};
 
 use blocks::CommitteeView;
 use certificates::{SignedVote, check_vote};
@@ -20,7 +19,11 @@ pub(crate) fn log_outruns<D: Disk>(
     replica: u16,
     boundary: u32,
 ) -> Result<bool, LogError>
-    ensures { (log.new.entries ≡ log.old.entries) × (log.new.steps ≡ log.old.steps)
+    ensures some { IfOk result (λ is. IsTrue is → IfSome (D.bytes log.old.disk) (λ _.
+        SomeOutruns committee.now replica boundary log.old.entries)) }
+    ensures none { IfOk result (λ is. is ≡ false → IfSome (D.bytes log.old.disk) (λ _.
+        NoneOutruns committee.now replica boundary log.old.entries (length log.old.steps))) }
+    ensures same { (log.new.entries ≡ log.old.entries) × (log.new.steps ≡ log.old.steps)
         × (log.new.stopped ≡ log.old.stopped) × (log.new.genesis ≡ log.old.genesis) }
 {
     for k in 0..log.count() {

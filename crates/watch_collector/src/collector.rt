@@ -1,6 +1,6 @@
 //! What came of logs so far.
 
-ghost use Rattle.std.specs.Prelude.{◌≡◌, ◌<◌, ◌++◌, ◌∷◌, [], ℕ, List, IfErr, IfOk, IsTrue, OnOk, length, map, slice_index_or};
+ghost use Rattle.std.specs.Prelude.{◌≡◌, ◌↔◌, ◌<◌, ◌++◌, ◌∷◌, [], ℕ, List, IfErr, IfOk, IsTrue, OnOk, length, map, slice_index_or};
 ghost use Rattle.std.specs.List.{Contains};
 ghost use Rattle.evidence.specs.Evidence.{IsEvidenceOf, IsEvidenceRefusal, IsHeaderInEvidence};
 ghost use Rattle.evidence.specs.Gathering.{Grows, IsGatheringRefusal};
@@ -79,8 +79,8 @@ impl<'a> Collector<'a> {
     /// Whether there is such a log, and this may be added to it: it is of the same replica, and both together are no more
     /// than a log has.
     pub fn takes(&self, log: usize, part: &Part) -> bool
-        ensures { IsTrue result → (log < length self.now.reports)
-            × MayFollow (slice_index_or self.now.reports log part.now.report) part.now.report }
+        ensures { IsTrue result ↔ ((log < length self.now.reports)
+            × MayFollow (slice_index_or self.now.reports log part.now.report) part.now.report) }
     {
         log < self.reports.len() && may_follow(&self.reports[log], &part.report)
     }

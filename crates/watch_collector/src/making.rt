@@ -1,6 +1,6 @@
 //! A part of a log, made of its frames.
 
-ghost use Rattle.std.specs.Prelude.{◌≡◌, ◌<◌, ◌+◌, ◌++◌, [], ◌∷◌, ℕ, List, IfErr, IfOk, OnOk};
+ghost use Rattle.std.specs.Prelude.{◌≡◌, ◌<◌, ◌≤◌, ◌+◌, ◌++◌, [], ◌∷◌, ℕ, List, IfErr, IfOk, IsTrue, OnOk};
 ghost use Rattle.evidence.specs.Evidence.{IsEvidenceRefusal};
 ghost use Rattle.wire.specs.declared.limits.TheConstants.{MOST_ENTRIES};
 ghost use Rattle.watch_collector.specs.Parts.{IsInFrames, IsMadeOf, IsPartOn, part_log};
@@ -97,7 +97,9 @@ impl<'a> PartMaker<'a> {
     }
 
     /// Whether the part is to end: it has 256 frames, or may have 1,024 votes.
-    pub fn is_full(&self) -> bool {
+    pub fn is_full(&self) -> bool
+        ensures { MOST_OF_A_PART ≤ self.now.frames → IsTrue result }
+    {
         self.frames >= MOST_OF_A_PART || self.bytes >= MOST_VOTES_OF_A_PART * SIGNATURE_LEN
     }
 

@@ -1,6 +1,6 @@
 //! Reports of logs of which more comes.
 
-ghost use Rattle.std.specs.Prelude.{◌≡◌, IfOk, IsTrue, map};
+ghost use Rattle.std.specs.Prelude.{◌≡◌, ◌↔◌, IfOk, IsTrue, map};
 ghost use Rattle.watch_collector.specs.Collectors.{MayFollow, report_then, unread_report};
 
 use evidence::SourceReport;
@@ -10,7 +10,7 @@ use wire::MOST_ENTRIES;
 
 /// Whether it may follow: it is of the same replica, and both together are no more than a log has.
 pub(crate) fn may_follow(before: &SourceReport, later: &SourceReport) -> bool
-    ensures { IsTrue result → MayFollow before.now later.now }
+    ensures { IsTrue result ↔ MayFollow before.now later.now }
 {
     if later.replica != before.replica {
         return false;

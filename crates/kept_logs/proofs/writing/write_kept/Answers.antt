@@ -1,8 +1,5 @@
-use Rattle.std.proofs.Common.{◌≡◌, List, ℕ, arith, subst, sym, rules}
-use Rattle.streams.specs.Streams.{Wrote, WrotePart}
-use Rattle.log_format.specs.Exports.{end_mark}
+use Rattle.std.proofs.Common.{rules}
 use Rattle.log_export.proofs.Parts.{on_err}
-use Rattle.kept_logs.specs.Kept.{kept_text}
 use Rattle.kept_logs.proofs.Parting.{kept_mark, kept_part}
 use Rattle.kept_logs.proofs.writing.write_kept.Goals as goal
 
