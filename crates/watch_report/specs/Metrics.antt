@@ -33,7 +33,7 @@ abbrev pub front_of : Family → List ℕ
 front_of WentBack = codes "# HELP hs_watch_source_went_back_total How often a source's log went back.\n# TYPE hs_watch_source_went_back_total counter\n"
 front_of SetAside = codes "# HELP hs_watch_source_set_aside Whether no more of a source is read.\n# TYPE hs_watch_source_set_aside gauge\n"
 front_of BadVotes = codes "# HELP hs_watch_source_bad_votes_total How many votes of a source are not good.\n# TYPE hs_watch_source_bad_votes_total counter\n"
-front_of TopView = codes "# HELP hs_watch_source_view The greatest view of the good votes of a source.\n# TYPE hs_watch_source_view gauge\n"
+front_of TopView = codes "# HELP hs_watch_source_view The greatest view of the votes of a source that came in parts of which no vote is bad.\n# TYPE hs_watch_source_view gauge\n"
 front_of LastAnswer = codes "# HELP hs_watch_source_last_answer_timestamp_seconds When a source last answered, or 0.\n# TYPE hs_watch_source_last_answer_timestamp_seconds gauge\n"
 front_of LastFrame = codes "# HELP hs_watch_source_last_frame_timestamp_seconds When a frame last came of a source, or 0.\n# TYPE hs_watch_source_last_frame_timestamp_seconds gauge\n"
 

@@ -19,7 +19,7 @@ pub enum Family {
     SetAside,
     /// How many of its votes are not good.
     BadVotes,
-    /// The greatest view of its good votes.
+    /// The greatest view of its votes that came in parts of which no vote is bad.
     TopView,
     /// When it last answered.
     LastAnswer,
@@ -39,7 +39,7 @@ impl Family {
             Family::BadVotes =>
                 b"# HELP hs_watch_source_bad_votes_total How many votes of a source are not good.\n# TYPE hs_watch_source_bad_votes_total counter\n",
             Family::TopView =>
-                b"# HELP hs_watch_source_view The greatest view of the good votes of a source.\n# TYPE hs_watch_source_view gauge\n",
+                b"# HELP hs_watch_source_view The greatest view of the votes of a source that came in parts of which no vote is bad.\n# TYPE hs_watch_source_view gauge\n",
             Family::LastAnswer =>
                 b"# HELP hs_watch_source_last_answer_timestamp_seconds When a source last answered, or 0.\n# TYPE hs_watch_source_last_answer_timestamp_seconds gauge\n",
             Family::LastFrame =>

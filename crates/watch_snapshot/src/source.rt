@@ -26,7 +26,7 @@ pub struct SourceSeen {
     pub entries: u64,
     /// How many of its votes are not good.
     pub bad_votes: u64,
-    /// The greatest view of its good votes.
+    /// The greatest view of its votes that came in parts of which no vote is bad.
     pub top_view: u64,
     /// What its first log's frames digest to: see docs/FORMATS.md.
     pub digest: Id,
@@ -76,7 +76,7 @@ impl SourceSeen {
         0 < self.bad_votes
     }
 
-    // The greatest view of its good votes, where more of it is read.
+    // The greatest view of its votes that came in parts of which no vote is bad, where more of it is read.
     pub(crate) fn view(&self) -> u64
         ensures { result ≡ view_of self.now }
     {
