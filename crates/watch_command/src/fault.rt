@@ -1,6 +1,6 @@
 //! Why a watch gives up, and the line that it prints then.
 
-ghost use Rattle.std.specs.Prelude.{◌≡◌, ◌≢◌, []};
+ghost use Rattle.std.specs.Prelude.{◌≡◌, ◌≢◌, ◌≤◌, [], length};
 ghost use Rattle.blocks.specs.Headers.{Header as HeaderValue};
 ghost use Rattle.watch_command.specs.FaultLines.{log_behind, name_behind, own_line};
 
@@ -74,7 +74,8 @@ impl FolderFile {
 // `/R-I-K`, of at most 18 bytes.
 fn push_log(name: &mut Line, replica: u16, source: u16, log: u16)
     requires { name.old ≡ [] }
-    ensures { name.new ≡ log_behind replica source log }
+    ensures value { name.new ≡ log_behind replica source log }
+    ensures short { length name.new ≤ 18 }
 {
     name.push(b"/");
     name.push(Buffer::new().format(replica).as_bytes());
