@@ -4,6 +4,9 @@ use Rattle.signer_command.proofs.program.run.Goals as goal
 pub returns-in-Err-clause-given_up : goal.returns-in-Err-clause-given_up
 returns-in-Err-clause-given_up g c = nothing_given_up _ _
 
+pub returns-in-Err-see_sources-clause-given_up : goal.returns-in-Err-see_sources-clause-given_up
+returns-in-Err-see_sources-clause-given_up g c = nothing_given_up _ _
+
 pub returns-in-Ok-print_count-clause-done : goal.returns-in-Ok-print_count-clause-done
 returns-in-Ok-print_count-clause-done g c = let stay = c.in-Ok-stand_by.ensures.done in record {
   places = stay.places;
