@@ -96,6 +96,13 @@ impl KeptLog {
         frames.starts_with(&self.frames)
     }
 
+    // Whether it begins with these frames.
+    fn holds(&self, frames: &[FrameDigest]) -> bool
+        ensures { IsTrue result ↔ BeginsWith frames.now self.now }
+    {
+        self.frames.starts_with(frames)
+    }
+
     // So many of its first frames.
     fn first(&self, count: usize) -> &[FrameDigest]
         requires { count ≤ length self.now }
@@ -125,6 +132,19 @@ fn first_begun(logs: &[KeptLog], frames: &[FrameDigest]) -> Option<usize>
 {
     for (k, log) in logs.iter().enumerate() {
         if log.begins(frames) {
+            return Some(k);
+        }
+    }
+    None
+}
+
+// The first of the logs that begin with these frames.
+fn first_holding(logs: &[KeptLog], frames: &[FrameDigest]) -> Option<usize>
+    ensures { MatchOption result (All (λ log. BeginsWith frames.now log → ⊥) logs.now)
+        (λ k. (k < length logs.now) × BeginsWith frames.now (slice_index_or logs.now k [])) }
+{
+    for (k, log) in logs.iter().enumerate() {
+        if log.holds(frames) {
             return Some(k);
         }
     }
@@ -206,6 +226,14 @@ impl KeptLogs {
             (λ k. (k < length self.now) × BeginsWith (slice_index_or self.now k []) frames.now) }
     {
         first_begun(&self.logs, frames)
+    }
+
+    /// The first log that begins with these frames.
+    pub fn holding(&self, frames: &[FrameDigest]) -> Option<usize>
+        ensures { MatchOption result (All (λ log. BeginsWith frames.now log → ⊥) self.now)
+            (λ k. (k < length self.now) × BeginsWith frames.now (slice_index_or self.now k [])) }
+    {
+        first_holding(&self.logs, frames)
     }
 
     /// Opens the next log, which begins with these frames.

@@ -15,14 +15,14 @@ use watch_service::seconds_now;
 use wire::MOST_ENTRIES;
 
 /// What all of a log is compared with, once it was read from the beginning.
-#[derive(Drop)]
+#[derive(Clone, Copy, Debug, PartialEq, Eq)]
 pub(crate) enum Compared {
     /// Nothing.
     Nothing,
     /// What was read before, with which it is to begin.
     Before,
     /// The logs that were kept, at a start: it is to begin with one of them.
-    Kept(KeptLogs),
+    Kept,
 }
 
 /// What was read of a source so far.
@@ -48,6 +48,10 @@ pub(crate) struct Reader {
     is_anew: bool,
     // What all of it is compared with, once it was read.
     pub compared: Compared,
+    // What was kept of it, at the start.
+    pub kept: KeptLogs,
+    // Of the logs that were kept the one that it was last found to give.
+    gives: Option<usize>,
     // Something of it could not be stored: no more of it is, so that what is stored has no gap.
     pub has_gap: bool,
 }
@@ -68,6 +72,8 @@ impl Reader {
             read_whole: None,
             is_anew: false,
             compared: Compared::Nothing,
+            kept: KeptLogs::new(alloc),
+            gives: None,
             has_gap: false,
         })
     }
@@ -129,15 +135,13 @@ impl Reader {
 
     // Where it does not begin with what it is compared with, it went back.
     fn compare<T: Wait + Clock>(&mut self, shop: &Shop<'_, '_, '_, T>) {
-        let given = match std::mem::replace(&mut self.compared, Compared::Nothing) {
-            Compared::Nothing => return,
-            Compared::Before if self.logs.keeps() => return,
-            Compared::Before => None,
-            Compared::Kept(kept) => kept.begun(self.logs.present()),
+        let has_lost = match std::mem::replace(&mut self.compared, Compared::Nothing) {
+            Compared::Nothing => false,
+            Compared::Before => !self.logs.keeps(),
+            Compared::Kept => self.kept.begun(self.logs.present()).is_none(),
         };
-        match given {
-            Some(log) => self.tell(shop, Told::GivesKept(log)),
-            None => self.tell(shop, Told::WentBack),
+        if has_lost {
+            self.tell(shop, Told::WentBack);
         }
     }
 
@@ -190,6 +194,7 @@ impl Reader {
         match self.logs.place(&digest)? {
             source_reading::Place::Known => {
                 self.front = digest_then(&self.front, &digest);
+                self.tell_kept(shop);
                 return Ok(true);
             }
             source_reading::Place::Beyond => {
@@ -287,6 +292,17 @@ impl Reader {
         }
         self.has_gap = true;
         Ok(Some(state.path_of(&name)?))
+    }
+
+    // Tells which of the logs that were kept it gives, where that is another one than it was.
+    fn tell_kept<T: Wait + Clock>(&mut self, shop: &Shop<'_, '_, '_, T>) {
+        let holding = self.kept.holding(self.logs.present());
+        if let Some(log) = holding
+            && holding != self.gives
+        {
+            self.gives = holding;
+            self.tell(shop, Told::GivesKept(log));
+        }
     }
 
     fn tell_beyond<T: Wait + Clock>(&mut self, shop: &Shop<'_, '_, '_, T>) {

@@ -42,8 +42,9 @@ impl Reader {
             self.hand_over(shop, draft, Status::Failed)?;
         }
         if kept.len() > 0 {
-            self.compared = Compared::Kept(kept);
+            self.compared = Compared::Kept;
         }
+        self.kept = kept;
         self.restart()?;
         Ok(())
     }
