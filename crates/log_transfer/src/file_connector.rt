@@ -54,7 +54,8 @@ fn failure_of<T>(outcome: &io::Result<T>) -> Option<Failure> {
 impl<'a, F: Files<File = File>> FileConnector<'a, F> {
     /// The file at this path, not opened yet, with no failure so far.
     pub fn new(files: &'a F, path: &'a str) -> FileConnector<'a, F>
-        ensures { result.failures ≡ 0 }
+        ensures path { result.path ≡ path.entry }
+        ensures failures { result.failures ≡ 0 }
     {
         FileConnector {
             files,

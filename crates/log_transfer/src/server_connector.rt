@@ -97,7 +97,8 @@ impl<S: Read + Write + Drop> Open<S> {
 impl<'a, R: Clock, D: Dial> ServerConnector<'a, R, D> {
     /// The server that a dialer reaches, not connected yet, with no failure so far.
     pub fn over(clock: &'a R, dialer: D) -> ServerConnector<'a, R, D>
-        ensures { result.failures ≡ 0 }
+        ensures dialer { result.dialer ≡ dialer }
+        ensures failures { result.failures ≡ 0 }
     {
         ServerConnector {
             clock,
@@ -113,7 +114,9 @@ impl<'a, R: Clock, D: Dial> ServerConnector<'a, R, D> {
     /// The same, which waits before its second connection so many seconds, and before its third three times as many: a
     /// server that just started, or that another client held, gets the time that it needs.
     pub fn with_pause(self, seconds: u64) -> ServerConnector<'a, R, D>
-        ensures { result.failures ≡ self.entry.failures }
+        ensures dialer { result.dialer ≡ self.entry.dialer }
+        ensures failures { result.failures ≡ self.entry.failures }
+        ensures pause { result.pause ≡ seconds }
     {
         ServerConnector {
             pause: seconds,

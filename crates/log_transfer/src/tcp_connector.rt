@@ -40,7 +40,9 @@ impl<'a, R: Net<Stream = TcpStream> + Clock> ServerConnector<'a, R, TcpDialer<'a
     /// The server at an address, such as `127.0.0.1:7000` or `replica-2:7000`, not connected yet, with no failure so
     /// far. Before a second connection it waits so many seconds, and before a third three times as many.
     pub fn new(net: &'a R, address: &'a str, pause: u64) -> TcpConnector<'a, R>
-        ensures { result.failures ≡ 0 }
+        ensures address { result.dialer.address ≡ address.entry }
+        ensures failures { result.failures ≡ 0 }
+        ensures pause { result.pause ≡ pause }
     {
         ServerConnector::over(net, TcpDialer { net, address }).with_pause(pause)
     }

@@ -23,7 +23,8 @@ pub struct Watched<'a, C: Connector, W: Watch> {
 impl<'a, C: Connector, W: Watch> Watched<'a, C, W> {
     /// This connector, of whose progress the watch is told as that of the source of this number.
     pub fn new(connector: C, watch: &'a W, source: usize) -> Watched<'a, C, W>
-        ensures { result.connector ≡ connector }
+        ensures connector { result.connector ≡ connector }
+        ensures source { result.source ≡ source }
     {
         Watched {
             connector,
