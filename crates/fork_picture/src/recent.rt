@@ -98,6 +98,8 @@ struct Window {
     marked: Vec<u64>,
     // The blocks that were voted for in these views, by rising view and id, each once.
     voted: Vec<(u64, Id)>,
+    // Where the last of the blocks stands that are drawn, if not all are.
+    last: Option<Rank>,
 }
 
 // The first of the latest views in which replicas voted.
@@ -139,6 +141,7 @@ impl Window {
             first: first_latest(alloc, evidence)?,
             marked: marked_views(alloc, evidence, named)?,
             voted: Vec::new(alloc),
+            last: None,
         };
         for vote in evidence.votes() {
             let vote = vote.get();
@@ -148,7 +151,26 @@ impl Window {
         }
         window.voted.sort_unstable();
         window.voted.dedup();
+        window.last = window.rank_of_last(alloc, evidence, named)?;
         Ok(window)
+    }
+
+    // Where the last block stands that is drawn of those that were voted for and the report does not name, if there are more. So
+    // nobody asks who voted for each of thousands of blocks that are not drawn.
+    fn rank_of_last(
+        &self,
+        alloc: Global,
+        evidence: &Evidence,
+        named: &Named,
+    ) -> Result<Option<Rank>, AllocError> {
+        let mut ranks = Vec::new(alloc);
+        for header in evidence.headers() {
+            if self.has(header) && !named.has(header) {
+                ranks.push(self.rank(header))?;
+            }
+        }
+        ranks.sort_unstable();
+        Ok(ranks.get(MOST_OTHERS.saturating_sub(1)).copied())
     }
 
     // How far a view is from the nearest one that is marked.
@@ -165,10 +187,11 @@ impl Window {
         self.first <= view || self.distance(view) <= AROUND
     }
 
-    // Whether the block was voted for in a view whose blocks are drawn.
+    // Whether the block was voted for in a view whose blocks are drawn, and stands early enough to be one of them.
     fn has(&self, header: &NamedHeader) -> bool {
         let ballot = (header.header().view, *header.id());
         self.voted.binary_search(&ballot).is_ok()
+            && self.last.is_none_or(|last| self.rank(header) <= last)
     }
 
     fn rank(&self, header: &NamedHeader) -> Rank {
@@ -208,14 +231,10 @@ fn other_blocks(
     Ok(others)
 }
 
-// The first of these blocks, in this order.
-fn first_of(window: &Window, mut others: Vec<NamedHeader>) -> Vec<NamedHeader>
+// So many of these blocks as are drawn at most.
+fn at_most(mut others: Vec<NamedHeader>) -> Vec<NamedHeader>
     ensures { AreChosen MOST_OTHERS others.items result.items }
 {
-    if others.len() <= MOST_OTHERS {
-        return others;
-    }
-    others.sort_unstable_by_key(|header| window.rank(header));
     others.truncate(MOST_OTHERS);
     others
 }
@@ -241,6 +260,6 @@ pub(crate) fn choose_recent(
     let window = Window::of(alloc, evidence, &named)?;
     let mut chosen = named_blocks(alloc, evidence, &named)?;
     let others = other_blocks(alloc, evidence, &named, &window)?;
-    chosen.extend_from_slice(&first_of(&window, others))?;
+    chosen.extend_from_slice(&at_most(others))?;
     Ok(chosen)
 }
