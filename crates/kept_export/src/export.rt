@@ -146,6 +146,7 @@ impl<F: Files<File = File>> Exporter<'_, '_, '_, F> {
 
     // Whether a part goes on where what is kept ends. Where it opens a log, the log before is written.
     fn begin<W: Sink>(&mut self, name: &PartName, out: &mut W) -> Result<bool, ExportFault> {
+        self.skip_to(name.log, out)?;
         let front = match self.kept.front(name) {
             None => return Ok(false),
             Some(_) if usize::from(name.log) < self.kept.len() => return Ok(true),
@@ -156,6 +157,16 @@ impl<F: Files<File = File>> Exporter<'_, '_, '_, F> {
         self.kept.begin(&front)?;
         self.text = Some(text);
         Ok(true)
+    }
+
+    // Passes over the logs before this one of which no part opens them: it is damaged, or lost. Nothing is written of them, and
+    // no log that was written begins as they do.
+    fn skip_to<W: Sink>(&mut self, log: u16, out: &mut W) -> Result<(), ExportFault> {
+        for _ in self.kept.len()..usize::from(log) {
+            self.write_log(out)?;
+            self.kept.begin(&[])?;
+        }
+        Ok(())
     }
 
     // Adds one more frame to the last log.
@@ -176,20 +187,21 @@ impl<F: Files<File = File>> Exporter<'_, '_, '_, F> {
         if front.is_empty() {
             return Ok(text);
         }
-        for log in 0..self.kept.len() {
-            let log = u16::try_from(log).unwrap_or(u16::MAX);
-            let path = self.path_of(log)?;
-            let bytes = match read_file(self.files, self.alloc, &path, MOST_OF_A_STREAM as u64) {
-                Ok(bytes) => bytes,
-                Err(InputFault::Memory) => return Err(ExportFault::Memory),
-                Err(InputFault::Unreadable) => return Err(ExportFault::Log(log)),
-            };
-            let frames = Frames::of(self.alloc, &bytes)?;
-            if begins_with(&frames, front) && text.add_first(&frames, front.len())? {
-                return Ok(text);
-            }
+        let Some(log) = self.kept.holding(front) else {
+            return Err(ExportFault::Folder);
+        };
+        let log = u16::try_from(log).unwrap_or(u16::MAX);
+        let path = self.path_of(log)?;
+        let bytes = match read_file(self.files, self.alloc, &path, MOST_OF_A_STREAM as u64) {
+            Ok(bytes) => bytes,
+            Err(InputFault::Memory) => return Err(ExportFault::Memory),
+            Err(InputFault::Unreadable) => return Err(ExportFault::Log(log)),
+        };
+        let frames = Frames::of(self.alloc, &bytes)?;
+        if !begins_with(&frames, front) || !text.add_first(&frames, front.len())? {
+            return Err(ExportFault::Log(log));
         }
-        Err(ExportFault::Folder)
+        Ok(text)
     }
 
     // The part is none of a log: the log that lacks it is cut there.

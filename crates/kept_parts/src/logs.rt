@@ -4,7 +4,7 @@ ghost use Rattle.std.specs.List.{All};
 ghost use Rattle.std.specs.Prelude.{◌≡◌, ◌↔◌, IsTrue, ◌≤◌, ◌<◌, ◌++◌, ◌∷◌, [], ℕ, List, IfOk, MatchOption, OnOk, length, slice_index_or, slice_set, take};
 ghost use Rattle.source_reading.specs.Following.{BeginsWith};
 ghost use Rattle.kept_parts.specs.Digests.{log_digest};
-ghost use Rattle.kept_parts.specs.Logs.{BeginsAs, GoesOn, HasFront, IsFront, Opens, StandsBehind};
+ghost use Rattle.kept_parts.specs.Logs.{BeginsAs, GoesOn, HasFront, IsFirst, IsFront, Opens, StandsBehind};
 
 use crate::digest::{LogDigest, NO_FRAMES, digest_then};
 use crate::name::PartName;
@@ -115,7 +115,7 @@ impl KeptLog {
 // The first of the logs behind whose beginning the part stands.
 fn first_with_front(logs: &[KeptLog], name: &PartName) -> Option<usize>
     ensures { MatchOption result (All (λ log. HasFront name.now log → ⊥) logs.now)
-        (λ k. (k < length logs.now) × HasFront name.now (slice_index_or logs.now k [])) }
+        (IsFirst (HasFront name.now) logs.now) }
 {
     for (k, log) in logs.iter().enumerate() {
         if log.has_front(name) {
@@ -128,7 +128,7 @@ fn first_with_front(logs: &[KeptLog], name: &PartName) -> Option<usize>
 // The first of the logs with all of which these frames begin.
 fn first_begun(logs: &[KeptLog], frames: &[FrameDigest]) -> Option<usize>
     ensures { MatchOption result (All (λ log. BeginsWith log frames.now → ⊥) logs.now)
-        (λ k. (k < length logs.now) × BeginsWith (slice_index_or logs.now k []) frames.now) }
+        (IsFirst (λ log. BeginsWith log frames.now) logs.now) }
 {
     for (k, log) in logs.iter().enumerate() {
         if log.begins(frames) {
@@ -141,7 +141,7 @@ fn first_begun(logs: &[KeptLog], frames: &[FrameDigest]) -> Option<usize>
 // The first of the logs that begin with these frames.
 fn first_holding(logs: &[KeptLog], frames: &[FrameDigest]) -> Option<usize>
     ensures { MatchOption result (All (λ log. BeginsWith frames.now log → ⊥) logs.now)
-        (λ k. (k < length logs.now) × BeginsWith frames.now (slice_index_or logs.now k [])) }
+        (IsFirst (BeginsWith frames.now) logs.now) }
 {
     for (k, log) in logs.iter().enumerate() {
         if log.holds(frames) {
@@ -223,7 +223,7 @@ impl KeptLogs {
     /// The first log with all of which these frames begin: the source that has them lost nothing of that log.
     pub fn begun(&self, frames: &[FrameDigest]) -> Option<usize>
         ensures { MatchOption result (All (λ log. BeginsWith log frames.now → ⊥) self.now)
-            (λ k. (k < length self.now) × BeginsWith (slice_index_or self.now k []) frames.now) }
+            (IsFirst (λ log. BeginsWith log frames.now) self.now) }
     {
         first_begun(&self.logs, frames)
     }
@@ -231,7 +231,7 @@ impl KeptLogs {
     /// The first log that begins with these frames.
     pub fn holding(&self, frames: &[FrameDigest]) -> Option<usize>
         ensures { MatchOption result (All (λ log. BeginsWith frames.now log → ⊥) self.now)
-            (λ k. (k < length self.now) × BeginsWith frames.now (slice_index_or self.now k [])) }
+            (IsFirst (BeginsWith frames.now) self.now) }
     {
         first_holding(&self.logs, frames)
     }
