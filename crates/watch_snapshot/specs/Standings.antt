@@ -38,7 +38,7 @@ has_bad_votes s = nat_lt 0 s.bad_votes
 abbrev pub larger : ℕ → ℕ → ℕ
 larger a b = if nat_lt a b then b else a
 
--- the greatest view of the good votes of a source of which more is read
+-- the greatest view of the votes of a source of which more is read, of parts of which no vote is bad
 abbrev pub view_of : SourceSeen → ℕ
 view_of s = if s.is_aside then 0 else s.top_view
 

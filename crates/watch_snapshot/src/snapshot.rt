@@ -136,7 +136,7 @@ impl Snapshot {
         self.sources.iter().any(|source| source.has_bad_votes())
     }
 
-    /// The greatest view of the good votes of all sources of which more is read.
+    /// The greatest view of the votes that came in parts of which no vote is bad, of all sources of which more is read.
     #[tactic(auto, unfolding(crate::specs::Standings::top_of))]
     pub fn top_view(&self) -> u64
         ensures { result ≡ top_of self.now.sources.items }
