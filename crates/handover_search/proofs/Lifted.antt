@@ -68,6 +68,11 @@ lifted e known tip (Some b) is are m best =
       first = λ h there hands. (let c = among known tip h m.chain p there hands in All-contains (λ x. IsCandidate known tip x → b.view ≤ x.view) known.headers h best.least c.0 c.1);
     }
 
+pub place_lifted : (e : Evidence) (known : Known) (tip : Header) (found : Option Header) → IsEvidence e → AreCertifiedHeaders e known → (m : IsProvedCommit (committee_of e.committee) e tip)
+    → IsBestOf known tip known.headers found → IfSome found (Contains (tip ∷ m.chain))
+place_lifted e known tip None is are m best = tt
+place_lifted e known tip (Some b) is are m best = stands known tip b m.chain (placed e known tip is are m) best.candidate.place
+
 pub none_lifted : (e : Evidence) (known : Known) (tip : Header) (found : Option Header) → IsEvidence e → AreCertifiedHeaders e known → (m : IsProvedCommit (committee_of e.committee) e tip)
     → IsBestOf known tip known.headers found → found ≡ None → (h : Header) → Contains (tip ∷ m.chain) h → IsHandover h → ⊥
 none_lifted e known tip found is are m best none h there hands =

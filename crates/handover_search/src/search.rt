@@ -106,6 +106,9 @@ pub fn first_in_chain(chains: &Ancestry, commit: &NamedHeader) -> Option<NamedHe
     ensures first { (e : EvidenceValue) → IsEvidence e → AreCertifiedHeaders e chains.now →
         IsProvedCommit (committee_of e.committee) e commit.now →
         IfSome result (IsFirstCommitted (committee_of e.committee) e IsHandover) }
+    ensures place { (e : EvidenceValue) → IsEvidence e → AreCertifiedHeaders e chains.now →
+        (m : IsProvedCommit (committee_of e.committee) e commit.now) →
+        IfSome result (Contains (commit.now ∷ m.chain)) }
     ensures none { (e : EvidenceValue) → IsEvidence e → AreCertifiedHeaders e chains.now →
         (m : IsProvedCommit (committee_of e.committee) e commit.now) →
         result ≡ None → (h : HeaderValue) → Contains (commit.now ∷ m.chain) h → IsHandover h → ⊥ }
