@@ -70,11 +70,19 @@ fn fits(form: &str, line: &str) -> bool {
         if place.ends_with("..") {
             return true;
         }
-        if !stands_for_any(place) && place != word {
+        if !takes(place, word) {
             return false;
         }
     }
     words.next().is_none()
+}
+
+// Whether a word of a form takes this one: `=WORD` takes WORD alone, also where that is in capitals.
+fn takes(place: &str, word: &str) -> bool {
+    match place.strip_prefix("=") {
+        Some(exact) => exact == word,
+        None => place == word || stands_for_any(place),
+    }
 }
 
 // Whether a word of a form stands for any word.

@@ -1,21 +1,21 @@
 //! What the programs' lines mean.
 
 /// A row for each line that a program prints, behind it a line feed but for the last: which programs print it, the line, what it
-/// means, and what to do, with ` | ` between. Of the line a word in capitals stands for any word, and one that ends in `..` for one
-/// or more.
+/// means, and what to do, with ` | ` between. Of the line a word in capitals stands for any word, one behind `=` for itself, and one
+/// that ends in `..` for one or more.
 pub(crate) fn table() -> &'static str {
     "hs_check | accepted replica R rule K view V | The verdict proves that replica R broke rule K (1, a double vote; 2, a lock violation); V is the view of its later vote. | Send the verdict to everyone who must agree to the removal; each judges it under a committee's file of their own.\n\
-hs_check | refused 1 Short | The verdict has fewer than 39 bytes. | It is no verdict: get the file anew.\n\
-hs_check | refused 2 Magic | The file does not begin with HSX2. | It is no verdict, or one from before votes named their keys (HSX1), which the programs from before judge.\n\
-hs_check | refused 3 Kind | Its kind is neither 1 nor 2. | It is no verdict: get the file anew.\n\
-hs_check | refused 4 Length | It has not as many bytes as its kind asks for. | The file was cut or lengthened: get it anew.\n\
-hs_check | refused 5 Chain | Its chain id is not the one of this committee. | See that both files are of one committee. A verdict says nothing under another committee.\n\
-hs_check | refused 6 Replica | The committee has no such replica. | The verdict proves nothing.\n\
-hs_check | refused 7 HeaderMismatch | A header of a lock violation can't be read, or is not the one that the votes ask for. | The verdict proves nothing.\n\
-hs_check | refused 8 NoRuleBroken | Its votes do not break the rule of its kind: a correct replica may cast both. | The verdict proves nothing.\n\
-hs_check | refused 9 SignatureE | The first vote's signature does not verify under the key that it names. | The verdict proves nothing.\n\
-hs_check | refused 10 SignatureW | The second vote's signature does not verify under the key that it names. | The verdict proves nothing.\n\
-hs_check | refused 11 KeyNumber | A vote names a key that the replica has not. | The verdict proves nothing.\n\
+hs_check, hs_show --statement | refused 1 Short | The verdict has fewer than 39 bytes. | It is no verdict: get the file anew.\n\
+hs_check, hs_show --statement | refused 2 Magic | The file does not begin with HSX2. | It is no verdict, or one from before votes named their keys (HSX1), which the programs from before judge.\n\
+hs_check, hs_show --statement | refused 3 Kind | Its kind is neither 1 nor 2. | It is no verdict: get the file anew.\n\
+hs_check, hs_show --statement | refused 4 Length | It has not as many bytes as its kind asks for. | The file was cut or lengthened: get it anew.\n\
+hs_check, hs_show --statement | refused 5 Chain | Its chain id is not the one of this committee. | See that both files are of one committee. A verdict says nothing under another committee.\n\
+hs_check, hs_show --statement | refused 6 Replica | The committee has no such replica. | The verdict proves nothing.\n\
+hs_check, hs_show --statement | refused 7 HeaderMismatch | A header of a lock violation can't be read, or is not the one that the votes ask for. | The verdict proves nothing.\n\
+hs_check, hs_show --statement | refused 8 NoRuleBroken | Its votes do not break the rule of its kind: a correct replica may cast both. | The verdict proves nothing.\n\
+hs_check, hs_show --statement | refused 9 SignatureE | The first vote's signature does not verify under the key that it names. | The verdict proves nothing.\n\
+hs_check, hs_show --statement | refused 10 SignatureW | The second vote's signature does not verify under the key that it names. | The verdict proves nothing.\n\
+hs_check, hs_show --statement | refused 11 KeyNumber | A vote names a key that the replica has not. | The verdict proves nothing.\n\
 hs_tool audit --why | SOURCE no such file | No file has that path. | Look for a slip in the path.\n\
 hs_tool audit --why | SOURCE a folder | The path is a folder's. | Name the export in it.\n\
 hs_tool audit --why | SOURCE can't be read | The file can't be opened or read, or the call of the server failed for a reason that has no word here. | Look at the rights of the file, or at the server.\n\
@@ -42,6 +42,7 @@ hs_check, hs_tool, hs_show, hs_draw, hs_signer, hs_watch, hs_follow | fault usag
 hs_check | fault hex | Standard input is not two lines of hex digits. | Give committee and verdict as two lines of hex digits, or name two files.\n\
 hs_tool keygen | fault hex | SEED is not 96 hex digits. | Put SEED right.\n\
 hs_check, hs_tool, hs_show, hs_draw, hs_signer, hs_watch, hs_follow | fault file PATH.. | The file can't be opened, read, made or written, or is there and must not be; of a replica's folder its lock may be held, or put-back says that its log was put back to a backup. | Look at the path, its mode and the disk. Never remove a replica's lock, and never write over a file in a replica's folder: the manual page says what was left.\n\
+hs_watch --export | fault file PATH.. | Where PATH is DIR/R-I-K-N: the part of log K of source I of replica R that is to stand behind N frames is missing, damaged, or does not go on there. All else was given out, of this log the frames in front of it, with no end mark; but where it is the first part of its log, neither that log nor those behind it were. | Audit what was given out: such a log reads as Cut. A part can't be mended: keep a copy of DIR, move the files R-I-.. out of it, and start the watch again, which reads the log from its source, as long as that has it.\n\
 hs_check, hs_tool, hs_show, hs_draw, hs_signer, hs_watch, hs_follow | fault memory | Memory was refused. | Free memory, and look at the manual page for what was left.\n\
 hs_check, hs_tool, hs_show, hs_draw, hs_signer, hs_watch, hs_follow | fault output | The lines could not be written, or not all. | Look at where standard output goes: a disk that is full, a pipe that was closed.\n\
 hs_check, hs_tool, hs_show, hs_draw, hs_signer, hs_watch, hs_follow | fault committee 1 Length | The committee's file has not as many bytes as its replicas ask for. | Get the file from an operator you trust, and compare its chain id.\n\
@@ -71,14 +72,16 @@ hs_tool replica, hs_signer, hs_watch | fault listen | The address can't be liste
 hs_signer, hs_watch | fault threads | A thread can't be made. | Look at the limits of processes and of memory.\n\
 hs_tool replica, hs_signer | voted N HEX | The replica voted for the block: entry N of its log, synced before this was told. | Send the vote on. Its bytes stay the replica's only vote in that view.\n\
 hs_tool replica, hs_signer | voted N HEX committed ID | As voted; and by what this process was told the block ID is committed. | Send the vote on, and apply what ID's chain has.\n\
-hs_tool replica, hs_signer | raised | The replica raised its lock without a vote, and stored that. | Nothing: it has voted in a later view, or its lock forbids this vote.\n\
+hs_tool replica, hs_signer | raised | The replica raised its lock, stored that, and gave the block no vote. | Nothing: it has voted in this view or a later one, gave the view up, or its lock forbids this vote. hs_signer gives a view up by a timeout, by a block that hands over to another file than that of --successor, and, with --ask, before its first block.\n\
 hs_tool replica, hs_signer | raised committed ID | As raised; and by what this process was told the block ID is committed. | Apply what ID's chain has.\n\
-hs_tool replica, hs_signer | held | The block is held, and nothing more was done. | Nothing: it has voted in this view or a later one.\n\
+hs_tool replica, hs_signer | held | The block is held, and this call gave it no vote. | Nothing: the replica has voted in this view or a later one, gave the view up, or its lock forbids this vote. hs_signer gives a view up by a timeout, and by a block that hands over to another file than that of --successor.\n\
+hs_signer --ask | held | Before its first block the signer gave up all views up to V + 1, where V is the greatest view of a good certificate in the others' logs: there a vote of it may stand that it forgot. | Nothing: it votes in later views. vote_view of GET /status is the last view that it voted in or gave up.\n\
+hs_signer | held | To GET /block/ID: the block is held. | Deliver blocks on it.\n\
 hs_tool replica, hs_signer | held committed ID | As held; and by what this process was told the block ID is committed. | Apply what ID's chain has.\n\
 hs_tool replica, hs_signer | timeout V | Until it ends the replica gives no vote in a view up to V. | Send it again after a start: it is not stored.\n\
-hs_tool replica, hs_signer | refused header 1 Length | There are not 84 bytes. | Send the header's 84 bytes, and behind them the certificate of its parent.\n\
-hs_tool replica, hs_signer | refused header 2 Magic | The header does not begin with HSB1. | Build the header as FORMATS.md says.\n\
-hs_tool replica, hs_signer | refused header 3 ViewOrder | The parent's view is not below the block's. | Build the header as FORMATS.md says.\n\
+hs_signer | refused header 1 Length | There are not 84 bytes. | Send the header's 84 bytes, and behind them the certificate of its parent.\n\
+hs_signer | refused header 2 Magic | The header does not begin with HSB1. | Build the header as FORMATS.md says.\n\
+hs_signer | refused header 3 ViewOrder | The parent's view is not below the block's. | Build the header as FORMATS.md says.\n\
 hs_tool replica, hs_signer | refused header N | The first 84 bytes are no header: 1 Length, 2 Magic, 3 ViewOrder. | Build the header as FORMATS.md says.\n\
 hs_tool replica, hs_signer | refused certificate N | The rest is no certificate: 1 Memory, 2 Length, 3 Order, 4 Count. | Build the certificate as FORMATS.md says.\n\
 hs_signer | refused certificate 1 Memory | Memory was refused. | Send the block again.\n\
@@ -136,21 +139,28 @@ hs_signer | refused call 11 Length | A vote has not 1,495 bytes, or a timeout ha
 hs_signer | listening calls PLACE | It takes calls there. | Nothing.\n\
 hs_signer | listening read ADDRESS | It answers calls that only read there. | Nothing.\n\
 hs_signer | listening log ADDRESS | It hands out its log there. | Nothing.\n\
+hs_signer --verbose | =POST TARGET STATUS.. | A call was answered with this status. What stands behind it is the answer, or how many bytes it has. | Ask for the answer alone: hs_show --explain and the words behind the status.\n\
+hs_signer --verbose | =GET TARGET STATUS.. | A call that only reads was answered with this status. What stands behind it is the answer, or how many bytes it has. | Ask for the answer alone: hs_show --explain and the words behind the status.\n\
+hs_signer --verbose | =HEAD TARGET STATUS.. | As a call by GET, without its answer. | Nothing.\n\
 hs_tool keygen | key HEX | The public key, in 112 digits. | Tell the others its key.pub, and compare it by another way.\n\
 hs_tool committee, hs_tool weighted | chain HEX | The chain id of the committee that was written. | Compare it with the other operators by telephone.\n\
 hs_tool migrate | migrated N | The log was carried over; it has N entries. | Put NEW in the place of log.hsj, as hs_tool-migrate(1) says.\n\
 hs_tool export | exported N | The export has N entries. | Give OUT to who audits.\n\
 hs_watch --export | exported LOG frames F | LOG is R-I-K: log K that was kept of source I of replica R is at OUT/R-I-K.hsl, and has F frames. | Audit it, or give it to who audits.\n\
-hs_tool audit | source I replica R Whole frames F entries E | The log of source I came whole: F frames, of which E are log entries. | Nothing.\n\
-hs_tool audit | source I replica R Cut frames F entries E | The log of source I ended early: what came was judged. | Get it again before you conclude anything.\n\
-hs_tool audit | source I replica R Broken frames F entries E | What source I gave is no export, or does not end as one: what came before was judged. | Get it again.\n\
-hs_tool audit | source I replica R TooLong frames F entries E | Source I gave more entries than a log has: the first 4,096 were judged. | Ask who serves it.\n\
-hs_tool audit | source I replica R Failed frames F entries E | Source I could not be reached or read to its end. | See that its path or address is right, and get it again.\n\
-hs_tool audit | commit V ID | It is proved that the block ID of view V was committed. | Nothing.\n\
-hs_tool audit | conflict ID ID | Two conflicting blocks were committed: the chain forked. | Remove the culprits that are named, by verdicts that everyone judges.\n\
+hs_tool audit | frames COUNT.. | At a terminal: how many frames of each source have come so far. | Wait.\n\
+hs_tool audit | checks N | At a terminal: how many signatures were checked so far. | Wait.\n\
+hs_tool audit, hs_follow | source I replica R Whole frames F entries E | The log of source I came whole: F frames, of which E are log entries. | Nothing.\n\
+hs_tool audit, hs_follow | source I replica R Cut frames F entries E | The log of source I ended early: what came was judged. | Get it again before you conclude anything.\n\
+hs_tool audit, hs_follow | source I replica R Broken frames F entries E | What source I gave is no export, or does not end as one: what came before was judged. | Get it again.\n\
+hs_tool audit, hs_follow | source I replica R TooLong frames F entries E | Source I gave more entries than a log has: the first 4,096 were judged. | Ask who serves it.\n\
+hs_tool audit, hs_follow | source I replica R Failed frames F entries E | Source I could not be reached or read to its end. | See that its path or address is right, and get it again.\n\
+hs_tool audit, hs_follow | commit V ID | It is proved that the block ID of view V was committed. | Nothing.\n\
+hs_tool audit, hs_follow | conflict ID ID | Two conflicting blocks were committed: the chain forked. | Remove the culprits that are named, by the verdicts that hs_tool audit writes and everyone judges.\n\
+hs_tool audit, hs_follow | no conflict | What was read proves no two conflicting commits; there may be culprits all the same. | Read the lines of the sources: a log that did not come whole, or was withheld, may prove one, and with the wrong committee's file nothing is ever found.\n\
 hs_tool audit | culprit R rule K views V V | Replica R broke rule K by its votes in these views; its verdict is in OUTDIR. | Send OUTDIR/verdict-R.hsx to everyone who must agree.\n\
-hs_tool audit | culprits N | So many replicas broke a rule in what was read. With 0 none was found in it: a log that was withheld may hold more. | Read the lines of the sources.\n\
-hs_tool audit | culprits N weight S of W | So many replicas broke a rule, and weigh so much of the whole weight. | A conflict has more than a third of it. Read the lines of the sources.\n\
+hs_follow | culprit R rule K views V V | Replica R broke rule K by its votes in these views. | hs_tool audit over the same sources writes the verdict.\n\
+hs_tool audit, hs_follow | culprits N | So many replicas broke a rule in what was read. With 0 none was found in it: a log that was withheld may hold more. | Read the lines of the sources.\n\
+hs_tool audit, hs_follow | culprits N weight S of W | So many replicas broke a rule, and weigh so much of the whole weight. | A conflict has more than a third of it. Read the lines of the sources.\n\
 hs_follow | follows view V id ID | By what the logs prove the old committee handed its ledger over to NEW, in block ID of view V. | Go on with NEW.\n\
 hs_follow | follows another view V id ID payload HEX | The old committee handed its ledger over to another file than NEW. | Get the file whose digest begins as the payload says, behind HSN1.\n\
 hs_follow | follows none | The logs prove no handover. | Get more logs, or later ones.\n\
@@ -163,8 +173,53 @@ hs_watch | TIME round N source I replica R STATUS frames F entries E | The log o
 hs_watch | TIME round N went-back I replica R | The log of source I went back: its replica may have been put back to a backup. | Ask its operator. It accuses nobody.\n\
 hs_watch | TIME round N beyond I replica R | Source I gave a fifth log that fits none of the four before. | Ask its operator.\n\
 hs_watch | listening ADDRESS | What the watch knows is told over HTTP at this address of its machine. | Open it in a browser there; from another machine take ssh -L, or a proxy with TLS and a password.\n\
+hs_watch /health | ok | The watch goes its rounds, and all verdicts and parts of logs are stored. | Nothing.\n\
 hs_watch /health | late | Its last round is older than 30 seconds and twice --every. | See whether the process runs, and start it again.\n\
 hs_watch /health | unstored | A verdict is not stored, and is tried again each round. | Make room in OUTDIR; the verdict is at /verdict-R.hsx meanwhile.\n\
+hs_watch over HTTP | refused method | It answers GET and HEAD alone. | Use one of these.\n\
+hs_watch over HTTP | refused host | Host is missing, there twice, or a name that is not allowed. | Ask by localhost or an address, or allow the name by --host.\n\
+hs_watch over HTTP | no such page | Nothing is told at this path; /fork.svg is there once something was audited, and /verdict-R.hsx once R is a culprit. | See the table of paths in hs_watch(1).\n\
 hs_watch | TIME round N set-aside I replica R | 64 votes of source I were not good; no more of it is read. | It is of another committee or replica, or its server lies.\n\
-hs_watch | TIME round N unstored PATH.. | A verdict, or with --state a part of a log, can't be stored there, or something else stands there. | Look at OUTDIR, the folder of --state, and the disk."
+hs_watch | TIME round N unstored PATH.. | A verdict, or with --state a part of a log, can't be stored there, or something else stands there; of a part at the start: it is damaged, or does not go on where its log ends, and is not read. | Look at OUTDIR, the folder of --state, and the disk. A verdict is tried again each round; of a part's source nothing more is stored until the next start. Of a damaged part see hs_show --explain fault file DIR/R-I-K-N.\n\
+hs_show | file PATH.. | What follows is said of this file. | Nothing.\n\
+hs_show | unknown | The file is of no kind that hs_show(1) lists; of --explain: no program prints such a line. | Look for a slip in the path, or in the line.\n\
+hs_show | refused committee 1 Length | It begins as a committee's file, and has not as many bytes as its replicas ask for. | It is no committee's file: get it from an operator you trust, and compare its chain id.\n\
+hs_show | refused committee 2 Magic | It does not begin as a committee's file. | It is no committee's file: get it from an operator you trust, and compare its chain id.\n\
+hs_show | refused committee 3 Size | It begins as a committee's file, and has a number of replicas that is not allowed. | It is no committee's file: get it from an operator you trust, and compare its chain id.\n\
+hs_show | refused committee 4 Key K | It begins as a committee's file, and its key K is no public key. | It is no committee's file: get it from an operator you trust, and compare its chain id.\n\
+hs_show | refused committee 5 SameKey J K | It begins as a committee's file, and its key K is the same as key J. | It is no committee's file: get it from an operator you trust, and compare its chain id.\n\
+hs_show | refused committee 6 Weight R | It begins as a committee's file, and its replica R has the weight 0. | It is no committee's file: get it from an operator you trust, and compare its chain id.\n\
+hs_show | refused committee 7 KeyCount R | It begins as a committee's file, and its replica R has no key, more than four, or bytes behind its keys. | It is no committee's file: get it from an operator you trust, and compare its chain id.\n\
+hs_show | refused verdict 1 Short | It begins as a verdict, and has fewer than 39 bytes. | It is no verdict: get the file anew.\n\
+hs_show | refused verdict 3 Kind | It begins as a verdict, and its kind is neither 1 nor 2. | It is no verdict: get the file anew.\n\
+hs_show | refused verdict 4 Length | It begins as a verdict, and has not as many bytes as its kind asks for. | The file was cut or lengthened: get it anew.\n\
+hs_show | refused journal 3 NotAJournal | It begins as a journal, and the eight bytes of its head are others. | It is none: look for a slip in the path.\n\
+hs_show | refused journal 4 Damaged | A journal that was cut or changed. | It can't be mended, and must not be replaced: see Backups in hs_tool-folder(1). hs_tool export saves what stands in front of the damage of a log.\n\
+hs_show | refused indices 5 BadEntry | A journal that begins as one of taken indices, and is none, or is damaged. | It can't be mended, and must not be replaced: see Backups in hs_tool-folder(1).\n\
+hs_show | committee f F n N | A committee of N replicas that count once, F of which may be faulty. | Compare its chain id.\n\
+hs_show | committee n N weight W quorum Q | A committee of N replicas that weigh W together, of which a quorum weighs Q. | Compare its chain id.\n\
+hs_show | chain ID | The committee's chain id; of a verdict the one under which its votes were signed. | Compare it with the one that you were told by another way, such as the telephone.\n\
+hs_show | say DIGITS.. | The chain id in groups of four digits. | Read it to another operator by telephone.\n\
+hs_show | replica R key ID | The id of replica R's key, which another key may have too. | To compare the whole key see OPERATING.md, The first day.\n\
+hs_show | replica R weight S key ID | How much replica R weighs, and the id of its key, which another key may have too. | To compare the whole key see OPERATING.md, The first day.\n\
+hs_show | replica R weight S keys K ID.. | How much replica R weighs, how many keys it has, and their ids, which other keys may have too. | To compare a whole key see OPERATING.md, The first day.\n\
+hs_show | votes R N | The keys of replica R sign so many votes in all. | Plan the next committee for when they are spent.\n\
+hs_show | verdict rule K replica R | The file accuses replica R of breaking rule K (1, a double vote; 2, a lock violation). It is not judged here. | Judge it by hs_check COMMITTEE FILE.\n\
+hs_show | vote PLACE view V id ID key K index I | A verdict's first or second vote: its view, the block's id, the number of the replica's key that signed it, and that of the one-time key. | With --committee its signature is checked.\n\
+hs_show --committee | vote PLACE view V id ID key K index I good | A verdict's first or second vote, whose signature verifies under that key. | Nothing.\n\
+hs_show --committee | vote PLACE view V id ID key K index I bad | A verdict's first or second vote, whose signature does not verify under that key, or names no key of the committee. | See that it is the right committee's file; under it the verdict proves nothing.\n\
+hs_show | header PLACE view V id ID parent V ID | A header of a lock violation: of the first vote's block, of that block's parent, or of the second vote's block; with its own view and id, and its parent's. | Nothing.\n\
+hs_show | headers unreadable | A header of a lock violation can't be read. | The verdict proves nothing.\n\
+hs_show | export STATUS frames N | An export of so many whole frames. Whole: it ends as it must; Cut: it ends early; Broken: it is none, or does not end as one; TooLong: it has more frames than a log. | Where it is not Whole ask for that log again.\n\
+hs_show | journal Closed entries N left M | A replica's journal of N entries, which has room for M more. | Have the next committee ready before M is 0.\n\
+hs_show | entry K vote view V id ID key K index I MORE.. | Entry K of the log is a vote: the block's view and id, the number of the key that signed it, that of the one-time key, the parent's view and id, and who voted for the parent. With --committee `by R` says whose vote it is, `by none` that it is nobody's, and good or bad stands behind each voter. | Where votes are bad, or by none, see that it is the right committee's file.\n\
+hs_show | entry K lock view V id ID parent V ID voters.. | Entry K of the log says that the replica raised its lock, without a vote of its own: by whose block, by view and id, its parent's, and who voted for the parent; with --committee good or bad stands behind each. | Where votes are bad see that it is the right committee's file.\n\
+hs_show | entry K refused N NAME | Entry K is none, by this refusal of REFUSALS.md, log_format; the log of a correct replica has none such. With 3 Kind it may be of the form from before votes named their keys. | Ask for another copy of the log.\n\
+hs_show | payload HEX | What the block of the entry above carries, as its ledger wrote it. | Nothing.\n\
+hs_show | handover HEX | The block of the entry above hands its ledger over to another committee. | Compare the digits with the first 56 of the SHA-256 of that committee's file (sha256sum).\n\
+hs_show | see hs_tool migrate | The log is of the form from before votes named their keys. | hs_tool migrate OLD NEW COMMITTEE carries it over.\n\
+hs_show --committee | signatures N good G | Of N signatures that were checked G verify. | Where G is less, see that it is the right committee's file, and which line says bad or by none.\n\
+hs_show | indices taken N left A B C D | All one-time keys below N are taken; so many are left to a replica with one, two, three or four keys. | Have the next committee ready before yours is 0.\n\
+hs_show | key ID root ROOT | A public key: its id, and the root of its tree. | Nothing.\n\
+hs_show | seed key ID | A file of 48 bytes is taken for a key's seed, of which no more than the key's id is shown. | Keep it secret, and never copy it."
 }
