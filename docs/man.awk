@@ -2,7 +2,8 @@
 #
 # It knows what those pages are written in: the title `# name(1)`, `##` and `###` headings, paragraphs, lists by `- `, tables,
 # texts that are indented by four blanks, **strong**, `code` and [links](to). It ends with status 1 where the title is
-# another. `-v documents=FOLDER` says where the documents are that the page names.
+# another. `-v documents=FOLDER` says where the documents are that the page names, as a whole path, or as one below where a package was
+# unpacked; `-v version=VERSION` of which version the page is, and `-v date=DATE` of when.
 
 BEGIN {
     commands = "hs_tool-audit hs_tool-committee hs_tool-export hs_tool-folder hs_tool-keygen hs_tool-migrate hs_tool-replica hs_tool-weighted "
@@ -48,23 +49,33 @@ function begin_page(title) {
     }
     page = substr(title, 3, length(title) - 5)
     print ".\\\" Made of " page ".md by man.awk."
-    print ".TH " toupper(page) " 1 \"\" \"Wezhgula" (version == "" ? "" : " " version) "\" \"User Commands\""
+    print ".TH " toupper(page) " 1 \"" date "\" \"Wezhgula" (version == "" ? "" : " " version) "\" \"User Commands\""
     print ".nh\n.ad l"
     begin_section("Name")
     print page " \\- " about[page]
 }
 
+# Below `## See also` the other pages come first, and then what the page itself names.
 function begin_section(name) {
     print ".SH " toupper(spelled(name))
     is_below_heading = 1
+    if (name == "See also") put_other_pages()
 }
 
-function end_page(    names, i, others) {
+function put_other_pages(    names, i, others) {
     split("hs_check hs_draw hs_follow hs_show hs_signer hs_tool " (page ~ /^hs_tool/ ? commands : "") "hs_watch", names, " ")
     for (i = 1; i in names; i++)
         if (names[i] != page) others = others (others == "" ? "" : " ,\n") ".BR " names[i] " (1)"
-    print ".SH SEE ALSO\n" others
-    if (documents != "") put_paragraph("The documents that this page names, as FORMATS.md, are in `" documents "`.")
+    print others
+    is_below_heading = 0
+    has_other_pages = 1
+}
+
+function end_page() {
+    if (!has_other_pages) begin_section("See also")
+    if (documents != "")
+        put_paragraph("The documents that this page names, as FORMATS.md, are in `" documents "`" \
+            (documents ~ /^\// ? "" : " of the folder in which this package was unpacked") ".")
 }
 
 # What has been gathered of a paragraph, an item, a table or a text is put out.
