@@ -3,9 +3,8 @@
 # The options of a program, or of a command of hs_tool.
 _wezhgula_options() {
     case $1 in
-        hs_check | 'hs_tool ') echo --help --version ;;
         hs_show) echo --committee --statement --explain --help --version ;;
-        hs_signer) echo --listen --read --serve --successor --ask --sessions --furthest --host --group --while-input --verbose --help --version ;;
+        hs_signer) echo --listen --read --serve --successor --ask --sessions --furthest --host --group --while-input --verbose ;;
         hs_watch) echo --every --reread --listen --host --state --keep-most --until-culprit --until-input-ends --export ;;
         hs_follow) echo --proof ;;
         'hs_tool keygen') echo --key --random --stdin ;;
@@ -20,7 +19,7 @@ _wezhgula_commands() { echo keygen committee replica audit weighted migrate expo
 _wezhgula() {
     local program=${COMP_WORDS[0]##*/} word=${COMP_WORDS[COMP_CWORD]} words
     if [ "$program" = hs_tool ] && [ "$COMP_CWORD" = 1 ]; then
-        words="$(_wezhgula_commands) $(_wezhgula_options 'hs_tool ')"
+        words=$(_wezhgula_commands)
     elif [ "$program" = hs_tool ]; then
         words=$(_wezhgula_options "hs_tool ${COMP_WORDS[1]}")
     else
