@@ -74,7 +74,7 @@ function put_other_pages(    names, i, others) {
 function end_page() {
     if (!has_other_pages) begin_section("See also")
     if (documents != "")
-        put_paragraph("The documents that this page names, as FORMATS.md, are in `" documents "`" \
+        put_paragraph("The documents that this page names, as FORMATS.md, and its examples are in `" documents "`" \
             (documents ~ /^\// ? "" : " of the folder in which this package was unpacked") ".")
 }
 
