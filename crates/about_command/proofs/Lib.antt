@@ -1,3 +1,4 @@
+mod Itself
 mod Pieces
 mod Sayings
 pub mod WordLists

@@ -2,12 +2,7 @@
 use Rattle.std.proofs.Common.{◌≡◌, ◌≢◌, ◌-◌, ◌<◌, ◌≤◌, ℕ, Result, Ok, Err, IfOk, List, [], ◌∷◌, String, drop, get_or, length, string_bytes, take, sym, ap, ◌∙◌, arith}
 use Rattle.std.proofs.lemmas.List.{take_all}
 use Rattle.std.specs.declared.alloc.Global.{Global}
-use Rattle.about_command.specs.About.{texts}
-
-pub one_word : (words : List (String Global)) (a : String Global) → length words ≡ 1 → a ≡ get_or words 0 a → texts words ≡ string_bytes a ∷ []
-one_word [] a one is = absurd (omega arith)
-one_word (x ∷ []) a one is = ap (λ (w : String Global). string_bytes w ∷ []) (sym is)
-one_word (x ∷ y ∷ more) a one is = absurd (omega arith)
+use Rattle.program_help.specs.Helps.{texts}
 
 pub four_words : (words : List (String Global)) (a b c d : String Global) → length words ≡ 4
     → a ≡ get_or words 0 a → b ≡ get_or words 1 b → c ≡ get_or words 2 c → d ≡ get_or words 3 d
@@ -39,6 +34,3 @@ some_texts (x ∷ more) some none = let no : ⊥ = cc in no
 pub if_both : {T E : Type 0} (r : Result T E) (P Q R : T → Type 0) → IfOk r P → IfOk r Q → ((t : T) → P t → Q t → R t) → IfOk r R
 if_both (Ok t) P Q R p q by = by t p q
 if_both (Err e) P Q R p q by = tt
-
-pub alone_text : {a b : List ℕ} → (a ∷ []) ≡ (b ∷ []) → a ≡ b
-alone_text is = cc

@@ -1,13 +1,11 @@
 -- What is told beside files, and for which words.
-use Rattle.std.specs.Prelude.{◌≡◌, ◌≢◌, ◌⊎◌, [], ◌∷◌, ℕ, true, List, String, codes, map, string_bytes}
-use Rattle.std.specs.declared.alloc.Global.{Global}
+use Rattle.std.specs.Prelude.{◌≡◌, ◌≢◌, ◌⊎◌, [], ◌∷◌, ℕ, true, List, codes}
 use Rattle.blocks.specs.Committees.{IsCommittee}
 use Rattle.about_command.specs.Explaining.{AreSaid}
 use Rattle.about_command.specs.Sheets.{IsSheet}
-use Rattle.about_command.specs.Versions.{help_text, version_line}
-
-abbrev pub texts : List (String Global) → List (List ℕ)
-texts words = map (λ w. string_bytes w) words
+use Rattle.program_help.specs.Helps.{word_of}
+use Rattle.program_help.specs.declared.asking.Asked.{Asked}
+use Rattle.about_command.specs.Versions.{show_text}
 
 -- with one of these the words begin that ask for something beside files
 abbrev pub IsOption : List ℕ → Type 0
@@ -34,21 +32,16 @@ AskForSheet words = (verdict : List ℕ) × (committee : List ℕ) × (words ≡
 -- one of the four
 abbrev pub AskRightly : List (List ℕ) → Type 0
 AskRightly words =
-    (words ≡ codes "--version" ∷ []) ⊎ ((words ≡ codes "--help" ∷ []) ⊎ (AskForLine words ⊎ AskForSheet words))
+    ((asked : Asked) × (words ≡ word_of asked ∷ [])) ⊎ (AskForLine words ⊎ AskForSheet words)
 
 -- ---- what is told
 
--- `--version` alone
-pub record TellsVersion (words : List (List ℕ)) (status : ℕ) (text : List ℕ) : Type 0 where
-  pub words_are : words ≡ codes "--version" ∷ []
+-- what the program is, to one option alone
+pub record TellsItself (words : List (List ℕ)) (status : ℕ) (text : List ℕ) : Type 0 where
+  pub asked : Asked
+  pub words_are : words ≡ word_of asked ∷ []
   pub status_is : status ≡ 0
-  pub text_is : text ≡ version_line
-
--- `--help` alone
-pub record TellsHelp (words : List (List ℕ)) (status : ℕ) (text : List ℕ) : Type 0 where
-  pub words_are : words ≡ codes "--help" ∷ []
-  pub status_is : status ≡ 0
-  pub text_is : text ≡ help_text
+  pub text_is : text ≡ show_text asked
 
 -- what is said of a line, or that it is not known
 abbrev pub IsExplanation : ℕ → List ℕ → Type 0
@@ -75,8 +68,7 @@ pub record TellsSheet (words : List (List ℕ)) (status : ℕ) (text : List ℕ)
 -- one of these
 abbrev pub IsAnswerTo : List (List ℕ) → ℕ → List ℕ → Type 0
 IsAnswerTo words status text =
-    TellsVersion words status text ⊎ (TellsHelp words status text
-    ⊎ (Explains words status text ⊎ TellsSheet words status text))
+    TellsItself words status text ⊎ (Explains words status text ⊎ TellsSheet words status text)
 
 -- .. with another status than that of a fault
 abbrev pub Tells : List (List ℕ) → ℕ → List ℕ → Type 0

@@ -12,7 +12,7 @@ use Rattle.verdict_format.specs.Verdicts.{earlier_in, earlier_key_in, later_in, 
 use Rattle.verdict_format.specs.declared.verdict.TheConstants.{EARLIER_SIGNATURE_AT, LATER_SIGNATURE_AT}
 use Rattle.verdict_checker.specs.Checks.{IsRefused, refusal_name, refusal_number}
 use Rattle.verdict_checker.specs.declared.refusal.Refusal.{Refusal}
-use Rattle.about_command.specs.Versions.{version_text}
+use Rattle.program_help.specs.Helps.{version_text}
 
 -- who is accused
 unfoldable pub accused_line : ℕ → List ℕ

@@ -1,12 +1,9 @@
--- The version, and how hs_show is called.
+-- What hs_show says of itself.
 use Rattle.std.specs.Prelude.{◌++◌, ℕ, List, codes}
+use Rattle.program_help.specs.Helps.{version_text}
+use Rattle.program_help.specs.declared.asking.Asked.{Asked}
+use Rattle.program_help.specs.declared.asking.Asked.TheVariants as asked
 
--- that of the file VERSION
-abbrev pub version_text : List ℕ
-version_text = codes "0.9.0"
-
-unfoldable pub version_line : List ℕ
-version_line = codes "hs_show " ++ version_text ++ codes "\n"
-
-unfoldable pub help_text : List ℕ
-help_text = codes "hs_show FILE.. [--committee C]\nhs_show --statement VERDICT --committee C\nhs_show --explain LINE..\nhs_show --help\nhs_show --version\n"
+abbrev pub show_text : Asked → List ℕ
+show_text asked.Help = codes "hs_show FILE.. [--committee C]\nhs_show --statement VERDICT --committee C\nhs_show --explain LINE..\nhs_show --help\nhs_show --version\n"
+show_text asked.Version = codes "hs_show " ++ version_text ++ codes "\n"

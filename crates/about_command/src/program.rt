@@ -6,12 +6,14 @@ ghost use Rattle.printed_lines.specs.Printed.{Told};
 ghost use Rattle.program_parts.specs.FaultLines.{fault_line, no_fault_line};
 ghost use Rattle.program_parts.specs.declared.no_fault.NoFault.{NoFault as OwnFaultValue};
 ghost use Rattle.program_parts.specs.declared.program_fault.ProgramFault.{ProgramFault as FaultValue};
-ghost use Rattle.about_command.specs.About.{AskBesideFiles, AskForLine, AskForSheet, AskRightly, IsExplanation, IsOption, IsSheetOfFiles, Tells, statement_words, texts};
-ghost use Rattle.about_command.specs.Versions.{help_text, version_line};
+ghost use Rattle.about_command.specs.About.{AskBesideFiles, AskForLine, AskForSheet, AskRightly, IsExplanation, IsOption, IsSheetOfFiles, Tells, statement_words};
+ghost use Rattle.program_help.specs.Helps.{texts};
+ghost use Rattle.about_command.specs.Versions.{show_text};
 
-use crate::about::{put_help, put_version};
+use crate::about::SHOW;
 use crate::explaining::put_explanations;
 use crate::sheet::{Sheet, sheet_of};
+use program_help::{Asked, asked_in, text_of};
 use program_parts::{
     MOST_OF_A_SHORT_FILE, NoFault, ProgramFault, exit_status, parse_committee, read_committee,
     read_named, write_out,
@@ -88,11 +90,8 @@ fn answer<'a, F: Files<File = File>>(
     ensures usage { IfErr result (λ fault. fault ≡ ProgramFault.Usage
         → AskRightly (texts words.now) → ⊥) }
 {
-    if are_alone(words, "--version") {
-        return Ok(version(alloc)?);
-    }
-    if are_alone(words, "--help") {
-        return Ok(help(alloc)?);
+    if let Some(asked) = asked_in(words) {
+        return Ok(about_itself(alloc, asked)?);
     }
     if let Some(paths) = paths_of(words) {
         return read_sheet(rt, alloc, paths.verdict, paths.committee);
@@ -100,16 +99,6 @@ fn answer<'a, F: Files<File = File>>(
     match line_of(words) {
         Some(line) => Ok(explanation(alloc, line)?),
         None => Err(ProgramFault::Usage),
-    }
-}
-
-// Whether the words are this one alone.
-fn are_alone(words: &[String], option: &str) -> bool
-    ensures { IsTrue result ↔ (texts words.now ≡ option.now ∷ []) }
-{
-    match words {
-        [word] => word.as_str() == option,
-        _ => false,
     }
 }
 
@@ -157,22 +146,15 @@ fn line_of<'a>(words: &'a [String]) -> Option<&'a [String]>
     }
 }
 
-fn version(alloc: Global) -> Result<Sheet, AllocError>
+// What the program is.
+fn about_itself(alloc: Global, asked: Asked) -> Result<Sheet, AllocError>
     ensures status { IfOk result (λ s. s.status ≡ 0) }
-    ensures text { IfOk result (λ s. s.text.items ≡ version_line) }
+    ensures text { IfOk result (λ s. s.text.items ≡ show_text asked) }
 {
-    let mut text = Vec::new(alloc);
-    put_version(&mut text)?;
-    Ok(Sheet { text, status: TOLD })
-}
-
-fn help(alloc: Global) -> Result<Sheet, AllocError>
-    ensures status { IfOk result (λ s. s.status ≡ 0) }
-    ensures text { IfOk result (λ s. s.text.items ≡ help_text) }
-{
-    let mut text = Vec::new(alloc);
-    put_help(&mut text)?;
-    Ok(Sheet { text, status: TOLD })
+    Ok(Sheet {
+        text: text_of(alloc, &SHOW, asked)?,
+        status: TOLD,
+    })
 }
 
 // The sheet of a verdict's file under a committee's.

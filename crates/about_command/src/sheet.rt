@@ -8,13 +8,13 @@ ghost use Rattle.verdict_format.specs.Proofs.{IsProof};
 ghost use Rattle.verdict_format.specs.VerdictReading.{IsReadableVerdict};
 ghost use Rattle.verdict_format.specs.RuleNumbers.{rule_number};
 ghost use Rattle.verdict_format.specs.declared.verdict.TheConstants.{EARLIER_SIGNATURE_AT, LATER_SIGNATURE_AT};
-ghost use Rattle.about_command.specs.Versions.{version_text};
+ghost use Rattle.program_help.specs.Helps.{version_text};
 ghost use Rattle.about_command.specs.Sheets.{accused_line, accused_part, ballot_lines, breach_line, digest_lines, double_vote_text, files_part, IsSheet, judge_line, limits_part, lock_violation_text, one_time_part, refused_text, rule_part, sheet_text, signer_line, vote_part, votes_part};
 
-use crate::about::VERSION;
 use blocks::{Ballot, Id};
 use certificates::CommitteeView;
 use printed_lines::{put_id, put_number, put_spoken};
+use program_help::VERSION;
 use sha2::{Digest, Sha256};
 use std::alloc::{AllocError, Global};
 use verdict_checker::{Refusal, check};
@@ -254,7 +254,7 @@ fn put_judge(text: &mut Vec<u8>) -> Result<(), AllocError>
     ensures { OnOk result (text.new.items ≡ text.old.items ++ judge_line) }
 {
     append(text, b"\nJudged by Wezhgula ")?;
-    append(text, VERSION)?;
+    append(text, VERSION.as_bytes())?;
     append(text, b".\n\n")
 }
 

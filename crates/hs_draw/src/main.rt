@@ -3,6 +3,7 @@
 #![tactic(auto)]
 
 use draw_command::run_draw;
+use program_help::{DRAW, asked_in, run_help};
 use program_parts::run_main;
 use std::io::{Stderr, Stdout};
 use std::process::ExitCode;
@@ -14,7 +15,10 @@ fn main(rt: HostRuntime) -> ExitCode {
         rt.stdout(),
         rt.stderr(),
         &|words: &[String], out: &mut StdSink<Stdout>, faults: &mut StdSink<Stderr>| {
-            run_draw(&rt, &rt, rt.alloc(), words, out, faults)
+            match asked_in(words) {
+                Some(asked) => run_help(rt.alloc(), &DRAW, asked, out, faults),
+                None => run_draw(&rt, &rt, rt.alloc(), words, out, faults),
+            }
         },
     )
 }

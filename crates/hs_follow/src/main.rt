@@ -2,6 +2,7 @@
 #![tactic(auto)]
 
 use follow_command::run_follow;
+use program_help::{FOLLOW, asked_in, run_help};
 use program_parts::run_main;
 use std::io::{Stderr, Stdout};
 use std::process::ExitCode;
@@ -13,7 +14,10 @@ fn main(rt: HostRuntime) -> ExitCode {
         rt.stdout(),
         rt.stderr(),
         &|words: &[String], out: &mut StdSink<Stdout>, faults: &mut StdSink<Stderr>| {
-            run_follow(&rt, &rt, rt.alloc(), words, out, faults)
+            match asked_in(words) {
+                Some(asked) => run_help(rt.alloc(), &FOLLOW, asked, out, faults),
+                None => run_follow(&rt, &rt, rt.alloc(), words, out, faults),
+            }
         },
     )
 }

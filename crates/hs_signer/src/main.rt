@@ -1,6 +1,7 @@
 //! A replica that answers calls: `hs_signer COMMITTEE R DIR ..`. docs/hs_signer.md is its manual page.
 #![tactic(auto)]
 
+use program_help::{SIGNER, asked_in, run_help};
 use program_parts::run_main;
 use signer_command::{Host, run_signer};
 use std::io::{Stderr, Stdout};
@@ -13,6 +14,9 @@ fn main(rt: HostRuntime) -> ExitCode {
         rt.stdout(),
         rt.stderr(),
         &|words: &[String], out: &mut StdSink<Stdout>, faults: &mut StdSink<Stderr>| {
+            if let Some(asked) = asked_in(words) {
+                return run_help(rt.alloc(), &SIGNER, asked, out, faults);
+            }
             let mut input = StdFeed::new(rt.stdin());
             let host = Host {
                 rt: &rt,

@@ -1,6 +1,7 @@
 //! An auditor that watches: `hs_watch COMMITTEE OUTDIR SOURCE.. ..`. docs/hs_watch.md is its manual page.
 #![tactic(auto)]
 
+use program_help::{WATCH, asked_in, run_help};
 use program_parts::run_main;
 use std::alloc::Global;
 use std::io::{Read, Stderr, Stdin, Stdout};
@@ -27,6 +28,9 @@ fn main(rt: HostRuntime) -> ExitCode {
         rt.stdout(),
         rt.stderr(),
         &|words: &[String], out: &mut StdSink<Stdout>, faults: &mut StdSink<Stderr>| {
+            if let Some(asked) = asked_in(words) {
+                return run_help(rt.alloc(), &WATCH, asked, out, faults);
+            }
             let host = Host {
                 rt: &rt,
                 alloc: rt.alloc(),

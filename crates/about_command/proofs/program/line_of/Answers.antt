@@ -1,5 +1,5 @@
 use Rattle.std.proofs.Common.{◌≡◌, ◌-◌, ◌<◌, ℕ, List, ◌∷◌, codes, drop, length, string_bytes, take, ap, ◌∙◌, rules}
-use Rattle.about_command.specs.About.{texts}
+use Rattle.program_help.specs.Helps.{texts}
 use Rattle.about_command.proofs.WordLists.{first_word, some_texts}
 use Rattle.about_command.proofs.program.line_of.Goals as goal
 

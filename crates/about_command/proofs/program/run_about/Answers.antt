@@ -1,7 +1,8 @@
 use Rattle.std.proofs.Common.{ℕ, List}
 use Rattle.streams.specs.Streams.{Wrote}
 use Rattle.program_parts.proofs.Endings.{came_to}
-use Rattle.about_command.specs.About.{Tells, texts}
+use Rattle.about_command.specs.About.{Tells}
+use Rattle.program_help.specs.Helps.{texts}
 use Rattle.about_command.proofs.program.run_about.Goals as goal
 
 pub returns-clause-told : goal.returns-clause-told

@@ -1,6 +1,6 @@
 use Rattle.std.proofs.Common.{◌≡◌, ℕ, List, [], ◌∷◌, length, string_bytes, sym, ap, ◌∙◌, arith, rules}
-use Rattle.about_command.proofs.WordLists.{alone_text, one_word}
-use Rattle.about_command.proofs.program.are_alone.Goals as goal
+use Rattle.program_help.proofs.Words.{alone_text, one_word}
+use Rattle.program_help.proofs.asking.are_alone.Goals as goal
 
 pub returns-in-len1 : goal.returns-in-len1
 returns-in-len1 c =
