@@ -4,9 +4,10 @@
 _wezhgula_options() {
     case $1 in
         hs_show) echo --committee --statement --explain --help --version ;;
-        hs_signer) echo --listen --read --serve --successor --ask --sessions --furthest --host --group --while-input --verbose ;;
-        hs_watch) echo --every --reread --listen --host --state --keep-most --until-culprit --until-input-ends --export ;;
-        hs_follow) echo --proof ;;
+        hs_signer) echo --listen --read --serve --successor --ask --sessions --furthest --host --group --while-input --verbose --help --version ;;
+        hs_watch) echo --every --reread --listen --host --state --keep-most --until-culprit --until-input-ends --export --help --version ;;
+        hs_follow) echo --proof --help --version ;;
+        hs_draw) echo --help --version ;;
         'hs_tool keygen') echo --key --random --stdin ;;
         'hs_tool replica') echo --workers --serve --requests ;;
         'hs_tool audit') echo --tries --strict --strict-all --why --keep --json ;;
