@@ -6,7 +6,8 @@ use Rattle.blocks.specs.Headers.{Header}
 use Rattle.certificates.specs.declared.vote.SignedVote.{SignedVote}
 use Rattle.blocks.specs.Weights.{committee_of}
 use Rattle.log_format.specs.Readings.{IsReading}
-use Rattle.evidence.specs.Evidence.{Evidence, IsEvidenceOf}
+use Rattle.evidence.specs.Evidence.{Evidence, IsEvidenceOf, IsEvidenceRefusal, IsHeaderInEvidence}
+use Rattle.evidence.specs.declared.refusal.EvidenceRefusal.{EvidenceRefusal}
 use Rattle.evidence.specs.Logs.{ReceivedLog}
 use Rattle.commit_search.specs.Commits.{HasNoConflict}
 use Rattle.handover.specs.Handovers.{IsFirstCommitted, IsHandover}
@@ -33,3 +34,7 @@ pub record ProveHandover (committee : List ℕ) (texts : List (List ℕ)) (b : H
   pub evidence : Evidence
   pub is_evidence : IsEvidenceOf committee logs evidence
   pub by : IsHandedOverBy evidence b
+
+-- memory was refused, or two different headers in the evidence of some logs have one id
+abbrev pub IsProofRefusal : List ℕ → EvidenceRefusal → Type 0
+IsProofRefusal committee e = (logs : List ReceivedLog) × IsEvidenceRefusal (IsHeaderInEvidence committee logs) e

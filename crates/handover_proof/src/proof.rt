@@ -1,6 +1,6 @@
 //! The proof, and that it shows what it is for.
 
-ghost use Rattle.std.specs.Prelude.{◌≡◌, ◌↔◌, IfOk, IfSome, IsTrue};
+ghost use Rattle.std.specs.Prelude.{◌≡◌, ◌↔◌, IfErr, IfOk, IfSome, IsTrue};
 ghost use Rattle.std.specs.List.{All, AllPairs, AllZip, Contains};
 ghost use Rattle.blocks.specs.Weights.{committee_of};
 ghost use Rattle.ancestry.specs.Known.{all_of};
@@ -8,7 +8,7 @@ ghost use Rattle.evidence.specs.Evidence.{Evidence as EvidenceValue};
 ghost use Rattle.commit_search.specs.Commits.{HasNoConflict, IsLowerBlock};
 ghost use Rattle.handover.specs.Handovers.{IsFirstCommitted, IsHandover};
 ghost use Rattle.handover_search.specs.Searches.{AreCommitsOf};
-ghost use Rattle.handover_proof.specs.Proofs.{IsHandedOverBy, IsLogOf, ProveHandover};
+ghost use Rattle.handover_proof.specs.Proofs.{IsHandedOverBy, IsLogOf, IsProofRefusal, ProveHandover};
 
 use crate::chain::proving_blocks;
 use crate::texts::exports_of;
@@ -138,7 +138,9 @@ fn are_proof(
     files: &[ProofFile],
     block: &NamedHeader,
 ) -> Result<bool, EvidenceRefusal>
-    ensures { IfOk result (λ are. IsTrue are → ProveHandover committee.now files.now block.now) }
+    ensures proves { IfOk result (λ are. IsTrue are
+        → ProveHandover committee.now files.now block.now) }
+    ensures refused { IfErr result (IsProofRefusal committee.now) }
 {
     let logs = logs_of(alloc, files)?;
     let shown = evidence_of_logs(alloc, committee, &logs)?;
@@ -157,6 +159,7 @@ pub fn prove_handover(
 ) -> Result<Option<Vec<ProofFile>>, EvidenceRefusal>
     ensures proves { IfOk result (λ files. IfSome files (λ files.
         ProveHandover evidence.now.committee files.items block.now)) }
+    ensures refused { IfErr result (IsProofRefusal evidence.now.committee) }
 {
     let Some(files) = files_of(alloc, evidence, block)? else {
         return Ok(None);

@@ -1,8 +1,7 @@
 use Rattle.std.proofs.Common.{List, rules, sym, subst}
-use Rattle.std.specs.List.{All, AllPairs, Contains}
+use Rattle.std.specs.List.{All, Contains}
 use Rattle.blocks.specs.Headers.{Header}
 use Rattle.ancestry.specs.Known.{all_of}
-use Rattle.commit_search.specs.Commits.{IsLowerBlock}
 use Rattle.handover_search.proofs.Judged.{commits_of}
 use Rattle.handover_proof.proofs.proof.hands_over_by.Goals as goal
 
