@@ -197,7 +197,7 @@ impl<'c> Desk<'c> {
         self.round = self.round.saturating_add(1);
         let stamp = stamp_now(shop, self.round)?;
         for delivery in told {
-            if self.take(shop, &stamp, delivery)? {
+            if self.take(shop, &stamp, &delivery)? {
                 self.is_due = true;
             }
         }
@@ -238,47 +238,67 @@ impl<'c> Desk<'c> {
         &mut self,
         shop: &Shop<'_, '_, 'c, T>,
         stamp: &[u8],
-        delivery: Delivery<'c>,
+        delivery: &Delivery<'c>,
     ) -> Result<bool, Fault<'static>>
         ensures { IfErr result (λ fault. fault ≢ ProgramFault.Output) }
     {
         let source = delivery.source;
-        match delivery.told {
-            Told::WentBack => {
-                if let Some(state) = self.sources.get_mut(source) {
-                    state.times_back = state.times_back.saturating_add(1);
-                }
-                say_alarm(shop, stamp, b"went-back", source)?;
-                Ok(false)
-            }
-            Told::GivesKept(log) => {
-                let bad = self.take_kept_bad(source, log);
-                self.count_bad(shop, stamp, source, bad)?;
-                Ok(false)
-            }
-            Told::Beyond => {
-                say_alarm(shop, stamp, b"beyond", source)?;
-                let _number = self.number_of(shop, source, usize::MAX)?;
-                Ok(false)
-            }
-            Told::Unstored(path) => {
-                self.say_unstored(shop, stamp, &path)?;
-                Ok(false)
-            }
-            Told::Part(new) => {
-                if let Some(state) = self.sources.get_mut(source) {
-                    state.digest = new.digest;
-                }
-                if let Some(path) = &new.unstored {
-                    self.say_unstored(shop, stamp, path)?;
-                }
-                let grew = self.take_part(shop, stamp, source, &new)?;
-                if new.is_kept {
-                    shop.note_added();
-                }
-                Ok(grew)
-            }
+        match &delivery.told {
+            Told::Part(new) => return self.take_new(shop, stamp, source, new),
+            Told::WentBack => self.note_back(shop, stamp, source)?,
+            Told::GivesKept(log) => self.count_kept_bad(shop, stamp, source, *log)?,
+            Told::Beyond => self.note_beyond(shop, stamp, source)?,
+            Told::Unstored(path) => self.say_unstored(shop, stamp, path)?,
         }
+        Ok(false)
+    }
+
+    // Notes that the log of a source went back.
+    fn note_back<T: Wait + Clock>(
+        &mut self,
+        shop: &Shop<'_, '_, 'c, T>,
+        stamp: &[u8],
+        source: usize,
+    ) -> Result<(), AllocError> {
+        if let Some(state) = self.sources.get_mut(source) {
+            state.times_back = state.times_back.saturating_add(1);
+        }
+        say_alarm(shop, stamp, b"went-back", source)
+    }
+
+    // Notes that a source gave one log too many.
+    fn note_beyond<T: Wait + Clock>(
+        &mut self,
+        shop: &Shop<'_, '_, 'c, T>,
+        stamp: &[u8],
+        source: usize,
+    ) -> Result<(), AllocError> {
+        say_alarm(shop, stamp, b"beyond", source)?;
+        let _number = self.number_of(shop, source, usize::MAX)?;
+        Ok(())
+    }
+
+    // Takes more of a log of a source, and notes what is told with it.
+    fn take_new<T: Threads + Wait + Clock + Sync>(
+        &mut self,
+        shop: &Shop<'_, '_, 'c, T>,
+        stamp: &[u8],
+        source: usize,
+        new: &NewPart<'c>,
+    ) -> Result<bool, Fault<'static>>
+        ensures { IfErr result (λ fault. fault ≢ ProgramFault.Output) }
+    {
+        if let Some(state) = self.sources.get_mut(source) {
+            state.digest = new.digest;
+        }
+        if let Some(path) = &new.unstored {
+            self.say_unstored(shop, stamp, path)?;
+        }
+        let grew = self.take_part(shop, stamp, source, new)?;
+        if new.is_kept {
+            shop.note_added();
+        }
+        Ok(grew)
     }
 
     // Adds a part of this log of a source.
@@ -414,6 +434,18 @@ impl<'c> Desk<'c> {
             Some(known) => std::mem::replace(&mut known.kept_bad, 0),
             None => 0,
         }
+    }
+
+    // Counts the bad votes of what was kept of a log of a source.
+    fn count_kept_bad<T: Wait + Clock>(
+        &mut self,
+        shop: &Shop<'_, '_, 'c, T>,
+        stamp: &[u8],
+        source: usize,
+        log: usize,
+    ) -> Result<(), AllocError> {
+        let bad = self.take_kept_bad(source, log);
+        self.count_bad(shop, stamp, source, bad)
     }
 
     // Counts bad votes of a source, and sets it aside where they are too many.

@@ -230,11 +230,7 @@ where
     T::Dir: Send,
 {
     let queue = Queue::new(host.alloc);
-    let kept = match state {
-        Some(state) => state.parts().len() as u64,
-        None => 0,
-    };
-    let server = server_of(host, words, committee, targets, kept, &queue)?;
+    let server = server_of(host, words, committee, targets, parts_in(state), &queue)?;
     let shop = Shop::new(
         host.rt,
         host.alloc,
@@ -246,19 +242,36 @@ where
         server.as_ref(),
         state,
     )?;
-    let answerers = answerers_of(server.as_ref());
-    let mut jobs = Some(jobs_of(host.alloc, targets.len(), answerers)?);
-    let (worked, printed) = thread::join_mut(
-        host.rt,
-        &mut || work_all(&shop, jobs.take()),
-        &mut || print_all(&shop, &mut *out),
-    );
-    if printed.is_err() {
-        return Err(Fault::Output);
+    let jobs = jobs_of(host.alloc, targets.len(), answerers_of(server.as_ref()))?;
+    work_and_print(&shop, jobs, out)
+}
+
+// The threads at work, and beside them what prints lines, until no more come. Answers whether there are culprits.
+fn work_and_print<
+    T: Files<File = File>
+        + Threads
+        + Wait
+        + Clock
+        + Net<Listener = TcpListener, Stream = TcpStream>
+        + RandomSource
+        + Sync,
+    W: Sink,
+>(shop: &Shop<'_, '_, '_, T>, jobs: Vec<Job>, out: &mut W) -> Result<bool, Fault<'static>>
+where
+    T::Dir: Send,
+{
+    let (worked, printed) = thread::join(shop.rt, || work_all(shop, jobs), || print_all(shop, out));
+    match printed {
+        Ok(()) => worked,
+        Err(_) => Err(Fault::Output),
     }
-    match worked {
-        Ok(found) => Ok(found),
-        Err(fault) => Err(fault),
+}
+
+// How many parts are kept.
+fn parts_in<T: Files<File = File>>(state: Option<&StateFolder<'_, '_, T>>) -> u64 {
+    match state {
+        Some(state) => state.parts().len() as u64,
+        None => 0,
     }
 }
 
@@ -325,14 +338,11 @@ fn work_all<
         + Net<Listener = TcpListener, Stream = TcpStream>
         + RandomSource
         + Sync,
->(shop: &Shop<'_, '_, '_, T>, jobs: Option<Vec<Job>>) -> Result<bool, Fault<'static>>
+>(shop: &Shop<'_, '_, '_, T>, jobs: Vec<Job>) -> Result<bool, Fault<'static>>
 where
     T::Dir: Send,
 {
-    let outcome = match jobs {
-        Some(jobs) => thread::map_vec(shop.rt, jobs, &|job: Job| { work(shop, job) }),
-        None => Ok(Vec::new(shop.alloc)),
-    };
+    let outcome = thread::map_vec(shop.rt, jobs, &|job: Job| { work(shop, job) });
     shop.end();
     shop.queue.close(shop.rt);
     let mut found = false;
