@@ -4,3 +4,4 @@ pub mod StayAnswers
 pub mod Dealing
 pub mod StayText
 pub mod Outrunning
+pub mod StayFaults

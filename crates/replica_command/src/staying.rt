@@ -11,6 +11,7 @@ ghost use Rattle.replica_command.specs.StayAnswers.{both_endings, ending_of};
 ghost use Rattle.replica_command.specs.Dealing.{AreWorked, IsOutcomeAt};
 ghost use Rattle.replica_command.specs.StayText.{IsPrinted, IsStayPrinted, closed_line};
 ghost use Rattle.replica_command.specs.Blame.{BlamesOutput};
+ghost use Rattle.replica_command.specs.StayFaults.{IsStayFault, IsWorkFault};
 
 use crate::dealing::{deal, outcome_at};
 use crate::fault::ReplicaFault;
@@ -95,6 +96,8 @@ pub fn stay<N: DeskNaming + Send + Sync, T: Threads + Wait + Sync, D: Disk + Sen
     ensures receipts { IfOk result (λ end.
         AreReceipts end.opened end.closed.parts.log.steps end.closed.receipts.items) }
     ensures blame { BlamesOutput result (W.failed out.old) (W.failed out.new) }
+    ensures refused { IfErr result
+        (IsStayFault N.committee N.replica parts.trees.items parts.log parts.index) }
 {
     let opened = parts.log.count();
     let (desk, sessions) = match Desk::<N, D>::start(
@@ -151,6 +154,7 @@ fn print_outcomes<N: DeskNaming, W: Sink>(
     ensures printed { IfOk result (IsPrinted (W.text out.old) (W.text out.new) (map (λ d.
         d.outcomes.items) done.now) count) }
     ensures blame { BlamesOutput result (W.failed out.old) (W.failed out.new) }
+    ensures refused { IfErr result IsWorkFault }
 {
     let mut ending = Ending::Done;
     for number in 0..count {
@@ -171,6 +175,7 @@ fn print_turn<N: DeskNaming, W: Sink>(
         × (ending ≡ ending_of outcome)
         × Wrote (W.text out.old) (W.text out.new) (outcome_line outcome)) }
     ensures blame { BlamesOutput result (W.failed out.old) (W.failed out.new) }
+    ensures refused { IfErr result IsWorkFault }
 {
     let Some(outcome) = outcome_at(done, number) else {
         return Err(ReplicaFault::Receipts);
@@ -183,6 +188,7 @@ fn print_outcome<W: Sink>(outcome: &Outcome, out: &mut W) -> Result<(), ReplicaF
     ensures printed { OnOk result (Wrote (W.text out.old) (W.text out.new)
         (outcome_line outcome.now)) }
     ensures blame { BlamesOutput result (W.failed out.old) (W.failed out.new) }
+    ensures refused { IfErr result IsWorkFault }
 {
     match write_outcome(out, outcome) {
         Ok(()) => Ok(()),
@@ -203,6 +209,7 @@ fn close<N: DeskNaming, D: Disk>(
     ensures begins { IfOk result (λ closed.
         N.opening ≡ take (length N.opening) closed.parts.log.steps) }
     ensures fault { IfErr result (λ fault. fault ≢ ReplicaFault.Output) }
+    ensures refused { IfErr result IsWorkFault }
 {
     let mut sessions = Vec::with_capacity(alloc, done.len())?;
     for one in done {
@@ -218,6 +225,7 @@ fn close<N: DeskNaming, D: Disk>(
 fn print_count<W: Sink>(count: usize, out: &mut W) -> Result<(), ReplicaFault>
     ensures printed { OnOk result (Wrote (W.text out.old) (W.text out.new) (closed_line count)) }
     ensures blame { BlamesOutput result (W.failed out.old) (W.failed out.new) }
+    ensures refused { IfErr result IsWorkFault }
 {
     let mut line = Line::new();
     line.push(b"closed ");
