@@ -77,12 +77,12 @@ picture_text true = codes "<h2>Picture</h2>\n<p>Blocks of the latest views for w
 
 unfoldable pub sources_text : (every top second : ℕ) → List SourceSeen → List ℕ
 sources_text every top second sources =
-    codes "<h2>Sources</h2>\n<div class=\"wide\"><table>\n<tr><th>Source</th><th>Replica</th><th></th><th>Log</th><th>Entries</th><th>Behind by</th><th>Last answer</th><th>Last frame</th></tr>\n"
+    codes "<h2>Sources</h2>\n<div class=\"wide\"><table>\n<tr><th>Source</th><th>Replica</th><th></th><th>Log</th><th>Entries</th><th>Views behind</th><th>Last answer</th><th>Last frame</th></tr>\n"
     ++ flat_map (source_row every top second) sources ++ codes "</table></div>\n"
 
 unfoldable pub commits_text : (count : ℕ) → List Ballot → Option Fork → List ℕ
 commits_text count commits conflict =
-    codes "<h2>Commits</h2>\n" ++ conflict_text conflict ++ codes "<p>Proved commits: " ++ decimal count ++ codes ". The last of them:</p>\n<ul>\n"
+    codes "<h2>Commits</h2>\n" ++ conflict_text conflict ++ codes "<p>Proved commits: " ++ decimal count ++ codes " (the last 100 are listed)</p>\n<ul>\n"
     ++ flat_map commit_row commits ++ codes "</ul>\n"
 
 unfoldable pub foot_text : (chain : List ℕ) → List ℕ

@@ -28,7 +28,7 @@ age_text at second = if at == 0 then codes "never" else decimal (second - at) ++
 
 -- so many of its votes are not good
 unfoldable pub bad_text : ℕ → List ℕ
-bad_text bad = decimal bad ++ codes " votes of this source are not good: another committee, or another replica?"
+bad_text bad = codes "votes that are not good: " ++ decimal bad ++ codes " (another committee, or another replica?)"
 
 -- what there is to say of it
 unfoldable pub remark_text : SourceSeen → (every second : ℕ) → List ℕ
@@ -42,7 +42,7 @@ remark_text s every second =
 
 -- how many views it is behind the source that has the greatest
 unfoldable pub lag_text : (top view : ℕ) → List ℕ
-lag_text top view = decimal (top - view) ++ codes " views"
+lag_text top view = decimal (top - view)
 
 unfoldable pub cells_text : SourceSeen → (top second : ℕ) → List ℕ
 cells_text s top second =

@@ -214,7 +214,7 @@ fn put_all_sources(
 {
     append(
         text,
-        b"<h2>Sources</h2>\n<div class=\"wide\"><table>\n<tr><th>Source</th><th>Replica</th><th></th><th>Log</th><th>Entries</th><th>Behind by</th><th>Last answer</th><th>Last frame</th></tr>\n",
+        b"<h2>Sources</h2>\n<div class=\"wide\"><table>\n<tr><th>Source</th><th>Replica</th><th></th><th>Log</th><th>Entries</th><th>Views behind</th><th>Last answer</th><th>Last frame</th></tr>\n",
     )?;
     put_sources(text, every, top, second, sources)?;
     append(text, b"</table></div>\n")?;
@@ -234,7 +234,7 @@ fn put_all_commits(
     put_conflict(text, conflict)?;
     append(text, b"<p>Proved commits: ")?;
     put_number(text, count)?;
-    append(text, b". The last of them:</p>\n<ul>\n")?;
+    append(text, b" (the last 100 are listed)</p>\n<ul>\n")?;
     put_commits(text, commits)?;
     append(text, b"</ul>\n")?;
     Ok(())

@@ -47,19 +47,16 @@ fn put_age(text: &mut Vec<u8>, at: u64, second: u64) -> Result<(), AllocError>
 fn put_bad(text: &mut Vec<u8>, bad: u64) -> Result<(), AllocError>
     ensures { OnOk result (text.new.items ≡ text.old.items ++ bad_text bad) }
 {
+    append(text, b"votes that are not good: ")?;
     put_number(text, bad)?;
-    append(
-        text,
-        b" votes of this source are not good: another committee, or another replica?",
-    )
+    append(text, b" (another committee, or another replica?)")
 }
 
 #[tactic(auto, unfolding(crate::specs::Rows::lag_text))]
 fn put_lag(text: &mut Vec<u8>, top: u64, view: u64) -> Result<(), AllocError>
     ensures { OnOk result (text.new.items ≡ text.old.items ++ lag_text top view) }
 {
-    put_number(text, top.saturating_sub(view))?;
-    append(text, b" views")
+    put_number(text, top.saturating_sub(view))
 }
 
 #[tactic(auto, unfolding(crate::specs::Rows::remark_text))]
