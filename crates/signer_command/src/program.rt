@@ -1,6 +1,6 @@
 //! A signer from its words to its end.
 
-ghost use Rattle.std.specs.Prelude.{◌≡◌, ◌≢◌, ◌≤◌, ◌⊎◌, ◌++◌, IfErr, IfOk, OnErr, OnOk, codes, string_bytes};
+ghost use Rattle.std.specs.Prelude.{◌≡◌, ◌≢◌, ◌≤◌, ◌⊎◌, ◌++◌, IfErr, IfOk, OnErr, OnOk, codes, length, string_bytes};
 ghost use Rattle.streams.specs.Streams.{Wrote, WrotePart};
 ghost use Rattle.printed_lines.specs.Printed.{Told};
 ghost use Rattle.program_parts.specs.FaultLines.{fault_line};
@@ -164,23 +164,28 @@ where
         Ok(asked) => asked,
         Err(fault) => return Err(fault),
     };
-    let committee = match parse_committee(&bytes) {
+    let committee = match committee_in(host.alloc, &words, &bytes) {
         Ok(committee) => committee,
         Err(fault) => return Err(fault),
     };
-    match see_sources(host.alloc, &words, &committee) {
-        Ok(()) => {}
-        Err(fault) => return Err(fault),
-    }
     let notes = Notes::new(host.rt, host.alloc, notes, words.verbose);
-    let closed = match stand_by(host, &words, &committee, &notes, input, out) {
-        Ok(closed) => closed,
-        Err(fault) => return Err(fault),
-    };
-    match print_count(closed.parts.log.count(), out) {
-        Ok(()) => Ok(Ended::of(&closed)),
+    match stand_by(host, &words, &committee, &notes, input, out) {
+        Ok(closed) => end_of(&closed, out),
         Err(fault) => Err(fault),
     }
+}
+
+// The committee of these bytes, over which the words may ask for a signer.
+fn committee_in<'a, 'b>(
+    alloc: Global,
+    words: &Words<'_>,
+    bytes: &'b [u8],
+) -> Result<CommitteeView<'b>, Fault<'a>>
+    ensures { IfErr result (λ fault. fault ≢ ProgramFault.Output) }
+{
+    let committee = parse_committee(bytes)?;
+    see_sources(alloc, words, &committee)?;
+    Ok(committee)
 }
 
 // Whether each source is of a replica of the committee.
@@ -221,6 +226,22 @@ fn asked<'a, T: Files<File = File>>(
     let words = read_words(host.alloc, words)?;
     let bytes = read_committee(host.rt, host.alloc, words.committee)?;
     Ok((words, bytes))
+}
+
+// Prints how many entries the log has, and says how the signer ended.
+fn end_of<'a, W: Sink>(closed: &Closed<FileDisk>, out: &mut W) -> Result<Ended, Fault<'a>>
+    ensures ended { IfOk result (λ ended. ended ≡ ended_of closed.now) }
+    ensures ok { OnOk result (Wrote (W.text out.old) (W.text out.new)
+        (closed_line (length closed.now.parts.log.steps))) }
+    ensures err { OnErr result (WrotePart (W.text out.old) (W.text out.new)
+        (closed_line (length closed.now.parts.log.steps))) }
+    ensures refused { IfErr result (λ fault. fault ≡ ProgramFault.Output) }
+    ensures counted { CountsWrites result (W.failed out.old) (W.failed out.new) }
+{
+    match print_count(closed.parts.log.count(), out) {
+        Ok(()) => Ok(Ended::of(closed)),
+        Err(fault) => Err(fault),
+    }
 }
 
 fn print_count<'a, W: Sink>(count: usize, out: &mut W) -> Result<(), Fault<'a>>
@@ -278,12 +299,9 @@ where
         sockets: &sockets,
         notes,
     };
-    let closed = match stay_once(&room, committee, words.replica, parts, input, out) {
-        Ok(closed) => closed,
-        Err(fault) => return Err(fault),
-    };
+    let closed = stay_once(&room, committee, words.replica, parts, input, out);
     drop(lock);
-    Ok(closed)
+    closed
 }
 
 // The folder's lock, what is stored there, and the sockets.

@@ -1,23 +1,17 @@
-use Rattle.signer_command.proofs.Printing.{all_printed, given_up_writing, nothing_given_up, part_of_last}
+use Rattle.signer_command.proofs.Printing.{nothing_given_up}
+use Rattle.signer_command.proofs.Running.{gave_up_last, ran}
 use Rattle.signer_command.proofs.program.run.Goals as goal
 
 pub returns-in-Err-clause-given_up : goal.returns-in-Err-clause-given_up
 returns-in-Err-clause-given_up g c = nothing_given_up _ _
 
-pub returns-in-Err-see_sources-clause-given_up : goal.returns-in-Err-see_sources-clause-given_up
-returns-in-Err-see_sources-clause-given_up g c = nothing_given_up _ _
+pub returns-in-Err-committee_in-clause-given_up : goal.returns-in-Err-committee_in-clause-given_up
+returns-in-Err-committee_in-clause-given_up g c = nothing_given_up _ _
 
-pub returns-in-Ok-print_count-clause-done : goal.returns-in-Ok-print_count-clause-done
-returns-in-Ok-print_count-clause-done g c = let stay = c.in-Ok-stand_by.ensures.done in record {
-  places = stay.places;
-  opened = stay.opened;
-  closed = c.in-Ok-stand_by.closed;
-  backed = stay.backed;
-  ends = c.of.ensures;
-  wrote = all_printed _ _ _ stay.places c.count.result _ stay.wrote c.in-Ok-print_count.ensures.ok c.count.ensures.value;
-}
+pub returns-in-Ok-stand_by-clause-done : goal.returns-in-Ok-stand_by-clause-done
+returns-in-Ok-stand_by-clause-done g c =
+    ran _ c.end_of.result _ _ _ c.in-Ok-stand_by.closed c.in-Ok-stand_by.ensures.done c.end_of.ensures.ended c.end_of.ensures.ok
 
-pub returns-clause-given_up : goal.returns-clause-given_up
-returns-clause-given_up g c = let stay = c.in-Ok-stand_by.ensures.done in
-    given_up_writing _ _ _ c.in-Err-print_count.ensures.refused
-    (part_of_last _ _ _ stay.places c.count.result stay.wrote c.in-Err-print_count.ensures.err)
+pub returns-in-Ok-stand_by-clause-given_up : goal.returns-in-Ok-stand_by-clause-given_up
+returns-in-Ok-stand_by-clause-given_up g c =
+    gave_up_last c.end_of.result _ _ _ c.in-Ok-stand_by.closed c.in-Ok-stand_by.ensures.done c.end_of.ensures.refused c.end_of.ensures.err
