@@ -1,6 +1,9 @@
 -- What a program says of itself.
-use Rattle.std.specs.Prelude.{◌++◌, ℕ, List, String, codes, map, string_bytes}
+use Rattle.std.specs.Prelude.{◌≡◌, ◌⊎◌, ◌++◌, ℕ, List, String, codes, map, string_bytes}
 use Rattle.std.specs.declared.alloc.Global.{Global}
+use Rattle.program_parts.specs.declared.no_fault.NoFault.{NoFault}
+use Rattle.program_parts.specs.declared.program_fault.ProgramFault.{ProgramFault}
+use Rattle.program_parts.specs.declared.program_fault.ProgramFault.TheVariants as fault
 use Rattle.program_help.specs.declared.asking.Asked.{Asked}
 use Rattle.program_help.specs.declared.asking.Asked.TheVariants as asked
 use Rattle.program_help.specs.declared.help.Help.{Help}
@@ -23,3 +26,7 @@ version_line help = help.name.now ++ codes " " ++ version_text ++ codes "\n"
 abbrev pub answer_text : Help → Asked → List ℕ
 answer_text help asked.Help = help.text.now
 answer_text help asked.Version = version_line help
+
+-- memory was refused, or the output takes no more
+abbrev pub IsHelpFault : ProgramFault NoFault → Type 0
+IsHelpFault f = (f ≡ fault.Memory) ⊎ (f ≡ fault.Output)

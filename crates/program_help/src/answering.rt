@@ -6,7 +6,7 @@ ghost use Rattle.printed_lines.specs.Printed.{Told};
 ghost use Rattle.program_parts.specs.FaultLines.{fault_line, no_fault_line};
 ghost use Rattle.program_parts.specs.declared.no_fault.NoFault.{NoFault as OwnFaultValue};
 ghost use Rattle.program_parts.specs.declared.program_fault.ProgramFault.{ProgramFault as FaultValue};
-ghost use Rattle.program_help.specs.Helps.{answer_text, version_line};
+ghost use Rattle.program_help.specs.Helps.{IsHelpFault, answer_text, version_line};
 
 use crate::asking::Asked;
 use crate::help::{Help, VERSION};
@@ -27,7 +27,7 @@ pub fn run_help<W: Sink, E: Sink>(
     ensures status { result ≢ 2 → result ≡ 0 }
     ensures told { result ≢ 2 → Wrote (W.text out.old) (W.text out.new) (answer_text help.now asked) }
     ensures silent { result ≢ 2 → faults.new ≡ faults.old }
-    ensures given_up { result ≡ 2 → (fault : FaultValue OwnFaultValue) × (fault ≢ ProgramFault.Usage)
+    ensures given_up { result ≡ 2 → (fault : FaultValue OwnFaultValue) × IsHelpFault fault
         × Told (E.text faults.old) (E.text faults.new) (E.failed faults.old) (E.failed faults.new)
         (fault_line no_fault_line fault) }
 {
@@ -42,7 +42,7 @@ fn tell<'a, W: Sink>(
 ) -> Result<u8, ProgramFault<'a, NoFault>>
     ensures status { IfOk result (λ status. status ≡ 0) }
     ensures told { OnOk result (Wrote (W.text out.old) (W.text out.new) (answer_text help.now asked)) }
-    ensures asked { IfErr result (λ fault. fault ≢ ProgramFault.Usage) }
+    ensures fault { IfErr result IsHelpFault }
 {
     write_out(out, &text_of(alloc, help, asked)?)?;
     Ok(0)

@@ -26,7 +26,7 @@ Says whether the committee of the file OLD handed its ledger over to that of the
 file NEW. SOURCE is the log of replica R of OLD: R=file:PATH, an export, or\n\
 R=tcp:HOST:PORT, as hs_signer --serve hands it out.\n\
 \n\
-  --proof OUT   writes what proves the handover to the new file OUT\n\
+\x20 --proof OUT   writes what proves the handover to the new file OUT\n\
 \n\
 Status: 0 it names NEW; 1 it names another, or there is none; 3 commits\n\
 conflict; 2 a fault. See hs_follow(1).\n",
@@ -43,19 +43,19 @@ Votes for replica R of the committee, for a ledger that asks it over HTTP. DIR\n
 is the replica's folder, as hs_tool keygen made it: never copy it, and never\n\
 put it back to a backup.\n\
 \n\
-  --listen WHERE     unix:PATH, or tcp:ADDRESS of this machine\n\
-                     (unix:DIR/signer.sock)\n\
-  --read ADDRESS     a second address, where nothing can be posted\n\
-  --serve ADDRESS    hands out the log there, to audits and other signers\n\
-  --ask SOURCE       the log of another replica, R=tcp:HOST:PORT or R=file:PATH,\n\
-                     read before any vote; once for each other replica\n\
-  --successor FILE   the committee's file that the ledger may be handed over to\n\
-  --sessions N       how many connections are answered at once: 1 to 64 (16)\n\
-  --furthest D       how far above the vote view a view may lie (4096)\n\
-  --host NAME        a name that Host may have over TCP\n\
-  --group            lets the signer's group connect to the socket at PATH\n\
-  --while-input      ends where standard input ends\n\
-  --verbose          a line on standard error for each call\n\
+\x20 --listen WHERE     unix:PATH, or tcp:ADDRESS of this machine\n\
+\x20                    (unix:DIR/signer.sock)\n\
+\x20 --read ADDRESS     a second address, where nothing can be posted\n\
+\x20 --serve ADDRESS    hands out the log there, to audits and other signers\n\
+\x20 --ask SOURCE       the log of another replica, R=tcp:HOST:PORT or R=file:PATH,\n\
+\x20                    read before any vote; once for each other replica\n\
+\x20 --successor FILE   the committee's file that the ledger may be handed over to\n\
+\x20 --sessions N       how many connections are answered at once: 1 to 64 (16)\n\
+\x20 --furthest D       how far above the vote view a view may lie (4096)\n\
+\x20 --host NAME        a name that Host may have over TCP\n\
+\x20 --group            lets the signer's group connect to the socket at PATH\n\
+\x20 --while-input      ends where standard input ends\n\
+\x20 --verbose          a line on standard error for each call\n\
 \n\
 Status: 0 ended; 4 the log was put back; 2 a fault. See hs_signer(1).\n",
 };
@@ -72,15 +72,15 @@ Watches the logs of replicas, and writes a verdict on each culprit to OUTDIR, a\
 folder that is there. SOURCE is the log of replica R: R=tcp:HOST:PORT, as\n\
 hs_signer --serve hands it out, or R=file:PATH, an export.\n\
 \n\
-  --every SECONDS     how long it waits before it asks a source again (1)\n\
-  --reread SECONDS    after how long it reads all of a log again (3600)\n\
-  --listen ADDRESS    tells over HTTP what it knows, as at 127.0.0.1:7190\n\
-  --host NAME         a name that Host may have there; only with --listen\n\
-  --state DIR         keeps what it reads in the folder DIR\n\
-  --keep-most BYTES   how much DIR may hold; only with --state\n\
-  --until-culprit     ends with status 3 once the first verdict is stored\n\
-  --until-input-ends  ends where standard input ends\n\
-  --export R-I OUT    writes the logs that DIR keeps of source I of replica R\n\
+\x20 --every SECONDS     how long it waits before it asks a source again (1)\n\
+\x20 --reread SECONDS    after how long it reads all of a log again (3600)\n\
+\x20 --listen ADDRESS    tells over HTTP what it knows, as at 127.0.0.1:7190\n\
+\x20 --host NAME         a name that Host may have there; only with --listen\n\
+\x20 --state DIR         keeps what it reads in the folder DIR\n\
+\x20 --keep-most BYTES   how much DIR may hold; only with --state\n\
+\x20 --until-culprit     ends with status 3 once the first verdict is stored\n\
+\x20 --until-input-ends  ends where standard input ends\n\
+\x20 --export R-I OUT    writes the logs that DIR keeps of source I of replica R\n\
 \n\
 Status: 0 ended, no culprit; 3 ended, culprits; 2 a fault. See hs_watch(1).\n",
 };
