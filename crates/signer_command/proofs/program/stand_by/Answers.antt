@@ -9,5 +9,5 @@ returns-in-Err-clause-given_up g c = nothing_given_up _ _
 
 pub returns-clause-done : goal.returns-clause-done
 returns-clause-done g c =
-    stayed c.stay_once.result _ _ (places_of c.in-Ok.opened.2) (length c.in-Ok.opened.1.log.steps)
-    c.stay_once.ensures.receipts c.stay_once.ensures.said
+    stayed c.stay_once-closed.result _ _ (places_of c.in-Ok.opened.2) (length c.in-Ok.opened.1.log.steps)
+    c.stay_once-closed.ensures.receipts c.stay_once-closed.ensures.said
