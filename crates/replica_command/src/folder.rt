@@ -1,8 +1,9 @@
 //! What a replica's folder stores.
 
-ghost use Rattle.std.specs.Prelude.{◌≢◌, ◌≤◌, IfErr};
+ghost use Rattle.std.specs.Prelude.{◌≡◌, ◌≢◌, ◌≤◌, IfErr, IfSome, OnOk, false, length};
 ghost use Rattle.blocks.specs.Headers.{IsGenesis};
 ghost use Rattle.wire.specs.declared.limits.TheConstants.{MOST_KEYS};
+ghost use Rattle.replica_command.specs.Outrunning.{NoneOutruns};
 
 use crate::fault::{ReplicaFault, ReplicaFile};
 use crate::outrunning::log_outruns;
@@ -15,7 +16,7 @@ use parallel_keys::generate_parallel;
 use program_parts::{InputFault, read_at_most};
 use put_back_file::PUT_BACK;
 use safe_files::is_nothing_at;
-use stable_log::FileDisk;
+use stable_log::{Disk, FileDisk};
 use std::alloc::Global;
 use std::fs::{File, Files, OpenOptions, Permissions};
 use std::io;
@@ -193,13 +194,15 @@ impl<F: Files<File = File>> ReplicaFolder<'_, F> {
 }
 
 // Refuses an index store that has not reserved the index of each good vote of the log.
-fn refuse_older(
-    index: &IndexStore<FileDisk>,
-    log: &mut VoteLog<FileDisk>,
+fn refuse_older<D: Disk>(
+    index: &IndexStore<D>,
+    log: &mut VoteLog<D>,
     committee: &CommitteeView,
     replica: u16,
 ) -> Result<(), ReplicaFault>
-    ensures { IfErr result (λ fault. fault ≢ ReplicaFault.Output) }
+    ensures none { index.now.stopped ≡ false → OnOk result (IfSome (D.bytes log.old.disk) (λ _.
+        NoneOutruns committee.now replica index.now.mark log.old.entries (length log.old.steps))) }
+    ensures refused { IfErr result (λ fault. fault ≢ ReplicaFault.Output) }
 {
     let boundary = INDICES * u32::from(index.keys()) - index.left();
     match log_outruns(log, committee, replica, boundary) {
