@@ -124,7 +124,7 @@ fn entries_in(
     ensures ok { IfOk result (λ entries. entries.items ≡ entries_in bytes.now count) }
     ensures err { IfErr result (λ refusal. refusal ≡ CertificateRefusal.Memory) }
 {
-    let mut entries = Vec::new(alloc);
+    let mut entries = Vec::with_capacity(alloc, usize::from(count))?;
     for k in 0..count {
         entries.push(endorsement_at(bytes, k))?;
     }
@@ -316,6 +316,19 @@ impl Certificate {
             key: entry.key,
             signature: entry.signature,
         }
+    }
+
+    /// Whether vote `k`, counted from 0, which must be below `count`, is this one. It is compared in place.
+    pub fn has_vote(&self, k: usize, vote: &SignedVote) -> bool
+        requires { k < length self.now.entries }
+        ensures { IsTrue result → vote.now ≡ vote_of self.now (nth_endorsement self.now k) }
+    {
+        let entry = &self.entries[k];
+        entry.replica == vote.replica
+            && self.view == vote.view
+            && self.id == vote.id
+            && entry.key == vote.key
+            && entry.signature == vote.signature
     }
 
     // The votes as they are kept.
