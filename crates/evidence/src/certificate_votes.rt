@@ -4,6 +4,7 @@ ghost use Rattle.std.specs.Prelude.{◌≡◌, ◌∷◌, ◌++◌, [], IfOk, Is
 ghost use Rattle.evidence.specs.NamedVotes.{AreVotesOf, HaveSame};
 
 use crate::keeper::VoteKeeper;
+use crate::mark::Mark;
 use blocks::Id;
 use certificates::{Certificate, SignedVote};
 use shared_values::Shared;
@@ -45,7 +46,7 @@ impl CertificateVotes {
     ) -> Result<CertificateVotes, AllocError>
         ensures { IfOk result (AreVotesOf certificate.now) }
     {
-        let mut votes = Vec::new(alloc);
+        let mut votes = Vec::with_capacity(alloc, certificate.count())?;
         for k in 0..certificate.count() {
             put(&mut votes, keeper.vote(&certificate.vote(k))?)?;
         }
@@ -55,23 +56,23 @@ impl CertificateVotes {
         })
     }
 
-    /// Whether these are the votes of this certificate: as many, each the same in its place.
-    pub fn are_of(&self, certificate: &Certificate) -> bool
+    // Whether these are the votes of this certificate: as many, each the same in its place.
+    fn are_of(&self, certificate: &Certificate) -> bool
         ensures { IsTrue result → AreVotesOf certificate.now self.now }
     {
         if self.votes.len() != certificate.count() {
             return false;
         }
         for k in 0..self.votes.len() {
-            if *self.votes[k].get() != certificate.vote(k) {
+            if !certificate.has_vote(k, self.votes[k].get()) {
                 return false;
             }
         }
         true
     }
 
-    /// Whether the other has the same votes in the same places.
-    pub(crate) fn is(&self, other: &CertificateVotes) -> bool
+    // Whether the other has the same votes in the same places.
+    fn is(&self, other: &CertificateVotes) -> bool
         ensures { IsTrue result → HaveSame self.now other.now }
     {
         if self.votes.len() != other.votes.len() {
@@ -85,15 +86,69 @@ impl CertificateVotes {
         true
     }
 
-    /// The id of the block that they are for.
-    pub(crate) fn block(&self) -> &Id {
+    // The id of the block that they are for.
+    fn block(&self) -> &Id {
         &self.block
     }
 
-    /// The votes.
-    pub(crate) fn votes(&self) -> &[Shared<SignedVote>]
+    // The votes.
+    fn votes(&self) -> &[Shared<SignedVote>]
         ensures { result.now ≡ self.now }
     {
         &self.votes
+    }
+}
+
+/// The votes of a certificate as a keeper keeps them, with its mark. Contracts see the votes.
+#[derive(Drop)]
+pub struct KeptCertificate<M: Mark> {
+    votes: Shared<CertificateVotes>,
+    mark: M,
+}
+
+impl<M: Mark> Model for KeptCertificate<M> {
+    ghost use Rattle.std.specs.Prelude.{List};
+    ghost use Rattle.certificates.specs.declared.vote.SignedVote.{SignedVote as SignedVoteValue};
+
+    ghost Value = { List SignedVoteValue };
+
+    ghost view = { λ k. k.votes };
+
+    ghost invariant = { λ k. M.marks k.mark k.votes };
+}
+
+impl<M: Mark> KeptCertificate<M> {
+    /// These votes, which the mark has to mark.
+    pub fn new(votes: Shared<CertificateVotes>, mark: M) -> KeptCertificate<M>
+        requires { M.marks mark votes }
+        ensures { result ≡ votes }
+    {
+        KeptCertificate { votes, mark }
+    }
+
+    /// Whether these are the votes of this certificate: as many, each the same in its place.
+    pub fn are_of(&self, certificate: &Certificate) -> bool
+        ensures { IsTrue result → AreVotesOf certificate.now self.now }
+    {
+        self.votes.get().are_of(certificate)
+    }
+
+    // The id of the block that they are for.
+    pub(crate) fn block(&self) -> &Id {
+        self.votes.get().block()
+    }
+
+    // The votes.
+    pub(crate) fn votes(&self) -> &[Shared<SignedVote>]
+        ensures { result.now ≡ self.now }
+    {
+        self.votes.get().votes()
+    }
+
+    // Whether the other has the same votes in the same places, which are not compared where both have one mark.
+    pub(crate) fn is(&self, other: &KeptCertificate<M>) -> bool
+        ensures { IsTrue result → HaveSame self.now other.now }
+    {
+        self.mark.is(&other.mark) || self.votes.get().is(other.votes.get())
     }
 }

@@ -12,6 +12,7 @@ ghost use Rattle.evidence.specs.Gathering.{those};
 use crate::gathering::Gathered;
 use crate::keeper::Anew;
 use crate::listing::Listing;
+use crate::mark::Unmarked;
 use crate::refusal::EvidenceRefusal;
 use crate::source::{SourceLog, SourceReport};
 use ancestry::header_of;
@@ -227,7 +228,7 @@ pub fn evidence_of_logs<'a>(
     ensures ok { IfOk result (IsEvidenceOf committee.now logs.now) }
     ensures refused { IfErr result (IsEvidenceRefusal (IsHeaderInEvidence committee.now logs.now)) }
 {
-    let mut gathered = Gathered::new(alloc, committee)?;
+    let mut gathered = Gathered::<Unmarked>::new(alloc, committee)?;
     let mut reports = Vec::new(alloc);
     for log in logs {
         put(&mut reports, gathered.add_log(alloc, &Anew { alloc }, log)?)?;

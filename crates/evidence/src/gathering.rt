@@ -12,10 +12,11 @@ ghost use Rattle.evidence.specs.declared.refusal.EvidenceRefusal.TheVariants.{Me
 ghost use Rattle.evidence.specs.Sets.{InSome};
 ghost use Rattle.evidence.specs.Logs.{FrameHasHeader, FrameNamesVote, HasHeader, HasVote, HaveEntries, LogHasHeader, LogNamesVote, SpellsEntry};
 
-use crate::certificate_votes::CertificateVotes;
+use crate::certificate_votes::KeptCertificate;
 use crate::headers::HeaderSet;
 use crate::keeper::Keeper;
 use crate::listing::{Listing, copies};
+use crate::mark::{Mark, Unmarked};
 use crate::named_votes::NamedVotes;
 use crate::refusal::EvidenceRefusal;
 use crate::source::{SourceLog, SourceReport};
@@ -28,13 +29,13 @@ use std::marker::Model;
 
 /// Headers and votes that logs name, gathered under a committee, each once, and genesis. No vote is checked yet.
 #[derive(Drop)]
-pub struct Gathered<'a> {
+pub struct Gathered<'a, M: Mark = Unmarked> {
     committee: CommitteeView<'a>,
     headers: HeaderSet,
-    votes: NamedVotes,
+    votes: NamedVotes<M>,
 }
 
-impl<'a> Model for Gathered<'a> {
+impl<'a, M: Mark> Model for Gathered<'a, M> {
     ghost use Rattle.evidence.specs.Gathering.{Gathered as GatheredValue};
 
     ghost Value = { GatheredValue };
@@ -42,9 +43,9 @@ impl<'a> Model for Gathered<'a> {
     ghost view = { λ g. record { committee = g.committee; headers = g.headers; votes = g.votes } };
 }
 
-impl<'a> Gathered<'a> {
+impl<'a, M: Mark> Gathered<'a, M> {
     /// Genesis alone.
-    pub fn new(alloc: Global, committee: &CommitteeView<'a>) -> Result<Gathered<'a>, AllocError>
+    pub fn new(alloc: Global, committee: &CommitteeView<'a>) -> Result<Gathered<'a, M>, AllocError>
         ensures committee { IfOk result (λ g. g.committee ≡ committee.now) }
         ensures headers { IfOk result (λ g. (h : Header) → Contains g.headers h
             ↔ (h ≡ genesis_of committee.now)) }
@@ -77,7 +78,11 @@ impl<'a> Gathered<'a> {
         Ok(true)
     }
 
-    fn add_header<K: Keeper>(&mut self, keeper: &K, header: &Header) -> Result<(), EvidenceRefusal>
+    fn add_header<K: Keeper<M>>(
+        &mut self,
+        keeper: &K,
+        header: &Header,
+    ) -> Result<(), EvidenceRefusal>
         ensures ok { OnOk result (Grows self.old self.new (λ h. h ≡ header.now) IsNone) }
         ensures err { IfErr result (IsGatheringRefusal self.old (λ h. h ≡ header.now)) }
         // Nothing grows for a header that is gathered already, nor for one that collides.
@@ -98,13 +103,13 @@ impl<'a> Gathered<'a> {
         self.votes.insert(vote)
     }
 
-    fn add_votes_of(&mut self, certificate: Shared<CertificateVotes>) -> Result<(), AllocError>
+    fn add_votes_of(&mut self, certificate: Shared<KeptCertificate<M>>) -> Result<(), AllocError>
         ensures { OnOk result (Grows self.old self.new IsNone (Contains certificate)) }
     {
         self.votes.insert_certificate(certificate)
     }
 
-    fn add_certificate<K: Keeper>(
+    fn add_certificate<K: Keeper<M>>(
         &mut self,
         keeper: &K,
         certificate: &Certificate,
@@ -114,7 +119,7 @@ impl<'a> Gathered<'a> {
         self.add_votes_of(keeper.certificate(certificate)?)
     }
 
-    fn add_own_vote<K: Keeper>(
+    fn add_own_vote<K: Keeper<M>>(
         &mut self,
         keeper: &K,
         replica: u16,
@@ -128,7 +133,11 @@ impl<'a> Gathered<'a> {
         Ok(())
     }
 
-    fn add_headers<K: Keeper>(&mut self, keeper: &K, entry: &Entry) -> Result<(), EvidenceRefusal>
+    fn add_headers<K: Keeper<M>>(
+        &mut self,
+        keeper: &K,
+        entry: &Entry,
+    ) -> Result<(), EvidenceRefusal>
         ensures ok { OnOk result (Grows self.old self.new (HasHeader entry.now) IsNone) }
         ensures err { IfErr result (IsGatheringRefusal self.old (HasHeader entry.now)) }
     {
@@ -136,7 +145,7 @@ impl<'a> Gathered<'a> {
         self.add_header(keeper, entry.parent())
     }
 
-    fn add_votes<K: Keeper>(
+    fn add_votes<K: Keeper<M>>(
         &mut self,
         keeper: &K,
         replica: u16,
@@ -149,7 +158,7 @@ impl<'a> Gathered<'a> {
     }
 
     // Adds what an entry of a replica's log names.
-    fn add_entry<K: Keeper>(
+    fn add_entry<K: Keeper<M>>(
         &mut self,
         keeper: &K,
         replica: u16,
@@ -166,7 +175,7 @@ impl<'a> Gathered<'a> {
 
     /// Adds what a frame of a replica's log names, if it is an entry: its headers and its votes, which are not checked.
     /// Answers whether it is. After a refusal a part of it may have been added.
-    pub fn add_frame<K: Keeper>(
+    pub fn add_frame<K: Keeper<M>>(
         &mut self,
         alloc: Global,
         keeper: &K,
@@ -191,7 +200,7 @@ impl<'a> Gathered<'a> {
     }
 
     // Adds what the frames of a replica's log name. Answers how many are entries.
-    fn add_frames<K: Keeper>(
+    fn add_frames<K: Keeper<M>>(
         &mut self,
         alloc: Global,
         keeper: &K,
@@ -214,7 +223,7 @@ impl<'a> Gathered<'a> {
     }
 
     /// Adds what a log names. After a refusal a part of it may have been added.
-    pub fn add_log<K: Keeper>(
+    pub fn add_log<K: Keeper<M>>(
         &mut self,
         alloc: Global,
         keeper: &K,
@@ -267,7 +276,7 @@ impl<'a> Gathered<'a> {
 
     fn absorb_certificates(
         &mut self,
-        certificates: &[Shared<CertificateVotes>],
+        certificates: &[Shared<KeptCertificate<M>>],
     ) -> Result<(), AllocError>
         ensures { OnOk result (Grows self.old self.new IsNone
             (Contains (joined certificates.now))) }
@@ -281,7 +290,7 @@ impl<'a> Gathered<'a> {
     fn absorb_all_votes(
         &mut self,
         votes: &[Shared<SignedVote>],
-        certificates: &[Shared<CertificateVotes>],
+        certificates: &[Shared<KeptCertificate<M>>],
     ) -> Result<(), AllocError>
         ensures { OnOk result (Grows self.old self.new IsNone
             (Contains (all_votes votes.now certificates.now))) }
@@ -296,7 +305,7 @@ impl<'a> Gathered<'a> {
         &mut self,
         headers: &[Shared<NamedHeader>],
         votes: &[Shared<SignedVote>],
-        certificates: &[Shared<CertificateVotes>],
+        certificates: &[Shared<KeptCertificate<M>>],
     ) -> Result<(), EvidenceRefusal>
         ensures ok { OnOk result (Grows self.old self.new (Contains headers.now)
             (Contains (all_votes votes.now certificates.now))) }
@@ -315,7 +324,7 @@ impl<'a> Gathered<'a> {
         (
             Vec<Shared<NamedHeader>>,
             Vec<Shared<SignedVote>>,
-            Vec<Shared<CertificateVotes>>,
+            Vec<Shared<KeptCertificate<M>>>,
         ),
         AllocError,
     >

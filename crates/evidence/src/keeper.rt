@@ -3,7 +3,8 @@
 ghost use Rattle.std.specs.Prelude.{◌≡◌, IfOk};
 ghost use Rattle.evidence.specs.NamedVotes.{AreVotesOf};
 
-use crate::certificate_votes::CertificateVotes;
+use crate::certificate_votes::{CertificateVotes, KeptCertificate};
+use crate::mark::{Mark, Unmarked};
 use blocks::NamedHeader;
 use certificates::{Certificate, SignedVote};
 use shared_values::Shared;
@@ -17,9 +18,12 @@ pub trait VoteKeeper {
 }
 
 /// Keeps votes, certificates and headers that logs name. It may hand out one value, shared, for those that are equal.
-pub trait Keeper: VoteKeeper {
+pub trait Keeper<M: Mark>: VoteKeeper {
     /// The votes of this certificate. Memory is refused where they, or a place for them, could not be made.
-    fn certificate(&self, certificate: &Certificate) -> Result<Shared<CertificateVotes>, AllocError>
+    fn certificate(
+        &self,
+        certificate: &Certificate,
+    ) -> Result<Shared<KeptCertificate<M>>, AllocError>
         ensures { IfOk result (AreVotesOf certificate.now) };
 
     /// This header. Memory is refused where it, or a place for it, could not be made.
@@ -40,15 +44,14 @@ impl VoteKeeper for Anew {
     }
 }
 
-impl Keeper for Anew {
+impl Keeper<Unmarked> for Anew {
     fn certificate(
         &self,
         certificate: &Certificate,
-    ) -> Result<Shared<CertificateVotes>, AllocError> {
-        Shared::new(
-            self.alloc,
-            CertificateVotes::of(self.alloc, self, certificate)?,
-        )
+    ) -> Result<Shared<KeptCertificate<Unmarked>>, AllocError> {
+        let votes = CertificateVotes::of(self.alloc, self, certificate)?;
+        let votes = Shared::new(self.alloc, votes)?;
+        Shared::new(self.alloc, KeptCertificate::new(votes, Unmarked))
     }
 
     fn header(&self, header: &NamedHeader) -> Result<Shared<NamedHeader>, AllocError> {

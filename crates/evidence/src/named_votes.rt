@@ -7,7 +7,8 @@ ghost use Rattle.certificates.specs.declared.vote.SignedVote.{SignedVote as Sign
 ghost use Rattle.evidence.specs.Gathering.{Gains};
 ghost use Rattle.evidence.specs.NamedVotes.{all_votes, joined, AreSame};
 
-use crate::certificate_votes::CertificateVotes;
+use crate::certificate_votes::KeptCertificate;
+use crate::mark::Mark;
 use crate::votes::VoteSet;
 use blocks::Id;
 use certificates::SignedVote;
@@ -19,14 +20,14 @@ use std::marker::Model;
 /// Votes that stand alone, each once, and certificates: of those for one block that have the votes of the first of them that
 /// first alone. Contracts see the list of all votes.
 #[derive(Drop)]
-pub struct NamedVotes {
+pub struct NamedVotes<M: Mark> {
     alone: VoteSet,
-    certificates: Vec<Shared<CertificateVotes>>,
+    certificates: Vec<Shared<KeptCertificate<M>>>,
     // Where the first certificate for each block stands.
     places: BTreeMap<Id, usize>,
 }
 
-impl Model for NamedVotes {
+impl<M: Mark> Model for NamedVotes<M> {
     ghost use Rattle.std.specs.Prelude.{List};
     ghost use Rattle.certificates.specs.declared.vote.SignedVote.{SignedVote as SignedVoteValue};
     ghost use Rattle.evidence.specs.NamedVotes.{all_votes};
@@ -36,9 +37,9 @@ impl Model for NamedVotes {
     ghost view = { λ n. all_votes n.alone n.certificates.items };
 }
 
-impl NamedVotes {
+impl<M: Mark> NamedVotes<M> {
     /// No votes.
-    pub(crate) fn new(alloc: Global) -> NamedVotes
+    pub(crate) fn new(alloc: Global) -> NamedVotes<M>
         ensures { result ≡ [] }
     {
         NamedVotes {
@@ -59,7 +60,7 @@ impl NamedVotes {
     /// added.
     pub(crate) fn insert_certificate(
         &mut self,
-        certificate: Shared<CertificateVotes>,
+        certificate: Shared<KeptCertificate<M>>,
     ) -> Result<(), AllocError>
         ensures { OnOk result (Gains self.old self.new (Contains certificate)) }
     {
@@ -80,7 +81,7 @@ impl NamedVotes {
     pub(crate) fn into_parts(
         self,
         alloc: Global,
-    ) -> Result<(Vec<Shared<SignedVote>>, Vec<Shared<CertificateVotes>>), AllocError>
+    ) -> Result<(Vec<Shared<SignedVote>>, Vec<Shared<KeptCertificate<M>>>), AllocError>
         ensures { IfOk result (λ parts. all_votes parts.0.items parts.1.items ≡ self) }
     {
         let NamedVotes {
@@ -136,10 +137,10 @@ fn add_all(votes: &mut VoteSet, more: &[Shared<SignedVote>]) -> Result<(), Alloc
 }
 
 // Whether the certificate at this place, if there is one, has the same votes.
-fn has_same(
-    certificates: &[Shared<CertificateVotes>],
+fn has_same<M: Mark>(
+    certificates: &[Shared<KeptCertificate<M>>],
     at: Option<usize>,
-    certificate: &CertificateVotes,
+    certificate: &KeptCertificate<M>,
 ) -> bool
     ensures { IsTrue result → (v : SignedVoteValue) → Contains certificate.now v → Contains (joined certificates.now) v }
 {

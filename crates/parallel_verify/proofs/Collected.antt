@@ -23,8 +23,7 @@ use Rattle.evidence.specs.declared.refusal.EvidenceRefusal.TheVariants.{Memory}
 use Rattle.evidence.specs.declared.source.SourceReport.{SourceReport}
 use Rattle.evidence.proofs.Gatherings.{fault_as, fault_later, grown_as, grown_both, grown_start, in_more}
 use Rattle.parallel_verify.specs.Collections.{IsGathering, IsLogFrom, reader_at, tally_of}
-use Rattle.parallel_verify.specs.Parts.{IsGathered, PartHasHeader}
-use Rattle.parallel_verify.specs.declared.part.Part.{Part}
+use Rattle.parallel_verify.specs.Parts.{IsGathered, Part, PartHasHeader}
 
 abbrev Gives : Type 1
 Gives = ℕ → ℕ → ℕ → Connection → Type 0
@@ -116,7 +115,7 @@ module _ {C : Type 0} (gives : C → Gives) (reaches : C → C → Type 0) (fail
 
     -- all came
     pub gathered_all : (b : Gathered) (p : Part) (l : ReceivedLog) (after : C) → a.votes ≡ [] → IsLogFrom (gives connector) (first_place tries) replica l → Grows a b (LogHasHeader l) (LogNamesVote l) → IsReportOf l p.report
-        → p.headers.items ≡ b.headers → all_votes p.votes.items p.certificates.items ≡ b.votes → reaches connector after → HasCause (failed connector) (failed after) p.report.status → IsGathered gives reaches failed connector tries replica committee (Ok p)
+        → p.headers ≡ b.headers → all_votes p.votes p.certificates ≡ b.votes → reaches connector after → HasCause (failed connector) (failed after) p.report.status → IsGathered gives reaches failed connector tries replica committee (Ok p)
     gathered_all b p l after none from grows report headers votes reached cause = record {
       log = l;
       of = record { of = from.of; fetched = from.outcome };

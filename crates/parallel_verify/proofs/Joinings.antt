@@ -17,12 +17,11 @@ use Rattle.evidence.specs.declared.refusal.EvidenceRefusal.TheVariants.{Memory, 
 use Rattle.evidence.specs.declared.source.SourceReport.{SourceReport}
 use Rattle.evidence.proofs.Gatherings.{fault_as, fault_at, grown_as, grown_step, zip_length, zip_more}
 use Rattle.parallel_verify.specs.Collections.{IsRefusalOfSources}
-use Rattle.parallel_verify.specs.Parts.{HasReport, IsJoined, IsPartOn, IsResultOn, PartHasHeader}
-use Rattle.parallel_verify.specs.declared.part.Part.{Part}
+use Rattle.parallel_verify.specs.Parts.{HasReport, IsJoined, IsPartOn, IsResultOn, Part, PartHasHeader}
 
 -- ---- one part
 
-pub part_joined : (r : Result SourceReport EvidenceRefusal) (a b : Gathered) (p : Part) (result : Result Part EvidenceRefusal) → result ≡ Ok p → OnOk r (Grows a b (Contains p.headers.items) (Contains (all_votes p.votes.items p.certificates.items)))
+pub part_joined : (r : Result SourceReport EvidenceRefusal) (a b : Gathered) (p : Part) (result : Result Part EvidenceRefusal) → result ≡ Ok p → OnOk r (Grows a b (Contains p.headers) (Contains (all_votes p.votes p.certificates)))
     → IfOk r (λ x. x ≡ p.report) → IfOk r (λ x. (l : ReceivedLog) → IsResultOn a.committee l result → IsJoined a b l x)
 part_joined (Err e) a b p result is grown report = tt
 part_joined (Ok x) a b p result is grown report = λ l of.
@@ -32,7 +31,7 @@ part_joined (Ok x) a b p result is grown report = λ l of.
       report = subst (λ (y : SourceReport). IsReportOf l y) (sym report) part.report;
     }
 
-pub part_fault : (r : Result SourceReport EvidenceRefusal) (a : Gathered) (p : Part) (result : Result Part EvidenceRefusal) → result ≡ Ok p → IfErr r (IsGatheringRefusal a (Contains p.headers.items))
+pub part_fault : (r : Result SourceReport EvidenceRefusal) (a : Gathered) (p : Part) (result : Result Part EvidenceRefusal) → result ≡ Ok p → IfErr r (IsGatheringRefusal a (Contains p.headers))
     → IfErr r (λ e. (l : ReceivedLog) → IsResultOn a.committee l result → IsGatheringRefusal a (PartHasHeader a.committee l) e)
 part_fault (Ok x) a p result is fault = tt
 part_fault (Err e) a p result is fault = λ l of.

@@ -13,7 +13,13 @@ use Rattle.evidence.specs.Sets.{IsEither}
 use Rattle.evidence.specs.declared.refusal.EvidenceRefusal.{EvidenceRefusal}
 use Rattle.evidence.specs.declared.source.SourceReport.{SourceReport}
 use Rattle.parallel_verify.specs.Collections.{IsCausedIn, IsLogOfSource}
-use Rattle.parallel_verify.specs.declared.part.Part.{Part}
+
+-- what one source names, and its report
+pub record Part : Type 0 where
+  pub headers : List Header
+  pub votes : List SignedVote
+  pub certificates : List (List SignedVote)
+  pub report : SourceReport
 
 abbrev pub IsGenesisOf : List ℕ → Header → Type 0
 IsGenesisOf committee h = h ≡ genesis_of committee
@@ -24,8 +30,8 @@ PartHasHeader committee l = IsEither (IsGenesisOf committee) (LogHasHeader l)
 
 -- the part has what the log names, and genesis
 pub record IsPartOn (committee : List ℕ) (l : ReceivedLog) (p : Part) : Type 0 where
-  pub headers : (h : Header) → Contains p.headers.items h ↔ PartHasHeader committee l h
-  pub votes : (v : SignedVote) → Contains (all_votes p.votes.items p.certificates.items) v ↔ LogNamesVote l v
+  pub headers : (h : Header) → Contains p.headers h ↔ PartHasHeader committee l h
+  pub votes : (v : SignedVote) → Contains (all_votes p.votes p.certificates) v ↔ LogNamesVote l v
   pub report : IsReportOf l p.report
 
 abbrev pub IsResultOn : List ℕ → ReceivedLog → Result Part EvidenceRefusal → Type 0

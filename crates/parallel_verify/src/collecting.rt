@@ -8,7 +8,8 @@ ghost use Rattle.parallel_verify.specs.Parts.{IsGathered};
 
 use crate::batch::check_all;
 use crate::joining::join;
-use crate::keeping::{CertificateShelf, Keeping, Shelf};
+use crate::keeping::{CertificateShelf, HeaderShelf, Keeping};
+use crate::numbers::{CertificateList, ListNaming, Number};
 use crate::part::Part;
 use crate::reading::gather;
 use crate::source::Source;
@@ -24,13 +25,21 @@ use std::thread::Threads;
 use vote_board::{Board, BoardNaming};
 
 // What each source names, each read in a thread of its own.
-fn gather_all<N: BoardNaming + Send + Sync, R: Threads + Wait + Sync, C: Connector + Send>(
+fn gather_all<
+    'n,
+    N: BoardNaming + Send + Sync,
+    L: ListNaming + Send + Sync,
+    R: Threads + Wait + Sync,
+    C: Connector + Send,
+>(
     rt: &R,
     alloc: Global,
     committee: &CommitteeView,
     board: &Board<N>,
+    list: &'n CertificateList,
     sources: Vec<Source<C>>,
-) -> Result<Vec<Result<Part, EvidenceRefusal>>, AllocError>
+) -> Result<Vec<Result<Part<Number<'n, L>>, EvidenceRefusal>>, AllocError>
+    requires list { list.now ≡ L.list }
     requires tries { All (MayBeTried C.allowed) sources.items }
     ensures len { IfOk result (λ parts. length parts.items ≡ length sources.items) }
     ensures each { IfOk result (λ parts. (i : ℕ) (s : _) (d : _) → i < length sources.items
@@ -39,18 +48,19 @@ fn gather_all<N: BoardNaming + Send + Sync, R: Threads + Wait + Sync, C: Connect
         (slice_index_or sources.items i s).replica committee.now (slice_index_or parts.items i d)) }
 {
     let certificates = Mutex::new(CertificateShelf::new(alloc));
-    let shelf = Mutex::new(Shelf::new(alloc));
+    let headers = Mutex::new(HeaderShelf::new(alloc));
     let keeping = Keeping {
         alloc,
         rt,
         board,
+        list,
         certificates: &certificates,
-        shelf: &shelf,
+        headers: &headers,
     };
     thread::map_vec(
         rt,
         sources,
-        &|source: Source<C>| -> Result<Part, EvidenceRefusal>
+        &|source: Source<C>| -> Result<Part<Number<L>>, EvidenceRefusal>
             requires { MayTry (C.allowed source.connector) source.tries }
             ensures { IsGathered C.gives C.reaches C.failed source.connector source.tries
                 source.replica committee.entry.now result }
@@ -58,10 +68,11 @@ fn gather_all<N: BoardNaming + Send + Sync, R: Threads + Wait + Sync, C: Connect
     )
 }
 
-// The evidence, over a board of that name.
+// The evidence, over a board and a list of certificates of those names.
 fn collect_on<
     'a,
     N: BoardNaming + Send + Sync,
+    L: ListNaming + Send + Sync,
     R: Threads + Wait + Sync,
     C: Connector + Send,
     V: Verifier + Sync,
@@ -70,9 +81,11 @@ fn collect_on<
     alloc: Global,
     committee: &CommitteeView<'a>,
     verifier: &V,
+    list: CertificateList,
     sources: Vec<Source<C>>,
 ) -> Result<Evidence<'a>, EvidenceRefusal>
-    requires named { committee.now ≡ N.committee }
+    requires board { committee.now ≡ N.committee }
+    requires list { list ≡ L.list }
     requires tries { All (MayBeTried C.allowed) sources.items }
     ensures ok { IfOk result (IsEvidenceOfSources (MayGive C.gives) committee.now sources.items) }
     ensures cause { IfOk result (λ e. AllZip (MayFail C.reaches C.failed) sources.items e.sources) }
@@ -80,9 +93,10 @@ fn collect_on<
         (IsRefusalOfSources (MayGive C.gives) committee.now sources.items) }
 {
     let board = Board::<N>::new(alloc, committee.again());
-    let parts = gather_all(rt, alloc, committee, &board, sources)?;
+    let parts = gather_all::<N, L, R, C>(rt, alloc, committee, &board, &list, sources)?;
     let (listing, reports) = join(alloc, committee, &parts)?;
     drop(parts);
+    drop(list);
     let answers = check_all(rt, alloc, &board, verifier, listing.votes())?;
     Ok(Evidence::of(alloc, listing, &answers, reports)?)
 }
@@ -128,5 +142,6 @@ pub fn collect_by<'a, R: Threads + Wait + Sync, C: Connector + Send, V: Verifier
     ensures refused { IfErr result
         (IsRefusalOfSources (MayGive C.gives) committee.now sources.items) }
 {
-    collect_on::<Brand, R, C, V>(rt, alloc, committee, verifier, sources)
+    let list = CertificateList::new(alloc)?;
+    collect_on::<Brand, Brand, R, C, V>(rt, alloc, committee, verifier, list, sources)
 }

@@ -10,24 +10,27 @@ ghost use Rattle.parallel_verify.specs.Parts.{HasReport, IsJoined, IsResultOn, P
 
 use crate::part::Part;
 use blocks::CommitteeView;
-use evidence::{EvidenceRefusal, Gathered, Listing, SourceReport};
+use evidence::{EvidenceRefusal, Gathered, Listing, Mark, SourceReport};
 use std::alloc::{AllocError, Global};
 
 // Adds what one source names.
-fn add_part(gathered: &mut Gathered, part: &Part) -> Result<SourceReport, EvidenceRefusal>
-    ensures ok { OnOk result (Grows gathered.old gathered.new (Contains part.now.headers.items)
-        (Contains (all_votes part.now.votes.items part.now.certificates.items))) }
+fn add_part<M: Mark>(
+    gathered: &mut Gathered<M>,
+    part: &Part<M>,
+) -> Result<SourceReport, EvidenceRefusal>
+    ensures ok { OnOk result (Grows gathered.old gathered.new (Contains part.now.headers)
+        (Contains (all_votes part.now.votes part.now.certificates))) }
     ensures report { IfOk result (λ r. r ≡ part.now.report) }
-    ensures err { IfErr result (IsGatheringRefusal gathered.old (Contains part.now.headers.items)) }
+    ensures err { IfErr result (IsGatheringRefusal gathered.old (Contains part.now.headers)) }
 {
     gathered.merge(&part.headers, &part.votes, &part.certificates)?;
     Ok(part.report)
 }
 
 // Adds what came of one source.
-fn add_result(
-    gathered: &mut Gathered,
-    part: &Result<Part, EvidenceRefusal>,
+fn add_result<M: Mark>(
+    gathered: &mut Gathered<M>,
+    part: &Result<Part<M>, EvidenceRefusal>,
 ) -> Result<SourceReport, EvidenceRefusal>
     ensures ok { IfOk result (λ r. (l : ReceivedLog) → IsResultOn gathered.old.committee l part.now
         → IsJoined gathered.old gathered.new l r) }
@@ -51,10 +54,10 @@ fn put(reports: &mut Vec<SourceReport>, report: SourceReport) -> Result<(), Allo
 }
 
 // What all of them name, and the reports.
-pub(crate) fn join<'a>(
+pub(crate) fn join<'a, M: Mark>(
     alloc: Global,
     committee: &CommitteeView<'a>,
-    parts: &[Result<Part, EvidenceRefusal>],
+    parts: &[Result<Part<M>, EvidenceRefusal>],
 ) -> Result<(Listing<'a>, Vec<SourceReport>), EvidenceRefusal>
     ensures union { IfOk result (λ joined. (logs : List ReceivedLog)
         → AllZip (IsResultOn committee.now) logs parts.now → IsUnion committee.now logs joined.0) }
@@ -66,7 +69,7 @@ pub(crate) fn join<'a>(
         → AllZip (IsResultOn committee.now) logs parts.now
         → IsEvidenceRefusal (IsHeaderInEvidence committee.now logs) e) }
 {
-    let mut gathered = Gathered::new(alloc, committee)?;
+    let mut gathered = Gathered::<M>::new(alloc, committee)?;
     let mut reports = Vec::new(alloc);
     for part in parts {
         put(&mut reports, add_result(&mut gathered, part)?)?;

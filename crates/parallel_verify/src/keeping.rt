@@ -2,9 +2,10 @@
 
 ghost use Rattle.std.specs.Prelude.{◌≡◌, IfOk};
 
+use crate::numbers::{CertificateList, ListNaming, Number, numbered};
 use blocks::{Id, NamedHeader};
 use certificates::{Certificate, SignedVote};
-use evidence::{CertificateVotes, Keeper, VoteKeeper};
+use evidence::{CertificateVotes, Keeper, KeptCertificate, VoteKeeper};
 use shared_values::Shared;
 use std::alloc::{AllocError, Global};
 use std::collections::BTreeMap;
@@ -13,14 +14,14 @@ use vote_board::{Board, BoardNaming};
 
 /// Headers that stand in memory once. Of two different headers of one id the first stays here.
 #[derive(Drop)]
-pub(crate) struct Shelf {
+pub(crate) struct HeaderShelf {
     alloc: Global,
     headers: BTreeMap<Id, Shared<NamedHeader>>,
 }
 
-impl Shelf {
-    pub(crate) fn new(alloc: Global) -> Shelf {
-        Shelf {
+impl HeaderShelf {
+    pub(crate) fn new(alloc: Global) -> HeaderShelf {
+        HeaderShelf {
             alloc,
             headers: BTreeMap::new(alloc),
         }
@@ -44,19 +45,22 @@ impl Shelf {
 
 /// Certificates that stand in memory once. Of different certificates for one block the first stays here.
 #[derive(Drop)]
-pub(crate) struct CertificateShelf {
-    certificates: BTreeMap<Id, Shared<CertificateVotes>>,
+pub(crate) struct CertificateShelf<'n, L: ListNaming> {
+    certificates: BTreeMap<Id, Shared<KeptCertificate<Number<'n, L>>>>,
 }
 
-impl CertificateShelf {
-    pub(crate) fn new(alloc: Global) -> CertificateShelf {
+impl<'n, L: ListNaming> CertificateShelf<'n, L> {
+    pub(crate) fn new(alloc: Global) -> CertificateShelf<'n, L> {
         CertificateShelf {
             certificates: BTreeMap::new(alloc),
         }
     }
 
     // What is kept for this block.
-    fn held(&self, block: &Id) -> Result<Option<Shared<CertificateVotes>>, AllocError> {
+    fn held(
+        &self,
+        block: &Id,
+    ) -> Result<Option<Shared<KeptCertificate<Number<'n, L>>>>, AllocError> {
         match self.certificates.get(block) {
             Some(held) => Ok(Some(held.again()?)),
             None => Ok(None),
@@ -67,7 +71,7 @@ impl CertificateShelf {
     fn keep(
         &mut self,
         block: &Id,
-        certificate: &Shared<CertificateVotes>,
+        certificate: &Shared<KeptCertificate<Number<'n, L>>>,
     ) -> Result<(), AllocError> {
         if self.certificates.get(block).is_none() {
             let _ = self.certificates.insert(*block, certificate.again()?)?;
@@ -76,28 +80,33 @@ impl CertificateShelf {
     }
 }
 
-/// A board for votes, and shelves for headers and certificates, all shared by the threads.
+/// Where the threads keep what they share: votes on a board, the first header of each id and the first certificate for each block
+/// on shelves, and all certificates that were made in a list, which numbers them.
 #[derive(Drop)]
-pub(crate) struct Keeping<'k, 'c, N: BoardNaming, R: Wait> {
+pub(crate) struct Keeping<'k, 'n, 'c, N: BoardNaming, L: ListNaming, R: Wait> {
     pub(crate) alloc: Global,
     pub(crate) rt: &'k R,
     pub(crate) board: &'k Board<'c, N>,
-    pub(crate) certificates: &'k Mutex<CertificateShelf>,
-    pub(crate) shelf: &'k Mutex<Shelf>,
+    pub(crate) list: &'n CertificateList,
+    pub(crate) certificates: &'k Mutex<CertificateShelf<'n, L>>,
+    pub(crate) headers: &'k Mutex<HeaderShelf>,
+    pub(crate) ghost named: { list.now ≡ L.list },
 }
 
-impl<'k, 'c, N: BoardNaming, R: Wait> VoteKeeper for Keeping<'k, 'c, N, R> {
+impl<'k, 'n, 'c, N: BoardNaming, L: ListNaming, R: Wait> VoteKeeper
+    for Keeping<'k, 'n, 'c, N, L, R> {
     fn vote(&self, vote: &SignedVote) -> Result<Shared<SignedVote>, AllocError> {
         self.board.post(self.rt, vote)
     }
 }
 
-impl<'k, 'c, N: BoardNaming, R: Wait> Keeper for Keeping<'k, 'c, N, R> {
+impl<'k, 'n, 'c, N: BoardNaming, L: ListNaming, R: Wait> Keeper<Number<'n, L>>
+    for Keeping<'k, 'n, 'c, N, L, R> {
     // Votes are compared and copied while no lock is held.
     fn certificate(
         &self,
         certificate: &Certificate,
-    ) -> Result<Shared<CertificateVotes>, AllocError> {
+    ) -> Result<Shared<KeptCertificate<Number<'n, L>>>, AllocError> {
         let block = certificate.id();
         let held = self.certificates.lock(self.rt).held(block)?;
         if let Some(held) = held {
@@ -105,15 +114,14 @@ impl<'k, 'c, N: BoardNaming, R: Wait> Keeper for Keeping<'k, 'c, N, R> {
                 return Ok(held);
             }
         }
-        let made = Shared::new(
-            self.alloc,
-            CertificateVotes::of(self.alloc, self, certificate)?,
-        )?;
+        let votes = CertificateVotes::of(self.alloc, self, certificate)?;
+        let votes = Shared::new(self.alloc, votes)?;
+        let made = Shared::new(self.alloc, numbered(self.rt, self.list, votes)?)?;
         self.certificates.lock(self.rt).keep(block, &made)?;
         Ok(made)
     }
 
     fn header(&self, header: &NamedHeader) -> Result<Shared<NamedHeader>, AllocError> {
-        self.shelf.lock(self.rt).keep(header)
+        self.headers.lock(self.rt).keep(header)
     }
 }

@@ -6,6 +6,7 @@ mod batch;
 mod collecting;
 mod joining;
 mod keeping;
+mod numbers;
 mod part;
 mod reading;
 mod source;

@@ -11,17 +11,17 @@ ghost use Rattle.parallel_verify.specs.Parts.{IsGathered};
 use crate::part::Part;
 use crate::source::Source;
 use blocks::CommitteeView;
-use evidence::{EvidenceRefusal, Gathered, Keeper, SourceReport};
+use evidence::{EvidenceRefusal, Gathered, Keeper, Mark, SourceReport};
 use log_transfer::{Connector, FetchError, Pull, Step};
 use std::alloc::Global;
 
 // Adds what the frames of a source name, each as it comes.
-fn gather_frames<K: Keeper, C: Connector>(
+fn gather_frames<M: Mark, K: Keeper<M>, C: Connector>(
     alloc: Global,
     keeper: &K,
     pull: &mut Pull<C>,
     replica: u16,
-    gathered: &mut Gathered,
+    gathered: &mut Gathered<M>,
 ) -> Result<SourceReport, EvidenceRefusal>
     requires closed { pull.old.place.is_open ≡ false }
     requires first { pull.old.place.held ≡ 0 }
@@ -65,12 +65,12 @@ fn gather_frames<K: Keeper, C: Connector>(
 }
 
 // What one source names. It holds one frame at a time.
-pub(crate) fn gather<K: Keeper, C: Connector>(
+pub(crate) fn gather<M: Mark, K: Keeper<M>, C: Connector>(
     alloc: Global,
     committee: &CommitteeView,
     keeper: &K,
     source: Source<C>,
-) -> Result<Part, EvidenceRefusal>
+) -> Result<Part<M>, EvidenceRefusal>
     requires { MayTry (C.allowed source.connector) source.tries }
     ensures { IsGathered C.gives C.reaches C.failed source.connector source.tries source.replica
         committee.now result }
@@ -83,7 +83,7 @@ pub(crate) fn gather<K: Keeper, C: Connector>(
     let mut pull = Pull::new(connector, tries);
     // For the proof: something may come of every source.
     let _ = pull.failures();
-    let mut gathered = Gathered::new(alloc, committee)?;
+    let mut gathered = Gathered::<M>::new(alloc, committee)?;
     let report = gather_frames(alloc, keeper, &mut pull, replica, &mut gathered)?;
     let (headers, votes, certificates) = gathered.into_parts(alloc)?;
     Ok(Part {

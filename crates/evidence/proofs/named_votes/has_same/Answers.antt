@@ -6,7 +6,7 @@ use Rattle.evidence.proofs.NamedVotes.{in_joined, in_same}
 use Rattle.evidence.proofs.named_votes.has_same.Goals as goal
 
 pub returns : goal.returns
-returns c = λ is v has.
+returns g c = λ is v has.
     let held = c.in-Some-get.held.now in
     let there = c.in-Some-get.ensures.lookup.3 in
     let same = subst (λ (votes : List SignedVote). HaveSame c.args.certificate.now votes) c.get-2.ensures (c.is.ensures is) in

@@ -34,7 +34,7 @@ of-requires-clause-answers g c =
     let parts = c.in_ok-parts.parts.items in
     let are = logs_of Gives committee c.args.sources.items parts c.in_ok-parts.ensures.len (λ i s d l. let x = c.in_ok-parts.ensures.each i s d l in (x.log, x.of, x.result)) in
     let union = c.in_ok-listing.ensures.union are.logs (results Gives committee c.args.sources.items parts c.deref.result.now c.deref.ensures.value are) in
-    answered committee g.N.BoardNaming.committee c.in_ok-listing.listing c.votes.result.now c.in_ok-answers.answers.items c.deref-2.result.now union.under c.requires.named c.votes.ensures.value c.deref-2.ensures.value c.in_ok-answers.ensures
+    answered committee g.N.BoardNaming.committee c.in_ok-listing.listing c.votes.result.now c.in_ok-answers.answers.items c.deref-2.result.now union.under c.requires.board c.votes.ensures.value c.deref-2.ensures.value c.in_ok-answers.ensures
 
 pub returns-in_err-listing-clause-refused : goal.returns-in_err-listing-clause-refused
 returns-in_err-listing-clause-refused g c =
@@ -57,7 +57,7 @@ returns-clause-ok g c =
     let of = results Gives committee sources parts c.deref.result.now c.deref.ensures.value are in
     let listing = c.in_ok-listing.listing in
     let union = c.in_ok-listing.ensures.union are.logs of in
-    let zip = answered committee g.N.BoardNaming.committee listing c.votes.result.now c.in_ok-answers.answers.items c.deref-2.result.now union.under c.requires.named c.votes.ensures.value c.deref-2.ensures.value c.in_ok-answers.ensures in
+    let zip = answered committee g.N.BoardNaming.committee listing c.votes.result.now c.in_ok-answers.answers.items c.deref-2.result.now union.under c.requires.board c.votes.ensures.value c.deref-2.ensures.value c.in_ok-answers.ensures in
     record {
       logs = are.logs;
       given = are.of;

@@ -7,13 +7,12 @@ use Rattle.evidence.specs.declared.refusal.EvidenceRefusal.{EvidenceRefusal}
 use Rattle.evidence.specs.declared.source.SourceReport.{SourceReport}
 use Rattle.evidence.proofs.NamedVotes.{union_listed}
 use Rattle.evidence.proofs.Gatherings.{handed_on, zip_length, zip_more}
-use Rattle.parallel_verify.specs.Parts.{HasReport, IsResultOn}
-use Rattle.parallel_verify.specs.declared.part.Part.{Part}
+use Rattle.parallel_verify.specs.Parts.{HasReport, IsResultOn, Part}
 use Rattle.parallel_verify.proofs.Joinings.{next_result, joined_more, report_more, joined_fault, no_log, union_of_logs}
 use Rattle.parallel_verify.proofs.joining.join.Goals as goal
 
 pub returns-in_err-add_result-clause-refused : goal.returns-in_err-add_result-clause-refused
-returns-in_err-add_result-clause-refused c =
+returns-in_err-add_result-clause-refused g c =
     let committee = c.args.committee.now in
     let parts = c.args.parts.now in
     let a = c.in_ok-gathered.gathered in
@@ -27,7 +26,7 @@ returns-in_err-add_result-clause-refused c =
     joined_fault committee logs parts zip a b c.in_ok-gathered.ensures.committee i so_far e c.in_ok-gathered.ensures.headers c.loop-part-test.true (c.in_err-add_result.ensures.err (get_or logs i no_log) x))
 
 pub loop-part-preserved : goal.loop-part-preserved
-loop-part-preserved c =
+loop-part-preserved g c =
     let committee = c.args.committee.now in
     let parts = c.args.parts.now in
     let a = c.in_ok-gathered.gathered in
@@ -54,7 +53,7 @@ loop-part-preserved c =
     }
 
 pub returns-clause-union : goal.returns-clause-union
-returns-clause-union c = λ logs zip.
+returns-clause-union g c = λ logs zip.
     let committee = c.args.committee.now in
     let parts = c.args.parts.now in
     let i = c.loop-part.part-index in
@@ -64,7 +63,7 @@ returns-clause-union c = λ logs zip.
     c.in_ok-gathered.ensures.votes (c.loop-part.invariant.grown logs zip)) c.in_ok-in_order.ensures
 
 pub returns-clause-told : goal.returns-clause-told
-returns-clause-told c = λ logs zip.
+returns-clause-told g c = λ logs zip.
     let committee = c.args.committee.now in
     let parts = c.args.parts.now in
     let i = c.loop-part.part-index in
@@ -73,7 +72,7 @@ returns-clause-told c = λ logs zip.
     subst (λ (ls : List ReceivedLog). AllZip IsReportOf ls c.loop-part.reports.items) (take_all i logs (omega (arith, size, l))) (c.loop-part.invariant.told logs zip)
 
 pub returns-clause-reports : goal.returns-clause-reports
-returns-clause-reports c =
+returns-clause-reports g c =
     let parts = c.args.parts.now in
     let i = c.loop-part.part-index in
     let l : length parts ≤ i = omega (arith, c.loop-part-test.false) in

@@ -5,4 +5,4 @@ use Rattle.evidence.specs.NamedVotes.{joined}
 use Rattle.evidence.proofs.gathering.Gathered.absorb_certificates.Given as goal
 
 abbrev pub invariant-loop-certificate : goal.invariant-loop-certificate
-invariant-loop-certificate l = Grows l.fn.self l.self IsNone (Contains (joined (take l.certificate-index l.certificates)))
+invariant-loop-certificate g l = Grows l.fn.self l.self IsNone (Contains (joined (take l.certificate-index l.certificates)))

@@ -5,4 +5,4 @@ use Rattle.evidence.specs.Gathering.{IsNone}
 use Rattle.evidence.proofs.gathering.Gathered.absorb_headers.Given as goal
 
 abbrev pub invariant-loop-header : goal.invariant-loop-header
-invariant-loop-header l = Grows l.fn.self l.self (Contains (take l.header-index l.headers)) IsNone
+invariant-loop-header g l = Grows l.fn.self l.self (Contains (take l.header-index l.headers)) IsNone

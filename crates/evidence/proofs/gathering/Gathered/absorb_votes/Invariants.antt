@@ -5,4 +5,4 @@ use Rattle.evidence.specs.Gathering.{IsNone}
 use Rattle.evidence.proofs.gathering.Gathered.absorb_votes.Given as goal
 
 abbrev pub invariant-loop-vote : goal.invariant-loop-vote
-invariant-loop-vote l = Grows l.fn.self l.self IsNone (Contains (take l.vote-index l.votes))
+invariant-loop-vote g l = Grows l.fn.self l.self IsNone (Contains (take l.vote-index l.votes))

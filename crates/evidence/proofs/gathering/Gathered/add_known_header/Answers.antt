@@ -5,6 +5,6 @@ use Rattle.evidence.proofs.Gatherings.{grown_header}
 use Rattle.evidence.proofs.gathering.Gathered.add_known_header.Goals as goal
 
 pub returns-clause-ok : goal.returns-clause-ok
-returns-clause-ok c =
+returns-clause-ok g c =
     grown_header c.self.inside.committee c.self.inside.headers c.insert.new.self c.self.inside.votes c.args.self.now c.args.header.now c.self.view_is
     (subst (λ (h : Header). Gains c.self.inside.headers c.insert.new.self (λ x. x ≡ h)) c.in_ok-again.ensures c.in_ok-insert.ensures.ok)

@@ -5,7 +5,7 @@ use Rattle.evidence.specs.Gathering.{Gathered}
 use Rattle.evidence.proofs.gathering.Gathered.in_order.Goals as goal
 
 pub returns : goal.returns
-returns c = record {
+returns g c = record {
   committee = ap (λ (g : Gathered). g.committee) c.self.view_is;
   headers = c.in_ok-copies.ensures ∙ c.deref.ensures.value ∙ c.in_ok-into_vec.ensures.headers ∙ ap (λ (g : Gathered). g.headers) c.self.view_is;
   votes = λ v.

@@ -5,7 +5,7 @@ use Rattle.evidence.proofs.Gatherings.{grown_as, grown_both, none_first, none_la
 use Rattle.evidence.proofs.gathering.Gathered.merge.Goals as goal
 
 pub returns-clause-ok : goal.returns-clause-ok
-returns-clause-ok c =
+returns-clause-ok g c =
     let a = c.args.self.now in
     let b = c.absorb_headers.new.self in
     let d = c.absorb_all_votes.new.self in

@@ -7,7 +7,7 @@ use Rattle.evidence.proofs.NamedVotes.{gained_before}
 use Rattle.evidence.proofs.named_votes.NamedVotes.insert.Goals as goal
 
 pub returns : goal.returns
-returns c =
+returns g c =
     let old = c.self.inside.alone in
     let rest = joined c.self.inside.certificates.items in
     let new = c.insert.new.self in

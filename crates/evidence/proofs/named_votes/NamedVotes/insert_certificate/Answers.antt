@@ -7,7 +7,7 @@ use Rattle.evidence.proofs.NamedVotes.{gained_certificate, gained_held}
 use Rattle.evidence.proofs.named_votes.NamedVotes.insert_certificate.Goals as goal
 
 pub returns-then-has_same : goal.returns-then-has_same
-returns-then-has_same c =
+returns-then-has_same g c =
     let alone = c.self.inside.alone in
     let lists = c.self.inside.certificates.items in
     let more = c.args.certificate in
@@ -17,7 +17,7 @@ returns-then-has_same c =
     (c.if-has_same.ensures refl v (subst (λ (votes : List SignedVote). Contains votes v) (sym c.get-3.ensures) has))))
 
 pub returns : goal.returns
-returns c =
+returns g c =
     let alone = c.self.inside.alone in
     let old = c.self.inside.certificates.items in
     let more = c.args.certificate in

@@ -8,13 +8,13 @@ use Rattle.evidence.proofs.NamedVotes.{gained_list, if_ok, same_all}
 use Rattle.evidence.proofs.named_votes.NamedVotes.into_vec.Goals as goal
 
 pub loop-certificate-preserved : goal.loop-certificate-preserved
-loop-certificate-preserved c =
+loop-certificate-preserved g c =
     let x = c.certificate-item.result in
     let step = subst (λ (votes : List SignedVote). Gains c.loop-certificate.votes c.add_all.new.votes (Contains votes)) (c.votes.ensures ∙ c.get.ensures) c.in_ok-add_all.ensures in
     gained_list c.self.inside.alone c.loop-certificate.votes c.add_all.new.votes c.deref-certificate-items.result.now c.loop-certificate.certificate-index x x c.loop-certificate-test.true c.certificate-item.is c.loop-certificate.invariant step
 
 pub returns-clause-votes : goal.returns-clause-votes
-returns-clause-votes c =
+returns-clause-votes g c =
     let alone = c.self.inside.alone in
     let votes = c.loop-certificate.votes in
     let all = c.self.inside.certificates.items in

@@ -5,4 +5,4 @@ use Rattle.evidence.specs.NamedVotes.{joined}
 use Rattle.evidence.proofs.named_votes.NamedVotes.into_vec.Given as goal
 
 abbrev pub invariant-loop-certificate : goal.invariant-loop-certificate
-invariant-loop-certificate l = Gains l.initial.votes l.votes (Contains (joined (take l.certificate-index l.certificate-items)))
+invariant-loop-certificate g l = Gains l.initial.votes l.votes (Contains (joined (take l.certificate-index l.certificate-items)))
