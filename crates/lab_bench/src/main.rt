@@ -6,6 +6,7 @@ mod chain;
 mod export;
 mod keys;
 mod ledger;
+mod lent;
 mod measuring;
 mod phases;
 mod plan;

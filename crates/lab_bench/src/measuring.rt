@@ -2,15 +2,15 @@
 
 ghost use Rattle.std.specs.Prelude.{OnOk, IfOk};
 ghost use Rattle.std.specs.List.{All};
-ghost use Rattle.log_transfer.specs.declared.place.TheConstants.{MOST_TRIES};
 ghost use Rattle.parallel_verify.specs.Collections.{MayBeTried};
 
 use crate::ledger::Ledger;
+use crate::lent::Lent;
 use crate::phases::{Phases, Times, since};
 use blocks::CommitteeView;
 use certificates::{SignedVote, check_vote};
 use culprit_search::audit;
-use log_transfer::{Connector, MemoryConnector, Watched};
+use log_transfer::Watched;
 use parallel_verify::{Evidence, EvidenceRefusal, Source, SourceText, collect_by, evidence_of};
 use std::alloc::{AllocError, Global};
 use std::io;
@@ -82,24 +82,17 @@ fn floor_of<R: Clock>(
 }
 
 // A log in memory whose reading is watched.
-type Log<'a, R> = Watched<'a, MemoryConnector, Phases<'a, R>>;
+type Log<'a, R> = Watched<'a, Lent<'a>, Phases<'a, R>>;
 
 // A source that sends this log, and is read once.
-fn source<'a, R: Clock>(
-    alloc: Global,
-    phases: &'a Phases<'a, R>,
-    log: SourceText,
-) -> Result<Source<Log<'a, R>>, AllocError>
-    ensures { IfOk result (MayBeTried (λ c. MOST_TRIES)) }
+fn source<'a, R: Clock>(phases: &'a Phases<'a, R>, log: &'a SourceText) -> Source<Log<'a, R>>
+    ensures { MayBeTried (λ c. 1) result }
 {
-    let SourceText { replica, text } = log;
-    let mut connector = MemoryConnector::new(alloc);
-    connector.add(text, false)?;
-    Ok(Source {
-        replica,
-        connector: Watched::new(connector, phases, replica.into()),
+    Source {
+        replica: log.replica,
+        connector: Watched::new(Lent::new(&log.text), phases, log.replica.into()),
         tries: 1,
-    })
+    }
 }
 
 // Adds a source.
@@ -107,9 +100,9 @@ fn put<'a, R: Clock>(
     sources: &mut Vec<Source<Log<'a, R>>>,
     source: Source<Log<'a, R>>,
 ) -> Result<(), AllocError>
-    requires all { All (MayBeTried (λ c. MOST_TRIES)) sources.old.items }
-    requires one { MayBeTried (λ c. MOST_TRIES) source }
-    ensures { OnOk result (All (MayBeTried (λ c. MOST_TRIES)) sources.new.items) }
+    requires all { All (MayBeTried (λ c. 1)) sources.old.items }
+    requires one { MayBeTried (λ c. 1) source }
+    ensures { OnOk result (All (MayBeTried (λ c. 1)) sources.new.items) }
 {
     sources.push(source)?;
     Ok(())
@@ -119,13 +112,13 @@ fn put<'a, R: Clock>(
 fn sources_of<'a, R: Clock>(
     alloc: Global,
     phases: &'a Phases<'a, R>,
-    logs: Vec<SourceText>,
+    logs: &'a [SourceText],
 ) -> Result<Vec<Source<Log<'a, R>>>, AllocError>
-    ensures { IfOk result (λ ss. All (MayBeTried (λ c. MOST_TRIES)) ss.items) }
+    ensures { IfOk result (λ ss. All (MayBeTried (λ c. 1)) ss.items) }
 {
     let mut sources = Vec::new(alloc);
     for log in logs {
-        put(&mut sources, source(alloc, phases, log)?)?;
+        put(&mut sources, source(phases, log))?;
     }
     Ok(sources)
 }
@@ -135,7 +128,7 @@ fn time_of_threads<R: Threads + Wait + Clock + Sync>(
     rt: &R,
     alloc: Global,
     committee: &CommitteeView,
-    logs: Vec<SourceText>,
+    logs: &[SourceText],
     votes: usize,
 ) -> io::Result<Times> {
     let phases = Phases::new(rt)?;
@@ -198,7 +191,7 @@ pub(crate) fn measure<R: Threads + Wait + Clock + Sync>(
     Ok(Measured {
         votes,
         floor: floor_of(rt, committee, &sample, votes)?,
-        threads: time_of_threads(rt, alloc, committee, logs, found.votes)?,
+        threads: time_of_threads(rt, alloc, committee, &logs, found.votes)?,
         ..found
     })
 }
