@@ -1,3 +1,4 @@
 mod Digesting
 mod Framing
+mod Naming
 mod Opening

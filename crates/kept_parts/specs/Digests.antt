@@ -1,4 +1,4 @@
--- What the frames of a log digest to. docs/FORMATS.md, "Report of a watch".
+-- What the frames of a log digest to. docs/FORMATS.md, "Report for programs".
 use Rattle.std.specs.Prelude.{◌++◌, ◌∷◌, ℕ, List, [], replicate, codes}
 use Rattle.sha2.specs.Sha256.{sha256}
 use Rattle.hex.specs.Hex.{encode_lower}

@@ -112,45 +112,6 @@ impl KeptLog {
     }
 }
 
-// The first of the logs behind whose beginning the part stands.
-fn first_with_front(logs: &[KeptLog], name: &PartName) -> Option<usize>
-    ensures { MatchOption result (All (λ log. HasFront name.now log → ⊥) logs.now)
-        (IsFirst (HasFront name.now) logs.now) }
-{
-    for (k, log) in logs.iter().enumerate() {
-        if log.has_front(name) {
-            return Some(k);
-        }
-    }
-    None
-}
-
-// The first of the logs with all of which these frames begin.
-fn first_begun(logs: &[KeptLog], frames: &[FrameDigest]) -> Option<usize>
-    ensures { MatchOption result (All (λ log. BeginsWith log frames.now → ⊥) logs.now)
-        (IsFirst (λ log. BeginsWith log frames.now) logs.now) }
-{
-    for (k, log) in logs.iter().enumerate() {
-        if log.begins(frames) {
-            return Some(k);
-        }
-    }
-    None
-}
-
-// The first of the logs that begin with these frames.
-fn first_holding(logs: &[KeptLog], frames: &[FrameDigest]) -> Option<usize>
-    ensures { MatchOption result (All (λ log. BeginsWith frames.now log → ⊥) logs.now)
-        (IsFirst (BeginsWith frames.now) logs.now) }
-{
-    for (k, log) in logs.iter().enumerate() {
-        if log.holds(frames) {
-            return Some(k);
-        }
-    }
-    None
-}
-
 /// The logs of a source that are kept, as their parts are read again, in the order of their names. Contracts see the digests
 /// of their frames.
 #[derive(Drop)]
@@ -214,7 +175,7 @@ impl KeptLogs {
             }
             return Some(&[]);
         }
-        match first_with_front(&self.logs, name) {
+        match self.logs.iter().position(|log| log.has_front(name)) {
             Some(k) => Some(self.logs[k].first(usize::from(name.place))),
             None => None,
         }
@@ -225,7 +186,7 @@ impl KeptLogs {
         ensures { MatchOption result (All (λ log. BeginsWith log frames.now → ⊥) self.now)
             (IsFirst (λ log. BeginsWith log frames.now) self.now) }
     {
-        first_begun(&self.logs, frames)
+        self.logs.iter().position(|log| log.begins(frames))
     }
 
     /// The first log that begins with these frames.
@@ -233,7 +194,7 @@ impl KeptLogs {
         ensures { MatchOption result (All (λ log. BeginsWith frames.now log → ⊥) self.now)
             (IsFirst (BeginsWith frames.now) self.now) }
     {
-        first_holding(&self.logs, frames)
+        self.logs.iter().position(|log| log.holds(frames))
     }
 
     /// Opens the next log, which begins with these frames.

@@ -1,14 +1,16 @@
 //! The name of a part.
 
-ghost use Rattle.std.specs.Prelude.{◌≡◌, IfOk, IfSome};
-ghost use Rattle.kept_parts.specs.Names.{name_text};
+ghost use Rattle.std.specs.Prelude.{◌≡◌, ◌<◌, ◌^◌, ◌++◌, ◌∷◌, ℕ, List, Some, IfNone, IfOk, IfSome, MatchOption, decimal};
+ghost use Rattle.std.specs.List.{Contains};
+ghost use Rattle.hex.specs.Hex.{encode_lower};
+ghost use Rattle.kept_parts.specs.Names.{IsDigest, IsPartName, name_text};
 
 use crate::digest::LogDigest;
 use printed_lines::{number_in, put_id, put_number};
 use std::alloc::{AllocError, Global};
 use wire::append;
 
-/// How many bytes an end `.hsl` has, and the digits of a digest before it.
+// How many hexadecimal digits a digest has.
 const DIGITS: usize = 64;
 
 /// Where the frames of a part stand, by which it is named. Names are in order by their fields.
@@ -49,11 +51,13 @@ impl PartName {
     /// The part that is named so; none where the text is no name of a part. `AllocError` where memory was refused.
     pub fn of(alloc: Global, text: &[u8]) -> Result<Option<PartName>, AllocError>
         ensures only { IfOk result (λ found. IfSome found (λ name. text.now ≡ name_text name)) }
+        ensures each { IfOk result (λ found. (name : PartName) → IsPartName name
+            → text.now ≡ name_text name → found ≡ Some name) }
     {
         let Some(name) = fields_in(text) else {
             return Ok(None);
         };
-        // A number or a digest may be spelled otherwise.
+        // The digest may be in upper case, and the end was not looked at.
         if name.text(alloc)?.as_slice() != text {
             return Ok(None);
         }
@@ -61,14 +65,16 @@ impl PartName {
     }
 }
 
-// The fields that stand between hyphens.
-fn fields_in(text: &[u8]) -> Option<PartName> {
+// The fields that stand between hyphens: of a name its own.
+fn fields_in(text: &[u8]) -> Option<PartName>
+    ensures { (name : PartName) → IsPartName name → text.now ≡ name_text name
+        → result ≡ Some name }
+{
     let (replica, text) = number_before(text)?;
     let (source, text) = number_before(text)?;
     let (log, text) = number_before(text)?;
     let (place, text) = number_before(text)?;
-    let mut front = [0; 32];
-    hex::decode_to_slice(text.get(..DIGITS)?, &mut front).ok()?;
+    let front = digest_before(text)?;
     Some(PartName {
         replica,
         source,
@@ -78,9 +84,45 @@ fn fields_in(text: &[u8]) -> Option<PartName> {
     })
 }
 
-// A number in front of a hyphen, and what stands behind that.
-fn number_before(text: &[u8]) -> Option<(u16, &[u8])> {
+// The number in front of the first hyphen, and what stands behind that.
+fn number_before(text: &[u8]) -> Option<(u16, &[u8])>
+    ensures { (number : ℕ) (rest : List ℕ) → number < 2 ^ 16
+        → text.now ≡ decimal number ++ 45 ∷ rest
+        → MatchOption result ⊥ (λ found. (found.0 ≡ number) × (found.1.now ≡ rest)) }
+{
+    let (digits, rest) = cut(text)?;
+    Some((small_number_in(digits)?, rest))
+}
+
+// What stands before the first hyphen, and what stands behind it.
+fn cut(text: &[u8]) -> Option<(&[u8], &[u8])>
+    ensures none { IfNone result (Contains text.now 45 → ⊥) }
+    ensures some { IfSome result (λ parts. (text.now ≡ parts.0.now ++ 45 ∷ parts.1.now)
+        × (Contains parts.0.now 45 → ⊥)) }
+{
     let at = text.iter().position(|byte| *byte == b'-')?;
-    let number = number_in(&text[..at])?;
-    Some((u16::try_from(number).ok()?, &text[at + 1..]))
+    Some((&text[..at], &text[at + 1..]))
+}
+
+// The number of 16 bits that is printed so.
+fn small_number_in(digits: &[u8]) -> Option<u16>
+    ensures some { IfSome result (λ number. digits.now ≡ decimal number) }
+    ensures none { IfNone result ((number : ℕ) → number < 2 ^ 16 → digits.now ≡ decimal number
+        → ⊥) }
+{
+    let number = number_in(digits)?;
+    if number > u64::from(u16::MAX) {
+        return None;
+    }
+    Some(number as u16)
+}
+
+// The digest whose digits stand in front, be they lower case or not.
+fn digest_before(text: &[u8]) -> Option<LogDigest>
+    ensures { (front rest : List ℕ) → IsDigest front → text.now ≡ encode_lower front ++ rest
+        → result ≡ Some front }
+{
+    let mut front = [0; 32];
+    hex::decode_to_slice(text.get(..DIGITS)?, &mut front).ok()?;
+    Some(front)
 }
