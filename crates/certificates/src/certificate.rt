@@ -319,9 +319,9 @@ impl Certificate {
     }
 
     /// Whether vote `k`, counted from 0, which must be below `count`, is this one. It is compared in place.
-    pub fn has_vote(&self, k: usize, vote: &SignedVote) -> bool
+    pub fn vote_is(&self, k: usize, vote: &SignedVote) -> bool
         requires { k < length self.now.entries }
-        ensures { IsTrue result → vote.now ≡ vote_of self.now (nth_endorsement self.now k) }
+        ensures { IsTrue result ↔ (vote.now ≡ vote_of self.now (nth_endorsement self.now k)) }
     {
         let entry = &self.entries[k];
         entry.replica == vote.replica

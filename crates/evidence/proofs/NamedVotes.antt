@@ -2,16 +2,16 @@
 use Rattle.std.proofs.Common.{◌≡◌, ◌↔◌, ◌⊎◌, ◌∙◌, ◌<◌, ◌+◌, ℕ, zero, suc, List, [], ◌∷◌, ◌++◌, length, take, get_or, inl, inr, refl, sym, ap, subst, arith, Result, Ok, Err}
 use Rattle.std.specs.Prelude.{IfOk}
 use Rattle.std.specs.List.{Contains}
-use Rattle.std.proofs.lemmas.List.{append-nil, append_assoc, get_or_default, take_more}
+use Rattle.std.proofs.lemmas.List.{append-nil, append_assoc, get_or-map, get_or_default, length-map, same_lists, take_more}
 use Rattle.std.proofs.lemmas.List.Elements.{Contains-append_right, Contains-append_left, Contains-append_cases}
 use Rattle.certificates.specs.Certificates.{Certificate, nth_endorsement, vote_of}
 use Rattle.certificates.specs.declared.certificate.Endorsement.{Endorsement}
 use Rattle.certificates.specs.declared.vote.SignedVote.{SignedVote}
 use Rattle.blocks.specs.Headers.{Header}
 use Rattle.evidence.specs.Evidence.{IsHeaderInEvidence}
-use Rattle.evidence.specs.Gathering.{Gains, Gathered, Grows, IsListingOf, IsNone, IsUnion}
+use Rattle.evidence.specs.Gathering.{CertificateHas, Gains, Gathered, Grows, IsListingOf, IsNone, IsUnion}
 use Rattle.evidence.specs.Logs.{ReceivedLog}
-use Rattle.evidence.specs.NamedVotes.{AreSame, AreVotesOf, HaveSame, all_votes, joined}
+use Rattle.evidence.specs.NamedVotes.{AreSame, all_votes, certificate_votes, joined}
 use Rattle.evidence.specs.Sets.{IsEither}
 use Rattle.evidence.proofs.Gatherings.{gained_none, gathered_from, grown_as, grown_both, none_of, only}
 
@@ -54,19 +54,42 @@ gained_held alone lists more held v = (λ c. inl c, λ w. elim w [ inl c ↦ c |
 
 -- ---- the votes of a certificate
 
-votes_of_one : (c : Certificate) (votes : List SignedVote) → length votes ≡ length c.entries
-    → ((i : ℕ) (d : SignedVote) → i < length votes → get_or votes i d ≡ vote_of c (nth_endorsement c i)) → AreVotesOf c votes
-votes_of_one c votes long each v = (
-  λ has. (
+nth_vote : (c : Certificate) (i : ℕ) (d : SignedVote) → i < length c.entries → get_or (certificate_votes c) i d ≡ vote_of c (nth_endorsement c i)
+nth_vote c i d l = get_or-map (vote_of c) c.entries i _ d l
+
+-- as many, each in its place
+pub votes_in_order : (c : Certificate) (votes : List SignedVote) → length votes ≡ length c.entries
+    → ((i : ℕ) (d : SignedVote) → i < length votes → get_or votes i d ≡ vote_of c (nth_endorsement c i)) → votes ≡ certificate_votes c
+votes_in_order c votes long each =
+    same_lists votes (certificate_votes c) (long ∙ sym (length-map c.entries (vote_of c)))
+    (λ i d l. each i d l ∙ sym (nth_vote c i d (omega (arith, l, long))))
+
+-- .. and the other way about
+pub as_many : (c : Certificate) (votes : List SignedVote) → votes ≡ certificate_votes c → length votes ≡ length c.entries
+as_many c votes is = ap (λ (vs : List SignedVote). length vs) is ∙ length-map c.entries (vote_of c)
+
+pub vote_in_place : (c : Certificate) (votes : List SignedVote) (i : ℕ) (d : SignedVote) → votes ≡ certificate_votes c → i < length votes
+    → get_or votes i d ≡ vote_of c (nth_endorsement c i)
+vote_in_place c votes i d is l =
+    ap (λ (vs : List SignedVote). get_or vs i d) is ∙ nth_vote c i d (omega (arith, l, as_many c votes is))
+
+-- a vote is among them if an entry stands for it
+pub among_votes : (c : Certificate) (v : SignedVote) → Contains (certificate_votes c) v ↔ CertificateHas c v
+among_votes c v = (
+  λ has. let l : has.0 < length c.entries = omega (arith, has.1, long) in (
     nth_endorsement c has.0,
-    (has.0, omega (arith, has.1, long), entry has.0 (nth_endorsement c has.0) (omega (arith, has.1, long))),
-    sym has.2 ∙ each has.0 v has.1,
+    (has.0, l, get_or_default c.entries has.0 _ _ l),
+    sym has.2 ∙ nth_vote c has.0 v l,
   ),
-  λ w. (w.1.0, omega (arith, w.1.1, long), each w.1.0 v (omega (arith, w.1.1, long)) ∙ ap (λ (e : Endorsement). vote_of c e) (sym (entry w.1.0 w.0 w.1.1) ∙ w.1.2) ∙ sym w.2),
+  λ w. (
+    w.1.0,
+    omega (arith, w.1.1, long),
+    nth_vote c w.1.0 v w.1.1 ∙ ap (λ (e : Endorsement). vote_of c e) (sym (get_or_default c.entries w.1.0 w.0 _ w.1.1) ∙ w.1.2) ∙ sym w.2,
+  ),
 )
   where
-    entry : (i : ℕ) (d : Endorsement) → i < length c.entries → get_or c.entries i d ≡ nth_endorsement c i
-    entry i d l = get_or_default c.entries i d _ l
+    long : length (certificate_votes c) ≡ length c.entries
+    long = length-map c.entries (vote_of c)
 
 -- ---- lists, item by item
 
@@ -118,9 +141,6 @@ pub in_joined : (lists : List (List SignedVote)) (i : ℕ) (d : List SignedVote)
 in_joined [] i d v l c = absurd (omega arith)
 in_joined (x ∷ xs) zero d v l c = Contains-append_left x (joined xs) v c
 in_joined (x ∷ xs) (suc i) d v l c = Contains-append_right x (joined xs) v (in_joined xs i d v (omega arith) c)
-
-pub in_same : (xs ys : List SignedVote) (v : SignedVote) → HaveSame xs ys → Contains xs v → Contains ys v
-in_same xs ys v same c = (c.0, omega (arith, c.1, same.count), sym (same.each c.0 v c.1) ∙ c.2)
 
 -- single votes, and then those of lists
 pub same_all : (alone new : List SignedVote) (lists : List (List SignedVote)) → Gains alone new (Contains (joined lists)) → AreSame new (all_votes alone lists)

@@ -1,19 +1,12 @@
 -- Votes that logs name, one by one and by certificates.
-use Rattle.std.specs.Prelude.{◌≡◌, ◌↔◌, ◌<◌, ℕ, List, ◌++◌, length, slice_index_or}
+use Rattle.std.specs.Prelude.{◌↔◌, List, ◌++◌, map}
 use Rattle.std.specs.List.{Contains, flat_map}
-use Rattle.certificates.specs.Certificates.{Certificate}
+use Rattle.certificates.specs.Certificates.{Certificate, vote_of}
 use Rattle.certificates.specs.declared.vote.SignedVote.{SignedVote}
-use Rattle.evidence.specs.Logs.{IsVoteOf}
-use Rattle.evidence.specs.Sets.{InSome}
 
--- the votes are those of the certificate
-abbrev pub AreVotesOf : Certificate → List SignedVote → Type 0
-AreVotesOf c votes = (v : SignedVote) → Contains votes v ↔ InSome (IsVoteOf c) c.entries v
-
--- two lists have the same in the same places
-pub record HaveSame (xs ys : List SignedVote) : Type 0 where
-  pub count : length xs ≡ length ys
-  pub each : (i : ℕ) (d : SignedVote) → i < length xs → slice_index_or xs i d ≡ slice_index_or ys i d
+-- the votes of a certificate, in the order of its entries
+abbrev pub certificate_votes : Certificate → List SignedVote
+certificate_votes c = map (vote_of c) c.entries
 
 -- two lists have the same, in any order
 abbrev pub AreSame : List SignedVote → List SignedVote → Type 0

@@ -1,7 +1,7 @@
 //! The votes of a certificate.
 
-ghost use Rattle.std.specs.Prelude.{◌≡◌, ◌∷◌, ◌++◌, [], IfOk, IsTrue, OnOk};
-ghost use Rattle.evidence.specs.NamedVotes.{AreVotesOf, HaveSame};
+ghost use Rattle.std.specs.Prelude.{◌≡◌, ◌↔◌, ◌∷◌, ◌++◌, [], IfOk, IsTrue, OnOk};
+ghost use Rattle.evidence.specs.NamedVotes.{certificate_votes};
 
 use crate::keeper::VoteKeeper;
 use crate::mark::Mark;
@@ -37,14 +37,14 @@ fn put(votes: &mut Vec<Shared<SignedVote>>, vote: Shared<SignedVote>) -> Result<
 }
 
 impl CertificateVotes {
-    /// The votes of this certificate, each as the keeper keeps it. Memory is refused where one of them, or the list, could
+    /// The votes of this certificate in their order, each as the keeper keeps it. Memory is refused where one of them, or the list, could
     /// not be made.
     pub fn of<K: VoteKeeper>(
         alloc: Global,
         keeper: &K,
         certificate: &Certificate,
     ) -> Result<CertificateVotes, AllocError>
-        ensures { IfOk result (AreVotesOf certificate.now) }
+        ensures { IfOk result (λ votes. votes ≡ certificate_votes certificate.now) }
     {
         let mut votes = Vec::with_capacity(alloc, certificate.count())?;
         for k in 0..certificate.count() {
@@ -58,13 +58,13 @@ impl CertificateVotes {
 
     // Whether these are the votes of this certificate: as many, each the same in its place.
     fn are_of(&self, certificate: &Certificate) -> bool
-        ensures { IsTrue result → AreVotesOf certificate.now self.now }
+        ensures { IsTrue result ↔ (self.now ≡ certificate_votes certificate.now) }
     {
         if self.votes.len() != certificate.count() {
             return false;
         }
         for k in 0..self.votes.len() {
-            if !certificate.has_vote(k, self.votes[k].get()) {
+            if !certificate.vote_is(k, self.votes[k].get()) {
                 return false;
             }
         }
@@ -73,7 +73,7 @@ impl CertificateVotes {
 
     // Whether the other has the same votes in the same places.
     fn is(&self, other: &CertificateVotes) -> bool
-        ensures { IsTrue result → HaveSame self.now other.now }
+        ensures { IsTrue result ↔ (self.now ≡ other.now) }
     {
         if self.votes.len() != other.votes.len() {
             return false;
@@ -128,7 +128,7 @@ impl<M: Mark> KeptCertificate<M> {
 
     /// Whether these are the votes of this certificate: as many, each the same in its place.
     pub fn are_of(&self, certificate: &Certificate) -> bool
-        ensures { IsTrue result → AreVotesOf certificate.now self.now }
+        ensures { IsTrue result ↔ (self.now ≡ certificate_votes certificate.now) }
     {
         self.votes.get().are_of(certificate)
     }
@@ -147,7 +147,7 @@ impl<M: Mark> KeptCertificate<M> {
 
     // Whether the other has the same votes in the same places, which are not compared where both have one mark.
     pub(crate) fn is(&self, other: &KeptCertificate<M>) -> bool
-        ensures { IsTrue result → HaveSame self.now other.now }
+        ensures { IsTrue result ↔ (self.now ≡ other.now) }
     {
         self.mark.is(&other.mark) || self.votes.get().is(other.votes.get())
     }

@@ -1,7 +1,7 @@
 //! Where equal votes and headers of several logs stand in memory once.
 
 ghost use Rattle.std.specs.Prelude.{◌≡◌, IfOk};
-ghost use Rattle.evidence.specs.NamedVotes.{AreVotesOf};
+ghost use Rattle.evidence.specs.NamedVotes.{certificate_votes};
 
 use crate::certificate_votes::{CertificateVotes, KeptCertificate};
 use crate::mark::{Mark, Unmarked};
@@ -19,12 +19,12 @@ pub trait VoteKeeper {
 
 /// Keeps votes, certificates and headers that logs name. It may hand out one value, shared, for those that are equal.
 pub trait Keeper<M: Mark>: VoteKeeper {
-    /// The votes of this certificate. Memory is refused where they, or a place for them, could not be made.
+    /// The votes of this certificate in their order. Memory is refused where they, or a place for them, could not be made.
     fn certificate(
         &self,
         certificate: &Certificate,
     ) -> Result<Shared<KeptCertificate<M>>, AllocError>
-        ensures { IfOk result (AreVotesOf certificate.now) };
+        ensures { IfOk result (λ votes. votes ≡ certificate_votes certificate.now) };
 
     /// This header. Memory is refused where it, or a place for it, could not be made.
     fn header(&self, header: &NamedHeader) -> Result<Shared<NamedHeader>, AllocError>

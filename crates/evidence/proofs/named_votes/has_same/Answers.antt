@@ -1,13 +1,12 @@
-use Rattle.std.proofs.Common.{List, subst}
+use Rattle.std.proofs.Common.{◌∙◌, List, subst}
 use Rattle.std.specs.List.{Contains}
 use Rattle.certificates.specs.declared.vote.SignedVote.{SignedVote}
-use Rattle.evidence.specs.NamedVotes.{HaveSame}
-use Rattle.evidence.proofs.NamedVotes.{in_joined, in_same}
+use Rattle.evidence.proofs.NamedVotes.{in_joined}
 use Rattle.evidence.proofs.named_votes.has_same.Goals as goal
 
 pub returns : goal.returns
 returns g c = λ is v has.
     let held = c.in-Some-get.held.now in
     let there = c.in-Some-get.ensures.lookup.3 in
-    let same = subst (λ (votes : List SignedVote). HaveSame c.args.certificate.now votes) c.get-2.ensures (c.is.ensures is) in
-    in_joined c.args.certificates.now c.in-Some.at held v there.0 (subst (λ (votes : List SignedVote). Contains votes v) (there.1 held) (in_same c.args.certificate.now held v same has))
+    let same = c.is.ensures.0 is ∙ c.get-2.ensures ∙ there.1 held in
+    in_joined c.args.certificates.now c.in-Some.at held v there.0 (subst (λ (votes : List SignedVote). Contains votes v) same has)

@@ -1,8 +1,7 @@
-use Rattle.std.proofs.Common.{◌∙◌, sym, subst}
-use Rattle.evidence.specs.NamedVotes.{AreVotesOf}
+use Rattle.std.proofs.Common.{◌∙◌}
 use Rattle.evidence.proofs.NamedVotes.{if_ok}
 use Rattle.evidence.proofs.keeper.AnewKeeperUnmarked.certificate.Goals as goal
 
 pub returns : goal.returns
 returns c =
-    if_ok c.new-3.result _ _ (λ kept is. subst (AreVotesOf c.args.certificate.now) (sym (is ∙ c.new-2.ensures ∙ c.in_ok-votes-2.ensures)) c.in_ok-votes.ensures) c.new-3.ensures
+    if_ok c.new-3.result _ _ (λ kept is. is ∙ c.new-2.ensures ∙ c.in_ok-votes-2.ensures ∙ c.in_ok-votes.ensures) c.new-3.ensures
