@@ -37,8 +37,8 @@ fn put(votes: &mut Vec<Shared<SignedVote>>, vote: Shared<SignedVote>) -> Result<
 }
 
 impl CertificateVotes {
-    /// The votes of this certificate in their order, each as the keeper keeps it. Memory is refused where one of them, or the list, could
-    /// not be made.
+    /// The votes of this certificate in their order, each as the keeper keeps it. Memory is refused where one of them, or the
+    /// list, could not be made.
     pub fn of<K: VoteKeeper>(
         alloc: Global,
         keeper: &K,

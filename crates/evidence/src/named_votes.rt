@@ -17,8 +17,8 @@ use std::alloc::{AllocError, Global};
 use std::collections::BTreeMap;
 use std::marker::Model;
 
-/// Votes that stand alone, each once, and certificates: of those for one block that have the votes of the first of them that
-/// first alone. Contracts see the list of all votes.
+/// Votes that stand alone, each once, and certificates; one that has the same votes as the first for its block is left out.
+/// Contracts see the list of all votes.
 #[derive(Drop)]
 pub struct NamedVotes<M: Mark> {
     alone: VoteSet,
