@@ -64,15 +64,6 @@ votes_in_order c votes long each =
     same_lists votes (certificate_votes c) (long ∙ sym (length-map c.entries (vote_of c)))
     (λ i d l. each i d l ∙ sym (nth_vote c i d (omega (arith, l, long))))
 
--- .. and the other way about
-pub as_many : (c : Certificate) (votes : List SignedVote) → votes ≡ certificate_votes c → length votes ≡ length c.entries
-as_many c votes is = ap (λ (vs : List SignedVote). length vs) is ∙ length-map c.entries (vote_of c)
-
-pub vote_in_place : (c : Certificate) (votes : List SignedVote) (i : ℕ) (d : SignedVote) → votes ≡ certificate_votes c → i < length votes
-    → get_or votes i d ≡ vote_of c (nth_endorsement c i)
-vote_in_place c votes i d is l =
-    ap (λ (vs : List SignedVote). get_or vs i d) is ∙ nth_vote c i d (omega (arith, l, as_many c votes is))
-
 -- a vote is among them if an entry stands for it
 pub among_votes : (c : Certificate) (v : SignedVote) → Contains (certificate_votes c) v ↔ CertificateHas c v
 among_votes c v = (
