@@ -1,5 +1,5 @@
 """What the trials of hs_watch share: servers that hand out given frames, honest or not, and watches over them."""
-import contextlib, http.client, os, shutil, socket, struct, subprocess, tempfile, threading, time
+import contextlib, hashlib, http.client, os, shutil, socket, struct, subprocess, tempfile, threading, time
 
 HERE = os.path.dirname(os.path.abspath(__file__))
 TOP = os.path.dirname(os.path.dirname(HERE))
@@ -49,6 +49,51 @@ def bad_votes(frame, count):
 def export_of(frames):
     """The stream in which frames are handed out."""
     return b"HSL1" + b"".join(struct.pack(">I", len(frame)) + frame for frame in frames) + struct.pack(">II", 0, len(frames))
+
+
+def digest_then(digest, frame):
+    """What frames digest to that digest to this, with one more behind them."""
+    return hashlib.sha256(digest + hashlib.sha256(frame).digest()).digest()
+
+
+def digest_of(frames):
+    """What frames digest to."""
+    digest = bytes(32)
+    for frame in frames:
+        digest = digest_then(digest, frame)
+    return digest
+
+
+def part_name(replica, source, log, count, digest):
+    """The name of the part that stands behind so many frames, which digest to this."""
+    return f"{replica}-{source}-{log}-{count}-{digest.hex()}.hsl"
+
+
+def name_of(replica, source, log, front):
+    """The name of the part that stands behind these frames."""
+    return part_name(replica, source, log, len(front), digest_of(front))
+
+
+def keep_singly(state, chain, replica, frames):
+    """Makes a folder in which a watch of this chain kept each of these frames as a part of its own. Answers the parts' names."""
+    os.mkdir(state, 0o700)
+    with open(f"{state}/chain", "w") as file:
+        file.write(chain)
+    names, digest = [], bytes(32)
+    for count, frame in enumerate(frames):
+        names.append(part_name(replica, 0, 0, count, digest))
+        with open(f"{state}/{names[-1]}", "wb") as file:
+            file.write(export_of([frame]))
+        digest = digest_then(digest, frame)
+    return names
+
+
+def chain_of(room):
+    """What a watch writes down in its folder of the chain of the fork."""
+    folder, state = f"{room}/chain-out", f"{room}/chain-state"
+    os.mkdir(folder)
+    Watch(folder, [(0, Server())], "--state", state, "--until-input-ends").end(0)
+    return open(f"{state}/chain").read()
 
 
 class Server:

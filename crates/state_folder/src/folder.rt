@@ -60,7 +60,7 @@ pub struct StateFolder<'f, 'a, F> {
 
 /// Opens a folder for the logs of this chain, which may have so many bytes in all; it is made where it is not there. What a kill
 /// left unfinished is removed. Until the file that is answered beside it is dropped it is locked.
-pub fn open_state<'f, 'a, F: Files<File = File>>(
+pub fn open_state<'f, 'a, F: Files<File = File> + AllocGlobal + Clone + Drop>(
     files: &'f F,
     alloc: Global,
     path: &'a str,
@@ -79,7 +79,7 @@ pub fn open_state<'f, 'a, F: Files<File = File>>(
 
 /// Opens a folder that is there, of whatever chain, to read its parts: it may get no more. What a kill left unfinished is
 /// removed. Until the file that is answered beside it is dropped it is locked.
-pub fn open_kept<'f, 'a, F: Files<File = File>>(
+pub fn open_kept<'f, 'a, F: Files<File = File> + AllocGlobal + Clone + Drop>(
     files: &'f F,
     alloc: Global,
     path: &'a str,
@@ -94,7 +94,7 @@ pub fn open_kept<'f, 'a, F: Files<File = File>>(
 }
 
 // A folder and the parts that are there.
-fn with_parts<'f, 'a, F: Files<File = File>>(
+fn with_parts<'f, 'a, F: Files<File = File> + AllocGlobal + Clone + Drop>(
     files: &'f F,
     alloc: Global,
     path: &'a str,
@@ -199,37 +199,36 @@ impl<F: Files<File = File>> StateFolder<'_, '_, F> {
     }
 
     // Finds the parts that are there, and how many bytes all files have.
-    fn find_parts(&mut self) -> Result<(), StateFault> {
+    fn find_parts(&mut self) -> Result<(), StateFault>
+    where
+        F: AllocGlobal + Clone + Drop,
+    {
         let names = match names_in(self.files, self.alloc, self.path) {
             Ok(names) => names,
             Err(error) => return Err(fault_of(&error, StateFault::Folder)),
         };
-        for name in names.split(|byte| *byte == 0) {
+        for name in &names {
             self.find(name)?;
         }
         put_in_order(&mut self.parts);
         Ok(())
     }
 
-    fn find(&mut self, name: &[u8]) -> Result<(), AllocError> {
-        let Ok(text) = from_utf8(name) else {
-            return Ok(());
-        };
-        if let Some(whole) = text.strip_suffix(".new")
+    fn find(&mut self, name: &str) -> Result<(), AllocError> {
+        let path = self.path_behind(name)?;
+        if let Some(whole) = name.strip_suffix(".new")
             && (whole == "chain" || PartName::of(self.alloc, whole.as_bytes())?.is_some())
         {
-            let path = self.path_behind(text)?;
             // What can't be removed stays, and then that part can't be stored: that is told.
             let _ = fs::remove_file(self.files, path.as_str());
             return Ok(());
         }
-        let path = self.path_behind(text)?;
         let Ok(found) = fs::symlink_metadata(self.files, &path) else {
             return Ok(());
         };
         if found.is_file() {
             let _before = self.held.fetch_add(found.len(), Ordering::SeqCst);
-            if let Some(part) = PartName::of(self.alloc, name)? {
+            if let Some(part) = PartName::of(self.alloc, name.as_bytes())? {
                 self.parts.push(part)?;
             }
         }

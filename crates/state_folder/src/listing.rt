@@ -1,18 +1,23 @@
 //! What stands in a folder.
 
 use std::alloc::Global;
-use std::fs::{File, Files};
-use std::io;
-use std::io::Read;
+use std::fs::Files;
+use std::io::ErrorKind;
+use std::{fs, io};
 
-/// The names of all that stands in a folder, each ended by a NUL.
-pub(crate) fn names_in<F: Files<File = File>>(
+/// The names of all that stands in a folder, in no order. A name that is no text is left out: it is none of a watch's.
+pub(crate) fn names_in<F: Files + AllocGlobal + Clone + Drop>(
     files: &F,
     alloc: Global,
     folder: &str,
-) -> io::Result<Vec<u8>> {
-    let path = format!(in alloc; "{folder}/")?;
+) -> io::Result<Vec<String>> {
     let mut names = Vec::new(alloc);
-    let _length = files.open_dir(&path)?.read_to_end(&mut names)?;
+    for entry in fs::read_dir(files, folder)? {
+        match entry {
+            Ok(entry) => names.push(entry.file_name().to_string(alloc)?)?,
+            Err(error) if error.kind() == ErrorKind::InvalidFilename => {}
+            Err(error) => return Err(error),
+        }
+    }
     Ok(names)
 }
