@@ -10,6 +10,9 @@ function made(name, words, ...inside) {
 
 const idOf = (digits) => made("span", { class: "id" }, digits);
 
+/** A file's name in a place of its own, so that no character of it turns the words around it round. */
+const nameOf = (file) => made("bdi", {}, file.name);
+
 /** The digits of an id in groups of four. */
 function chainOf(id) {
   return made("p", { class: "chain id" }, ...id.match(/.{4}/g).flatMap((group) => [made("span", {}, group), " "]));
@@ -59,16 +62,16 @@ function showCommittee() {
   at.replaceChildren();
   by("compare").hidden = committee === null || committee.shown.answer !== 0;
   if (committee === null) return;
-  const { name, shown, digest } = committee;
+  const { shown, digest } = committee;
   if (shown.answer !== 0) {
     const refusal = COMMITTEE_REFUSALS[-shown.answer];
-    at.append(made("p", { class: "said bad" }, `\u2718 ${name} is no committee (${-shown.answer} ${refusal.name})`), made("p", {}, refusal.says));
+    at.append(made("p", { class: "said bad" }, "\u2718 ", nameOf(committee), ` is no committee (${-shown.answer} ${refusal.name})`), made("p", {}, refusal.says));
     return;
   }
   const size = shown.weighted
     ? `${shown.n} replicas of weight ${shown.total} together, of which a quorum is ${shown.quorum}`
     : `${shown.n} replicas, of which ${(shown.n - 1) / 3} may be faulty and a quorum is ${shown.quorum}`;
-  at.append(made("p", {}, made("strong", {}, name), `: ${size}.`), made("p", { class: "soft" }, "SHA-256 of the file: ", idOf(digest)),
+  at.append(made("p", {}, made("strong", {}, nameOf(committee)), `: ${size}.`), made("p", { class: "soft" }, "SHA-256 of the file: ", idOf(digest)),
     made("p", {}, "Its chain id, to compare over a separate channel:"), chainOf(shown.chain), replicasOf(shown));
   showComparison();
 }
@@ -98,7 +101,7 @@ function votesOf(said, isGood, isCompared) {
   if (headers !== null) {
     rows.push(["Parent\u2019s view", `${headers.first.parentView}`, `${headers.second.parentView}`, false],
       ["Parent block", headers.first.parent, headers.second.parent, false],
-      ["Lock", `this vote locks view ${headers.parent.parentView}, that of its parent\u2019s parent`,
+      ["Lock", `once it was cast, of view ${headers.parent.parentView}, that of the block\u2019s grandparent, or of a later one`,
         `its parent\u2019s view is ${headers.second.parentView}`, headers.second.parentView < headers.parent.parentView]);
   }
   return made("div", { class: "wide" }, made("table", {},
@@ -114,7 +117,7 @@ function votesOf(said, isGood, isCompared) {
 function storyOf(found, said) {
   if (found.rule === 1) return `It signed two votes for different blocks in view ${found.view}.`;
   const { parent, second } = said.headers;
-  return `Its vote in view ${said.first.view} locked it on a block of view ${parent.parentView}. Its vote in view ${found.view} is for a block whose parent, of view ${second.parentView}, leaves that block.`;
+  return `Once it had voted in view ${said.first.view}, its lock was the grandparent of that vote\u2019s block, of view ${parent.parentView}, or a block of a later view, whatever had put it there. Its vote in view ${found.view} is for a block that does not build on that lock: the parent of that block is of view ${second.parentView}.`;
 }
 
 function acceptedOf(found, said, isCompared) {
@@ -146,7 +149,7 @@ function answerOf(verdict, isCompared) {
   const said = checker.verdict(verdict.bytes);
   const isGood = found.answer === 0;
   const colour = !isCompared ? "" : isGood ? "is-good" : "is-bad";
-  const card = made("article", { class: `card verdict ${colour}`.trim() }, made("h3", {}, "File: ", made("bdi", {}, verdict.name)));
+  const card = made("article", { class: `card verdict ${colour}`.trim() }, made("h3", {}, "File: ", nameOf(verdict)));
   card.dataset.line = lineOf(found);
   card.append(...(isGood ? acceptedOf(found, said, isCompared) : refusedOf(found, verdict, isCompared)));
   if (said !== null) card.append(votesOf(said, isGood, isCompared));
@@ -167,8 +170,8 @@ function showAnswers() {
     const answers = verdicts.map((it) => answerOf(it, isCompared));
     at.append(...answers.map(([card]) => card));
     const good = answers.filter(([, isGood]) => isGood).length;
-    const under = isCompared ? `under ${committee.name}` : `under ${committee.name}, which you have not compared: enter the chain id that you were told`;
-    summary.textContent = `${good} accepted, ${answers.length - good} refused, ${under}.`;
+    const end = isCompared ? "." : ", which you have not compared: enter the chain id that you were told.";
+    summary.replaceChildren(`${good} accepted, ${answers.length - good} refused, under `, nameOf(committee), end);
   }
 }
 

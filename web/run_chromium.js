@@ -83,6 +83,8 @@ async function main() {
       order.push(await browser.tell(`document.activeElement === document.body ? "" : document.activeElement.id || document.activeElement.tagName.toLowerCase()`));
     }
     compare("committee-file summary told verdict-files", [...new Set(order.filter(Boolean))].join(" "), "where the tabulator key goes");
+    // The committee's name stands by itself where it is told.
+    compare("committee.hsc committee.hsc", await browser.tell(`Array.from(document.querySelectorAll("#committee-shown bdi, #summary bdi"), (it) => it.textContent).join(" ")`), "the committee's name");
     // A name that is markup stays text.
     const named = `${mkdtempSync(`${tmpdir()}/named-`)}/<img src=x onerror="document.title=1">.hsx`;
     copyFileSync(`${top}/examples/double_vote.hsx`, named);

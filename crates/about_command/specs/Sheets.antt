@@ -30,7 +30,7 @@ double_vote_text = codes "Rule 1, double vote: it signed votes for two different
 
 unfoldable pub lock_violation_text : List ℕ
 lock_violation_text =
-    codes "Rule 2, lock violation: its first vote locked it on the grandparent of that vote's\nblock. It then signed a vote for a block that does not build on the lock, and whose\nparent is in no later view than the lock.\n\n"
+    codes "Rule 2, lock violation: once it had cast its first vote, its lock was the grandparent of\nthat vote's block or a block of a later view, whatever had put it there. Its second vote,\nin a later view, is for a block that does not build on that lock: the parent of that block\nis in an earlier view than the grandparent of the first vote's block.\n\n"
 
 abbrev pub rule_part : ℕ → List ℕ
 rule_part rule = if rule == 1 then double_vote_text else lock_violation_text

@@ -9,7 +9,7 @@ use wire::append;
 
 /// Adds what the table says of a line: for each row that fits it which programs print it, what it means and what to do. Answers whether
 /// there is such a row. Memory is all that can fail, and then a first part was added.
-#[tactic(auto, using(crate::proofs::Sayings::said_more, crate::proofs::Sayings::said_no_more))]
+#[tactic(auto, using(crate::proofs::Sayings::said_no_more))]
 pub(crate) fn put_explanations(text: &mut Vec<u8>, line: &str) -> Result<bool, AllocError>
     ensures { IfOk result (λ is_known. AreSaid text.old.items text.new.items is_known) }
 {

@@ -126,7 +126,7 @@ fn double_vote_text() -> &'static str
 fn lock_violation_text() -> &'static str
     ensures { result.now ≡ lock_violation_text }
 {
-    "Rule 2, lock violation: its first vote locked it on the grandparent of that vote's\nblock. It then signed a vote for a block that does not build on the lock, and whose\nparent is in no later view than the lock.\n\n"
+    "Rule 2, lock violation: once it had cast its first vote, its lock was the grandparent of\nthat vote's block or a block of a later view, whatever had put it there. Its second vote,\nin a later view, is for a block that does not build on that lock: the parent of that block\nis in an earlier view than the grandparent of the first vote's block.\n\n"
 }
 
 fn put_rule(text: &mut Vec<u8>, rule: Rule) -> Result<(), AllocError>

@@ -3,5 +3,6 @@ pub mod FaultLines
 pub mod Faults
 pub mod Followings
 pub mod Outputs
+pub mod ProofFiles
 pub mod Sources
 pub mod Words

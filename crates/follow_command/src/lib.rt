@@ -5,6 +5,7 @@
 mod fault;
 mod following;
 mod lines;
+mod place;
 mod program;
 mod proving;
 mod reading;
