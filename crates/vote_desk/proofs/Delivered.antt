@@ -1,5 +1,6 @@
 -- What a delivery comes to.
 use Rattle.std.proofs.Common.{◌≡◌, inl, inr, ℕ, ◌+◌, ◌<◌, Bool, true, false, cond, List, [], ◌∷◌, ◌++◌, length, Option, Some, None, IfSome, refl, sym, ap, subst, ◌∙◌, arith}
+use Rattle.std.specs.Prelude.{slice_get}
 use Rattle.std.proofs.lemmas.Bool.Decides.{nat_tests}
 use Rattle.lmots.specs.declared.keys.PrivateSeed.{PrivateSeed}
 use Rattle.blocks.specs.Headers.{Header, header_id}
@@ -28,6 +29,7 @@ use Rattle.vote_desk.specs.declared.reply.Receipt.{Receipt}
 use Rattle.vote_desk.specs.Deliveries.{CommitsIn, HasEffect, IsDelivered, IsLeftBy, IsLeftWith, IsLegalPlan, IsStored, Votes, act_of, entry_for, planned_entry, released_by, signed_in, vote_under}
 use Rattle.vote_desk.specs.DeskRefusals.{Asks, IsDeskRefusal, IsPlanRefusal, IsRoomRefusal, IsRunning, IsStorageRefusal, Stores}
 use Rattle.vote_desk.specs.Desks.{DeskView, KeepsDesk, index_of}
+use Rattle.vote_desk.specs.Receipts.{IsReceiptOf}
 use Rattle.vote_desk.proofs.Keeping.{legal_next}
 use Rattle.vote_desk.proofs.Plans.{asks_to_store, planned_back}
 use Rattle.vote_desk.proofs.Steps.{allowed_on, root_of}
@@ -208,4 +210,20 @@ votes {D} bytes committee replica old mid new b plan r seeds indices log is numb
   good = good;
   adds = subst (λ (l : LogState D). AddsEntry bytes l new.log (entry_for b plan.parent (Some (signed_in r.vote)))) log adds;
   drawn = drawn ∙ ap (λ (i : IndexState D). i.mark + 1) indices;
+}
+
+-- ---- its place
+
+got_last : {X : Type 0} (xs : List X) (x : X) → slice_get (xs ++ x ∷ []) (length xs) ≡ Some x
+got_last [] x = refl
+got_last (y ∷ ys) x = got_last ys x
+
+-- the receipt of a vote is of the list with its entry
+pub stands : (old new : List Stored) (x : Stored) (r : Receipt) → new ≡ old ++ x ∷ [] → r.number ≡ length old → x.voted ≡ true → r.vote.view ≡ x.block.view → r.vote.id ≡ header_id x.block
+    → IsReceiptOf 0 new r
+stands old new x r is number voted view id = record {
+  behind = omega arith;
+  entry = x;
+  at = ap (slice_get new) number ∙ ap (λ (l : List Stored). slice_get l (length old)) is ∙ got_last old x;
+  vote = record { voted = voted; view = view; id = id };
 }

@@ -10,3 +10,5 @@ pub mod Numbers
 pub mod Moments
 pub mod OnlyRead
 pub mod FoundVotes
+pub mod OpeningVotes
+pub mod Later

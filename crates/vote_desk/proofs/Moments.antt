@@ -54,6 +54,11 @@ module _ {D T : Type 0} (IsDesk : DeskView D → Type 0) (old new : DeskView D) 
   stops before (Ok x) stopped = tt
   stops before (Err e) stopped = (stopped.0, record { desk = old; is_desk = before; is = stopped.1 })
 
+-- what an answer is
+pub ok_so : {T E : Type 0} (P Q : T → Type 0) (r : Result T E) → IfOk r P → ((x : T) → P x → Q x) → IfOk r Q
+ok_so P Q (Ok x) p f = f x p
+ok_so P Q (Err e) p f = tt
+
 -- what is refused, with the answer itself
 pub refused_so : {T E : Type 0} (P Q : E → Type 0) (r : Result T E) → IfErr r P → ((e : E) → r ≡ Err e → P e → Q e) → IfErr r Q
 refused_so P Q (Ok x) p f = tt

@@ -6,3 +6,5 @@ pub mod Stays
 pub mod SomeDesk
 pub mod Votes
 pub mod Exports
+pub mod Released
+pub mod Later

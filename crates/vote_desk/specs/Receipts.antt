@@ -7,6 +7,8 @@ use Rattle.blocks.specs.Replica.{Stored}
 use Rattle.blocks.specs.declared.ballot.Ballot.{Ballot}
 use Rattle.log_format.specs.EntryText.{Entry}
 use Rattle.vote_log.specs.Logs.{StandsForEntries, steps_of}
+use Rattle.vote_desk.specs.declared.reply.Answer.{Answer}
+use Rattle.vote_desk.specs.declared.reply.Answer.TheVariants.{Voted, Raised, Held}
 use Rattle.vote_desk.specs.declared.reply.Receipt.{Receipt}
 use Rattle.vote_desk.specs.Desks.{vote_count}
 
@@ -33,6 +35,12 @@ pub record IsReceiptOf (opened : ℕ) (steps : List Stored) (r : Receipt) : Type
   pub entry : Stored
   pub at : slice_get steps r.number ≡ Some entry
   pub vote : IsVoteIn entry r
+
+-- the receipt of an answer, if it has one, is of the list
+abbrev pub StandsIn : List Stored → Answer → Type 0
+StandsIn steps (Voted r) = IsReceiptOf 0 steps r
+StandsIn steps Raised = Unit {0}
+StandsIn steps Held = Unit {0}
 
 -- no two have one number
 abbrev pub HaveOwnNumbers : List Receipt → Type 0

@@ -1,5 +1,8 @@
 -- The vote of a log in a view. A legal list has one at the most.
-use Rattle.std.specs.Prelude.{◌≡◌, ℕ, List, true, Option, Some, None, IfSome, slice_get}
+use Rattle.std.specs.Prelude.{◌≡◌, ◌≢◌, ◌≤◌, ℕ, List, true, Option, Some, None, IfSome, slice_get}
+use Rattle.std.specs.List.{All, Contains}
+use Rattle.blocks.specs.Headers.{Header}
+use Rattle.blocks.specs.Replay.{replay}
 use Rattle.blocks.specs.Replica.{Stored}
 use Rattle.log_format.specs.EntryText.{Entry, own_vote_of}
 use Rattle.streams.specs.Counting.{HasFailed}
@@ -9,6 +12,7 @@ use Rattle.vote_log.specs.Logs.{LogState}
 use Rattle.vote_log.specs.declared.log_error.LogError.{LogError}
 use Rattle.vote_log.specs.declared.log_error.LogError.TheVariants.{Device, Stopped}
 use Rattle.vote_desk.specs.declared.reply.Receipt.{Receipt}
+use Rattle.vote_desk.specs.Deliveries.{ListGrows}
 use Rattle.vote_desk.specs.Desks.{DeskView}
 use Rattle.vote_desk.specs.Exports.{IsOnlyRead}
 use Rattle.vote_desk.specs.Receipts.{IsReceiptOf}
@@ -40,6 +44,43 @@ pub record HasVote {D : Type 0} (bytes : D → Option (List ℕ)) (replica : ℕ
 abbrev pub IsVoteFound : {D : Type 0} → (D → Option (List ℕ)) → ℕ → LogState D → ℕ → Option Receipt → Type 0
 IsVoteFound bytes replica log view (Some r) = HasVote bytes replica log view r
 IsVoteFound bytes replica log view None = HasNoVote view log.steps
+
+-- ---- what the opening list says of it
+
+-- a receipt of entry k of this list is found
+abbrev pub IsFoundAt : List Stored → ℕ → Option Receipt → Type 0
+IsFoundAt list k (Some r) = (r.number ≡ k) × IsReceiptOf 0 list r
+IsFoundAt list k None = ⊥
+
+-- the vote that the opening list has in this view is found
+abbrev pub IsFoundAsOpened : List Stored → ℕ → Option Receipt → Type 0
+IsFoundAsOpened opening view found = (k : ℕ) → IsVoteAt view opening k → IsFoundAt opening k found
+
+-- in a view up to the opening list's stored vote view no vote is found that it lacks
+abbrev pub IsNoneFoundBelow : Header → List Stored → ℕ → Option Receipt → Type 0
+IsNoneFoundBelow genesis opening view found = view ≤ (replay genesis opening).stored_vote_view → HasNoVote view opening → found ≡ None
+
+-- ---- what was released
+
+-- each vote in this view that a first part of the list has is found
+abbrev pub IsFoundSince : List Stored → ℕ → Option Receipt → Type 0
+IsFoundSince list view found = (earlier : List Stored) (k : ℕ) → ListGrows earlier list → IsVoteAt view earlier k → IsFoundAt earlier k found
+
+-- where the receipt's vote is in this view, just that receipt is found
+abbrev pub IsFoundIfIn : ℕ → Option Receipt → Receipt → Type 0
+IsFoundIfIn view found r = r.vote.view ≡ view → found ≡ Some r
+
+-- .. and so for each of these receipts
+abbrev pub AreFound : ℕ → List Receipt → Option Receipt → Type 0
+AreFound view receipts found = All (IsFoundIfIn view found) receipts
+
+-- one of these receipts has this number and a vote in this view, and something else is found
+pub record IsNotFound (view : ℕ) (receipts : List Receipt) (found : Option Receipt) (number : ℕ) : Type 0 where
+  pub receipt : Receipt
+  pub released : Contains receipts receipt
+  pub number_is : receipt.number ≡ number
+  pub view_is : receipt.vote.view ≡ view
+  pub other : found ≢ Some receipt
 
 -- ---- refusals
 

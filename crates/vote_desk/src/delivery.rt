@@ -5,6 +5,7 @@ ghost use Rattle.blocks.specs.Replica.{Takes, Timeout};
 ghost use Rattle.vote_desk.specs.Deliveries.{BoundsIndices, IsDelivered, IsGoodReply, IsLeftAfter, IsLike, IsTold, RunsOn, SurvivesCrash, act_of};
 ghost use Rattle.vote_desk.specs.DeskRefusals.{IsDeskRefusal, IsRunning, IsStopped, MayDo};
 ghost use Rattle.vote_desk.specs.Desks.{timed_out_at};
+ghost use Rattle.vote_desk.specs.Receipts.{StandsIn};
 ghost use Rattle.vote_desk.specs.SomeDesk.{RefusesUnvoted};
 
 use crate::desk_error::DeskError;
@@ -43,6 +44,9 @@ pub fn deliver_on<N: DeskNaming, D: Disk>(
         IsTold session.old.receipts.items session.new.receipts.items session.old.share.amount
         session.new.share.amount reply.act) (λ _. IsTold session.old.receipts.items
         session.new.receipts.items session.old.share.amount session.new.share.amount Answer.Held) }
+
+    // That receipt is of the list, which only grows.
+    ensures stands { IfOk result (λ reply. StandsIn state.new.log.steps reply.act) }
 
     // A crash at any moment of the call leaves the list from before it, or that with the entry of the planned event.
     ensures any_moment { IfSome (D.bytes state.old.log.disk) (λ _.

@@ -12,9 +12,10 @@ ghost use Rattle.vote_desk.specs.DeskRefusals.{IsStartRefusal, IsStartable, IsSt
 ghost use Rattle.vote_desk.specs.Desks.{HoldsId, KeepsDesk, desk_of, left_of, status_of, vote_count};
 ghost use Rattle.vote_desk.specs.Exports.{IsOut, RefusesExport};
 ghost use Rattle.vote_desk.specs.Receipts.{AreRisingByNumber, AreReceipts, KeepsReceipts, receipt_ballot, receipts_of};
+ghost use Rattle.vote_desk.specs.Released.{RefusesVoteWith};
 ghost use Rattle.vote_desk.specs.SomeDesk.{IsDeskOf, Refuses, RefusesUnvoted, Replies, RepliesUnvoted, SomeDesk, SomeDeskMoves, TimesOut};
 ghost use Rattle.vote_desk.specs.Stays.{AreLeftByStay, IsStay};
-ghost use Rattle.vote_desk.specs.Votes.{IsVoteFound, RefusesVoteIn};
+ghost use Rattle.vote_desk.specs.Votes.{AreFound, IsFoundAsOpened, IsNoneFoundBelow, IsVoteFound, RefusesVoteIn};
 
 use crate::closing::close_on;
 use crate::delivery::{deliver_on, deliver_unvoted_on, timeout_on};
@@ -25,6 +26,7 @@ use crate::reply::{Receipt, Reply};
 use crate::session::Session;
 use crate::start_error::StartError;
 use crate::state::DeskState;
+use crate::votes::number_not_found;
 use blocks::{CommitteeView, Id};
 use certificates::CheckedBlock;
 use replica_core::Act;
@@ -118,6 +120,8 @@ fn vote_in_from<N: DeskNaming, D: Disk>(
 ) -> Result<Option<Receipt>, LogError>
     ensures ok { IfOk result (λ found. SomeDesk (IsDeskOf D.Disk N.committee N.replica N.opening)
         (λ d. IsVoteFound D.bytes N.replica d.log view found)) }
+    ensures opened { IfOk result (IsFoundAsOpened N.opening view) }
+    ensures none_below { IfOk result (IsNoneFoundBelow (genesis_of N.committee) N.opening view) }
     ensures refused { IfErr result (λ e.
         SomeDeskMoves (IsDeskOf D.Disk N.committee N.replica N.opening)
         (RefusesVoteIn D.Disk view e)) }
@@ -316,12 +320,46 @@ impl<N: DeskNaming, D: Disk> Desk<N, D> {
         ensures ok { IfOk result (λ found.
             SomeDesk (IsDeskOf D.Disk N.committee N.replica N.opening)
             (λ d. IsVoteFound D.bytes N.replica d.log view found)) }
+
+        // Which desk answers, no clause can name; but whichever it is, the opening list's vote in the view is found, and up to
+        // its stored vote view no other.
+        ensures opened { IfOk result (IsFoundAsOpened N.opening view) }
+        ensures none_below { IfOk result
+            (IsNoneFoundBelow (genesis_of N.committee) N.opening view) }
         ensures refused { IfErr result (λ e.
             SomeDeskMoves (IsDeskOf D.Disk N.committee N.replica N.opening)
             (RefusesVoteIn D.Disk view e)) }
     {
         let mut state = self.state.lock(rt);
         vote_in_from(&mut *state, view)
+    }
+
+    /// Finds the vote in a view as `vote_in` does, for a caller who has receipts of votes that the desk released, as
+    /// `Session::receipts` tells them: where one of them is in this view, just that vote is found, with its number and its
+    /// signature, whatever the log's disk tells. Refused as `vote_in` is, and last by `BadEntry` with the receipt's number,
+    /// where the log gives another vote than was released, or none.
+    pub fn vote_in_with<R: Wait>(
+        &self,
+        rt: &R,
+        released: &[Receipt],
+        view: u64,
+    ) -> Result<Option<Receipt>, LogError>
+        ensures released { IfOk result (AreFound view released.now) }
+        ensures ok { IfOk result (λ found.
+            SomeDesk (IsDeskOf D.Disk N.committee N.replica N.opening)
+            (λ d. IsVoteFound D.bytes N.replica d.log view found)) }
+        ensures opened { IfOk result (IsFoundAsOpened N.opening view) }
+        ensures none_below { IfOk result
+            (IsNoneFoundBelow (genesis_of N.committee) N.opening view) }
+        ensures refused { IfErr result
+            (RefusesVoteWith D.Disk (IsDeskOf D.Disk N.committee N.replica N.opening) N.replica
+            view released.now) }
+    {
+        let found = self.vote_in(rt, view)?;
+        match number_not_found(released, view, &found) {
+            None => Ok(found),
+            Some(number) => Err(LogError::BadEntry(number)),
+        }
     }
 
     /// Takes the lock, which may wait, and copies the stream of the log's entries from `first` on, counted from 0, at most

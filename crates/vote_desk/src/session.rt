@@ -31,6 +31,13 @@ impl<N: DeskNaming> Session<N> {
         }
     }
 
+    /// The receipts of the votes that were released to it, in their order.
+    pub fn receipts(&self) -> &[Receipt]
+        ensures { result.now ≡ self.now.receipts.items }
+    {
+        &self.receipts
+    }
+
     // Makes room for one receipt more.
     pub(crate) fn reserve(&mut self) -> Result<(), DeskError>
         ensures receipts { self.new.receipts.items ≡ self.old.receipts.items }

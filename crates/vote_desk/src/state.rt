@@ -18,7 +18,7 @@ ghost use Rattle.vote_desk.specs.Deliveries.{BoundsIndices, DrawsAtMostOne, Fail
 ghost use Rattle.vote_desk.specs.DeskRefusals.{HasRoom, HasRoomTo, IsPlanRefusal, IsRunning, IsStopped, IsStorageRefusal};
 ghost use Rattle.vote_desk.specs.Desks.{AreKeysOf, HoldsId, KeepsDesk, desk_of, index_of, left_of, status_of};
 ghost use Rattle.vote_desk.specs.Exports.{IsOnlyRead, IsOut};
-ghost use Rattle.vote_desk.specs.Votes.{IsVoteFound, IsVoteInRefusal};
+ghost use Rattle.vote_desk.specs.Votes.{IsFoundSince, IsVoteFound, IsVoteInRefusal};
 ghost use Rattle.vote_log.specs.LogExport.{Blames, IsExportRefusal, export_of};
 ghost use Rattle.streams.specs.Streams.{WrotePart};
 ghost use Rattle.vote_desk.specs.Stays.{IsImageAfter, IsStay, stay_in};
@@ -169,6 +169,9 @@ impl<N: DeskNaming, D: Disk> DeskState<N, D> {
     /// were written.
     pub fn vote_in(&mut self, view: u64) -> Result<Option<Receipt>, LogError>
         ensures ok { IfOk result (IsVoteFound D.bytes N.replica self.old.log view) }
+
+        // The list only grows: what it had at any moment before is found.
+        ensures since { IfOk result (IsFoundSince self.old.log.steps view) }
         ensures exact { OnOk result (self.old.log.stopped ≡ false) }
         ensures same { IsOnlyRead D.Disk self.old self.new }
         ensures first_refusal { IfErr result

@@ -3,7 +3,7 @@
 ghost use Rattle.std.specs.Prelude.{◌≡◌, ◌≢◌, ◌↔◌, false, IfErr, IfOk, IsErrOf, IsTrue, MatchOption, OnOk};
 ghost use Rattle.stable_log.specs.Devices.{Untouched};
 ghost use Rattle.streams.specs.Counting.{HasFailed};
-ghost use Rattle.vote_desk.specs.Votes.{HasNoVote, IsVoteAt, IsVoteFound, IsVoteInRefusal, IsVoteOfView};
+ghost use Rattle.vote_desk.specs.Votes.{AreFound, HasNoVote, IsFoundIfIn, IsNotFound, IsVoteAt, IsVoteFound, IsVoteInRefusal, IsVoteOfView};
 
 use crate::receipts::is_receipt;
 use crate::reply::Receipt;
@@ -69,4 +69,28 @@ pub(crate) fn vote_in<D: Disk>(
         return Err(LogError::BadEntry(number));
     }
     Ok(Some(receipt))
+}
+
+// Whether just this receipt was found, where its vote is in this view.
+fn is_found_if_in(receipt: &Receipt, view: u64, found: &Option<Receipt>) -> bool
+    ensures { IsTrue result ↔ IsFoundIfIn view found.now receipt.now }
+{
+    receipt.vote.view != view || *found == Some(*receipt)
+}
+
+/// The number of the first of these receipts whose vote is in this view and was not found, if there is one.
+pub(crate) fn number_not_found(
+    receipts: &[Receipt],
+    view: u64,
+    found: &Option<Receipt>,
+) -> Option<usize>
+    ensures { MatchOption result (AreFound view receipts.now found.now)
+        (IsNotFound view receipts.now found.now) }
+{
+    for k in 0..receipts.len() {
+        if !is_found_if_in(&receipts[k], view, found) {
+            return Some(receipts[k].number as usize);
+        }
+    }
+    None
 }

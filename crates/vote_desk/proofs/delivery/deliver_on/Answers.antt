@@ -1,6 +1,7 @@
-use Rattle.std.proofs.Common.{◌≡◌, ◌+◌, inl, inr, ℕ, IfSome, None, Some, sym, ap, subst, ◌∙◌, arith, rules}
+use Rattle.std.proofs.Common.{◌≡◌, ◌+◌, inl, inr, ℕ, IfSome, None, Some, refl, sym, ap, subst, ◌∙◌, arith, rules}
 use Rattle.std.proofs.lemmas.Result.{err_from_is_err_and}
 use Rattle.blocks.specs.Headers.{Header, header_id}
+use Rattle.log_format.specs.EntryText.{stored_in}
 use Rattle.replica_core.specs.declared.plan.Act.{Act}
 use Rattle.replica_core.specs.declared.plan.Act.TheVariants as act
 use Rattle.stable_log.specs.Crash.{LeavesOnly}
@@ -10,7 +11,7 @@ use Rattle.vote_desk.specs.declared.reply.Answer.TheVariants.{Voted, Raised, Hel
 use Rattle.vote_desk.specs.DeskRefusals.{HasRoomTo}
 use Rattle.blocks.specs.Genesis.{chain_id_of}
 use Rattle.vote_desk.specs.Deliveries.{BoundsIndices, signed_in, vote_under, CommitsIn, IsLeftBy, IsLeftWith, entry_for}
-use Rattle.vote_desk.proofs.Delivered.{asks_for, committed_in, delivered, durable_now, plan_is_of, raised_image, same_signature, storage_refused, voted_image, votes}
+use Rattle.vote_desk.proofs.Delivered.{asks_for, committed_in, delivered, durable_now, plan_is_of, raised_image, same_signature, stands, storage_refused, voted_image, votes}
 use Rattle.certificates.specs.declared.vote.SignedVote.{SignedVote}
 use Rattle.vote_desk.proofs.Moments.{survived}
 use Rattle.vote_desk.proofs.Steps.{weaker}
@@ -61,6 +62,15 @@ returns-in-Vote-clause-reply g c =
       committed = subst (λ (h : Header). IfSome c.in_ok-planned.planned.plan.committed (CommitsIn h c.args.block.header)) e.chain
           (committed_in c.args.state.now.core c.plan.new.self.core c.in_ok-planned.planned.plan c.args.block.header e.core e.plan is);
     }
+
+pub returns-in-Vote-clause-stands : goal.returns-in-Vote-clause-stands
+returns-in-Vote-clause-stands g c =
+    let b = c.in_ok-planned.planned in
+    let r = c.in_ok-receipt-in-Vote.receipt in
+    let v = c.in_ok-receipt-in-Vote.ensures in
+    stands c.plan.new.self.log.steps c.vote.new.self.log.steps (stored_in (entry_for b.block b.plan.parent (Some (signed_in r.vote)))) r v.stored.adds.steps v.number refl
+    (ap (λ (x : SignedVote). x.view) v.vote ∙ ap (λ (h : Header). h.view) b.of_block)
+    (ap (λ (x : SignedVote). x.id) v.vote ∙ ap header_id b.of_block)
 
 pub returns-in-Vote-clause-durable : goal.returns-in-Vote-clause-durable
 returns-in-Vote-clause-durable g c = record {

@@ -1,8 +1,10 @@
 use Rattle.std.proofs.Common.{ℕ, IfOk, ap, subst}
 use Rattle.vote_log.specs.Logs.{LogState}
 use Rattle.vote_desk.specs.Desks.{DeskView, desk_of}
-use Rattle.vote_desk.specs.Votes.{IsVoteFound}
+use Rattle.vote_desk.specs.Votes.{IsFoundSince, IsVoteFound}
+use Rattle.vote_desk.proofs.Moments.{ok_so}
 use Rattle.vote_desk.proofs.OnlyRead.{keeps_read, moved_log}
+use Rattle.vote_desk.proofs.OpeningVotes.{found_since}
 use Rattle.vote_desk.proofs.state.DeskState.vote_in.Goals as goal
 
 pub invariant_of-self : goal.invariant_of-self
@@ -33,3 +35,12 @@ returns-clause-same g c =
 
 pub returns-clause-first_refusal : goal.returns-clause-first_refusal
 returns-clause-first_refusal g c = rw (← c.self.view_is) c.vote_in.ensures.first_refusal
+
+pub returns-clause-since : goal.returns-clause-since
+returns-clause-since g c =
+    let i = c.self.inside in
+    let n = g.N.DeskNaming in
+    let d : DeskView _ = record { core = i.core; seeds = i.trees.items; indices = i.indices; log = i.log; released = i.book.total } in
+    rw (← c.self.view_is) (ok_so (IsVoteFound g.D.Disk.bytes n.replica i.log c.args.view) (IsFoundSince i.log.steps c.args.view) c.vote_in.result
+    (subst (λ (k : ℕ). IfOk c.vote_in.result (IsVoteFound g.D.Disk.bytes k i.log c.args.view)) c.self.invariant.replica_is c.vote_in.ensures.ok)
+    (found_since g.D.Disk n.committee n.replica n.opening d c.self.invariant.desk c.args.view))
