@@ -1,9 +1,15 @@
-//! A connection that lasts only so long.
+//! A connection that lasts only so long, while others arrive.
 
+ghost use Rattle.std.specs.Prelude.{◌≤◌, length};
+ghost use Rattle.std.specs.Io.{WritesAtMost};
+
+use log_format::REQUEST_LEN;
+use mio::net::TcpStream;
+use patient_sockets::{Came, Lobby, LobbyRules};
 use std::io;
 use std::io::{ErrorKind, Read, Write};
-use std::net::{TcpListener, TcpStream};
-use std::time::{Clock, Duration, Instant};
+use std::net::Net;
+use std::time::{Clock, Instant};
 
 /// How many seconds a client has for its request, from the moment when it was accepted.
 pub const REQUEST_SECONDS: u64 = 10;
@@ -15,129 +21,128 @@ pub const WAIT_SECONDS: u64 = 30;
 /// checks each frame before it takes the next needs minutes.
 pub const CONNECTION_SECONDS: u64 = 3600;
 
-// How many seconds one write waits before the clock is looked at again. The system answers what it took in that time, or
-// that it took nothing, so that a connection ends at most twice as many seconds late.
-const STEP_SECONDS: u64 = 1;
+// While others wait, a client has to take so many bytes in so many seconds.
+const LEAST_TAKEN: u64 = 65_536;
 
-// How often a read or a write is tried again: where a signal came between, and where nothing was taken in a step.
-const MOST_TRIES: u32 = 1000;
+const LEAST_SECONDS: u64 = 5;
 
-/// A connection of a client. What it reads and what becomes of what it writes is not told, since no contract speaks of a
-/// socket.
+/// What connections are held to until their requests are whole. 512 are kept: fewer than the files that a process may have open.
+pub(crate) const RULES: LobbyRules = LobbyRules {
+    first: REQUEST_LEN,
+    asking: 10_000,
+    most: 512,
+};
+
+// As the request's seconds say.
+const _: () = prove!(REQUEST_SECONDS == 10);
+
+/// The bytes of a client, which have come. They end where the client ended, or in an error where no more came in time.
 #[derive(Drop)]
-pub(crate) struct Connection<'a, R: Clock> {
-    clock: &'a R,
-    stream: TcpStream,
-    accepted: Instant,
+pub(crate) struct Asking {
+    pub bytes: Vec<u8>,
+    pub given: usize,
+    pub came: Came,
 }
 
-impl<'a, R: Clock> Connection<'a, R> {
-    /// Waits for the next connection, however long it takes.
-    pub(crate) fn accept(clock: &'a R, listener: &TcpListener) -> io::Result<Connection<'a, R>> {
-        let (stream, _) = listener.accept()?;
-        let accepted = Instant::now(clock)?;
-        stream.set_write_timeout(Some(Duration::from_secs(STEP_SECONDS)))?;
-        Ok(Connection {
-            clock,
-            stream,
-            accepted,
-        })
-    }
-
-    /// What its client asks for.
-    pub(crate) fn asking(&self) -> Asking<'_, 'a, R> {
-        Asking { connection: self }
-    }
-
-    /// What its client is told.
-    pub(crate) fn telling(&self) -> Telling<'_, 'a, R> {
-        Telling {
-            connection: self,
-            taken: None,
-        }
-    }
-
-    // How long its client still has for its request.
-    fn time_to_ask(&self) -> io::Result<Duration> {
-        let whole = Duration::from_secs(REQUEST_SECONDS);
-        match whole.checked_sub(self.accepted.elapsed(self.clock)?) {
-            Some(left) if !left.is_zero() => Ok(left),
-            _ => Err(io::Error::from(ErrorKind::TimedOut)),
-        }
-    }
-
-    // An error where the connection is too old.
-    fn check_age(&self) -> io::Result<()> {
-        if self.accepted.elapsed(self.clock)?.as_secs() >= CONNECTION_SECONDS {
-            return Err(io::Error::from(ErrorKind::TimedOut));
-        }
-        Ok(())
-    }
-}
-
-/// The bytes of a client. They end in an error 10 seconds after the connection was accepted, however many came before.
-#[derive(Drop)]
-pub(crate) struct Asking<'c, 'a, R: Clock> {
-    connection: &'c Connection<'a, R>,
-}
-
-impl<R: Clock> Read for Asking<'_, '_, R> {
+impl Read for Asking {
     fn read(&mut self, buffer: &mut [u8]) -> io::Result<usize> {
-        let mut stream = &self.connection.stream;
-        for _ in 0..MOST_TRIES {
-            let left = self.connection.time_to_ask()?;
-            stream.set_read_timeout(Some(left))?;
-            match stream.read(buffer) {
-                Err(error) if error.kind() == ErrorKind::Interrupted => {}
-                outcome => return outcome,
-            }
+        let count = copy_from(&self.bytes, self.given, buffer);
+        self.given = self.given.saturating_add(count);
+        if count == 0 && self.came == Came::Failed {
+            return Err(io::Error::from(ErrorKind::TimedOut));
         }
-        Err(io::Error::from(ErrorKind::Interrupted))
+        Ok(count)
     }
 }
 
-/// The bytes to a client. A write fails where 30 to 32 seconds have passed since the system took a byte of this reply, and
-/// in a connection that is over an hour old.
+// Copies the bytes from a place on, as many as there is room for. Answers how many.
+fn copy_from(bytes: &[u8], from: usize, buffer: &mut [u8]) -> usize
+    ensures { result ≤ length buffer.new }
+{
+    let Some(rest) = bytes.get(from..) else {
+        return 0;
+    };
+    let count = rest.len().min(buffer.len());
+    buffer[..count].copy_from_slice(&rest[..count]);
+    count
+}
+
+/// The bytes to a client. A write fails where 30 seconds have passed since the system took a byte of this reply, in a connection that
+/// is over an hour old, and where fewer than 65,536 bytes were taken in 5 seconds while others waited whose requests have come. What
+/// becomes of what it writes is not told, since no contract speaks of a socket.
 #[derive(Drop)]
-pub(crate) struct Telling<'c, 'a, R: Clock> {
-    connection: &'c Connection<'a, R>,
-    // When the last bytes were taken, or the first write began.
-    taken: Option<Instant>,
+pub(crate) struct Telling<'l, 'a, R> {
+    pub clock: &'a R,
+    pub lobby: &'l mut Lobby<'a, R>,
+    pub stream: Option<TcpStream>,
+    /// When it was accepted.
+    pub made: Instant,
+    /// When the last bytes were taken, or the first write began.
+    pub taken: Option<Instant>,
+    /// Since when it is counted how many are taken while others wait, and how many were.
+    pub counted: Option<Instant>,
+    pub count: u64,
 }
 
-impl<R: Clock> Telling<'_, '_, R> {
-    // Since when nothing was taken.
-    fn since(&mut self) -> io::Result<Instant> {
-        if let Some(taken) = self.taken {
-            return Ok(taken);
-        }
-        let now = Instant::now(self.connection.clock)?;
-        self.taken = Some(now);
-        Ok(now)
-    }
-
-    // An error where nothing was taken for too long.
-    fn check_wait(&mut self) -> io::Result<()> {
-        let since = self.since()?;
-        if since.elapsed(self.connection.clock)?.as_secs() >= WAIT_SECONDS {
+impl<R: Clock + Net> Telling<'_, '_, R> {
+    // An error where the connection is too old, or nothing was taken for too long, or too little.
+    fn look(&mut self) -> io::Result<()> {
+        let now = Instant::now(self.clock)?;
+        let taken = self.taken.unwrap_or(now);
+        self.taken = Some(taken);
+        let is_old = now.saturating_duration_since(self.made).as_secs() >= CONNECTION_SECONDS;
+        let is_stuck = now.saturating_duration_since(taken).as_secs() >= WAIT_SECONDS;
+        if is_old || is_stuck || self.is_slow(now) {
             return Err(io::Error::from(ErrorKind::TimedOut));
         }
         Ok(())
     }
+
+    // Whether others wait, and it took too little in the last seconds.
+    fn is_slow(&mut self, now: Instant) -> bool {
+        let since = self.counted.unwrap_or(now);
+        if !self.lobby.has_arrived() {
+            self.counted = Some(now);
+            self.count = 0;
+            return false;
+        }
+        self.counted = Some(since);
+        if now.saturating_duration_since(since).as_secs() < LEAST_SECONDS {
+            return false;
+        }
+        let is_slow = self.count < LEAST_TAKEN;
+        self.counted = Some(now);
+        self.count = 0;
+        is_slow
+    }
+
+    // So many bytes were taken.
+    fn took(&mut self, count: usize) -> io::Result<()> {
+        self.taken = Some(Instant::now(self.clock)?);
+        self.count = self.count.saturating_add(u64::try_from(count).unwrap_or(0));
+        Ok(())
+    }
+
+    fn write_once(&mut self, bytes: &[u8]) -> io::Result<usize>
+        ensures { WritesAtMost result bytes.now }
+    {
+        match &mut self.stream {
+            Some(stream) => stream.write(bytes),
+            None => Err(io::Error::from(ErrorKind::NotConnected)),
+        }
+    }
 }
 
-impl<R: Clock> Write for Telling<'_, '_, R> {
+impl<R: Clock + Net> Write for Telling<'_, '_, R> {
     fn write(&mut self, bytes: &[u8]) -> io::Result<usize> {
-        for _ in 0..MOST_TRIES {
-            self.connection.check_age()?;
-            self.check_wait()?;
-            let mut stream = &self.connection.stream;
-            match stream.write(bytes) {
-                Ok(n) => {
-                    self.taken = Some(Instant::now(self.connection.clock)?);
-                    return Ok(n);
+        for _ in 0..u64::MAX {
+            self.look()?;
+            match self.write_once(bytes) {
+                Ok(count) => {
+                    self.took(count)?;
+                    return Ok(count);
                 }
-                Err(error) if may_go_on(error.kind()) => {}
+                Err(error) if may_go_on(error.kind()) => self.lobby.wait()?,
                 Err(error) => return Err(error),
             }
         }
@@ -149,10 +154,7 @@ impl<R: Clock> Write for Telling<'_, '_, R> {
     }
 }
 
-// Whether a write that ended so is tried again: a signal came between, or nothing was taken in a step.
+// Whether a write that ended so is tried again: a signal came between, or nothing was taken.
 fn may_go_on(kind: ErrorKind) -> bool {
-    match kind {
-        ErrorKind::Interrupted | ErrorKind::WouldBlock | ErrorKind::TimedOut => true,
-        _ => false,
-    }
+    matches!(kind, ErrorKind::Interrupted | ErrorKind::WouldBlock)
 }

@@ -11,12 +11,14 @@ ghost use Rattle.log_server.specs.ServedLines.{served_line};
 
 use crate::ServeError;
 use crate::answering::{answer, print_answer};
-use crate::connection::Connection;
+use crate::connection::{Asking, RULES, Telling};
 use crate::fault::ServiceFault;
+use patient_sockets::{Arrival, Lobby, bind};
 use stable_log::Disk;
+use std::alloc::Global;
 use std::net::{Net, TcpListener, TcpStream};
-use std::thread;
 use std::time::{Clock, Duration};
+use std::{io, thread};
 use streams::{Fault, Sink, StdFeed, StdSink};
 use vote_log::VoteLog;
 
@@ -27,12 +29,15 @@ const PAUSE_SECONDS: u64 = 1;
 /// the other, with one request each. Each prints `served FRAMES`, or `serve fault N`, N being the number of the
 /// `ServeError`. The log stays as it is.
 ///
-/// A connection ends 10 seconds after it was accepted with no whole request, 30 to 32 seconds after its client last took a
-/// byte, and where it is over an hour old. One that can't be accepted, or given these limits, counts as one whose request
-/// can't be read: `serve fault 4`; before the next one a second passes, since the cause may last.
-/// How long it takes until the next client connects is not bounded. Once the call returns nothing listens any more.
+/// The requests of up to 512 connections are awaited at once, and answered in the order in which they were whole, or failed. A
+/// connection ends 10 seconds after it was accepted with no whole request, 30 seconds after its client last took a byte, where it is
+/// over an hour old, and where it takes fewer than 65,536 bytes in 5 seconds while others wait whose requests are whole. Of more than
+/// 512, one that gives way, or the new one, ends (see `gives_way` of patient_sockets): `serve fault 4`. One that can't be accepted, or
+/// waited for, counts as one whose request can't be read: `serve fault 4`; before the next one a second passes, since the cause may
+/// last. How long it takes until the next client connects is not bounded. Once the call returns nothing listens any more.
 pub fn serve_requests<R: Net<Listener = TcpListener, Stream = TcpStream> + Clock, D: Disk, W: Sink>(
     rt: &R,
+    alloc: Global,
     address: &str,
     requests: u16,
     log: &mut VoteLog<D>,
@@ -47,19 +52,28 @@ pub fn serve_requests<R: Net<Listener = TcpListener, Stream = TcpStream> + Clock
         × (log.new ≡ log.old) }
     ensures blame { BlamesOutput result (W.failed out.old) (W.failed out.new) }
 {
-    let Ok(listener) = TcpListener::bind(rt, address) else {
+    let Ok(mut lobby) = lobby_at(rt, alloc, address) else {
         return Err(ServiceFault::Listen);
     };
-    match answer_all(rt, &listener, requests, log, out) {
+    match answer_all(rt, &mut lobby, requests, log, out) {
         Ok(()) => Ok(()),
         Err(_) => Err(ServiceFault::Output),
     }
 }
 
+// Where connections to an address are awaited.
+fn lobby_at<'a, R: Net + Clock>(
+    rt: &'a R,
+    alloc: Global,
+    address: &str,
+) -> io::Result<Lobby<'a, R>> {
+    Lobby::new(rt, alloc, bind(rt, address)?, RULES)
+}
+
 // Answers so many requests.
-fn answer_all<R: Clock, D: Disk, W: Sink>(
-    clock: &R,
-    listener: &TcpListener,
+fn answer_all<'a, R: Net + Clock, D: Disk, W: Sink>(
+    clock: &'a R,
+    lobby: &mut Lobby<'a, R>,
     requests: u16,
     log: &mut VoteLog<D>,
     out: &mut W,
@@ -72,15 +86,15 @@ fn answer_all<R: Clock, D: Disk, W: Sink>(
     ensures counted { Counts (W.failed out.old) (W.failed out.new) result }
 {
     for _ in 0..requests {
-        answer_next(clock, listener, log, out)?;
+        answer_next(clock, lobby, log, out)?;
     }
     Ok(())
 }
 
 // Answers the request of the next connection.
-fn answer_next<R: Clock, D: Disk, W: Sink>(
-    clock: &R,
-    listener: &TcpListener,
+fn answer_next<'a, R: Net + Clock, D: Disk, W: Sink>(
+    clock: &'a R,
+    lobby: &mut Lobby<'a, R>,
     log: &mut VoteLog<D>,
     out: &mut W,
 ) -> Result<(), Fault>
@@ -92,13 +106,8 @@ fn answer_next<R: Clock, D: Disk, W: Sink>(
         × Untouched D.Disk log.old.disk log.new.disk }
     ensures counted { Counts (W.failed out.old) (W.failed out.new) result }
 {
-    match Connection::accept(clock, listener) {
-        Ok(connection) => answer(
-            log,
-            &mut StdFeed::new(connection.asking()),
-            &mut StdSink::new(connection.telling()),
-            out,
-        ),
+    match lobby.next() {
+        Ok(arrival) => answer_arrival(clock, lobby, arrival, log, out),
         // as a request that can't be read
         Err(_) => {
             let printed = print_answer(Err(ServeError::Source), out);
@@ -106,4 +115,42 @@ fn answer_next<R: Clock, D: Disk, W: Sink>(
             printed
         }
     }
+}
+
+// Answers the request of a connection that has arrived.
+fn answer_arrival<'a, R: Net + Clock, D: Disk, W: Sink>(
+    clock: &'a R,
+    lobby: &mut Lobby<'a, R>,
+    arrival: Arrival,
+    log: &mut VoteLog<D>,
+    out: &mut W,
+) -> Result<(), Fault>
+    ensures served { OnOk result ((served : ResultValue ℕ ServeErrorValue)
+        × MayAnswer log.old.stopped (length log.old.steps) served
+        × Wrote (W.text out.old) (W.text out.new) (served_line served)) }
+    ensures same { (log.new.entries ≡ log.old.entries) × (log.new.steps ≡ log.old.steps)
+        × (log.new.stopped ≡ log.old.stopped) × (log.new.genesis ≡ log.old.genesis)
+        × Untouched D.Disk log.old.disk log.new.disk }
+    ensures counted { Counts (W.failed out.old) (W.failed out.new) result }
+{
+    let asking = Asking {
+        bytes: arrival.bytes,
+        given: 0,
+        came: arrival.came,
+    };
+    let telling = Telling {
+        clock,
+        lobby,
+        stream: arrival.stream,
+        made: arrival.made,
+        taken: None,
+        counted: None,
+        count: 0,
+    };
+    answer(
+        log,
+        &mut StdFeed::new(asking),
+        &mut StdSink::new(telling),
+        out,
+    )
 }

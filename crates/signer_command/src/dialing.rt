@@ -2,15 +2,14 @@
 
 ghost use Rattle.std.specs.Prelude.{false};
 
-use crate::pace::tick;
 use log_transfer::{CONNECT_SECONDS, Dial};
+use patient_sockets::{PatientStream, dial};
 use std::io;
-use std::io::{ErrorKind, Read, Write};
-use std::net::{Net, TcpStream, ToSocketAddrs};
-use std::sync::atomic::{AtomicBool, Ordering};
+use std::net::{Net, SocketAddr, TcpStream, ToSocketAddrs};
+use std::sync::atomic::AtomicBool;
 use std::time::Duration;
 
-/// How many reads or writes of the system one read or write makes at most, each of a quarter of a second: ten seconds.
+/// How many ticks one read or write waits at most, each of a quarter of a second: ten seconds.
 const MOST_TICKS: u32 = 40;
 
 /// How many of a host's addresses are tried.
@@ -24,13 +23,6 @@ pub(crate) struct Dialer<'a, N> {
     pub ending: &'a AtomicBool,
 }
 
-/// A stream to a server.
-#[derive(Drop)]
-pub(crate) struct PatientStream<'a> {
-    stream: TcpStream,
-    ending: &'a AtomicBool,
-}
-
 impl<'a, N: Net<Stream = TcpStream>> Dial for Dialer<'a, N> {
     type Stream = PatientStream<'a>;
 
@@ -38,64 +30,16 @@ impl<'a, N: Net<Stream = TcpStream>> Dial for Dialer<'a, N> {
 
     fn dial(&self) -> io::Result<PatientStream<'a>> {
         let timeout = Duration::from_secs(CONNECT_SECONDS);
-        let mut last = io::Error::from(ErrorKind::NotConnected);
-        for address in self.name.to_socket_addrs(self.net)?.take(MOST_ADDRESSES) {
-            if self.ending.load(Ordering::SeqCst) {
-                break;
-            }
-            match TcpStream::connect_timeout(self.net, &address, timeout) {
-                Ok(stream) => {
-                    stream.set_read_timeout(Some(tick()))?;
-                    stream.set_write_timeout(Some(tick()))?;
-                    return Ok(PatientStream {
-                        stream,
-                        ending: self.ending,
-                    });
-                }
-                Err(error) => last = error,
-            }
+        let mut addresses = [SocketAddr::from(([0, 0, 0, 0], 0)); MOST_ADDRESSES];
+        let mut count: usize = 0;
+        for (at, address) in addresses
+            .iter_mut()
+            .zip(self.name.to_socket_addrs(self.net)?)
+        {
+            *at = address;
+            count = count.saturating_add(1);
         }
-        Err(last)
-    }
-}
-
-fn may_go_on(kind: ErrorKind) -> bool {
-    matches!(
-        kind,
-        ErrorKind::WouldBlock | ErrorKind::TimedOut | ErrorKind::Interrupted
-    )
-}
-
-impl Read for PatientStream<'_> {
-    fn read(&mut self, buffer: &mut [u8]) -> io::Result<usize> {
-        for _ in 0..MOST_TICKS {
-            if self.ending.load(Ordering::SeqCst) {
-                break;
-            }
-            match self.stream.read(buffer) {
-                Err(error) if may_go_on(error.kind()) => {}
-                outcome => return outcome,
-            }
-        }
-        Err(io::Error::from(ErrorKind::ConnectionAborted))
-    }
-}
-
-impl Write for PatientStream<'_> {
-    fn write(&mut self, bytes: &[u8]) -> io::Result<usize> {
-        for _ in 0..MOST_TICKS {
-            if self.ending.load(Ordering::SeqCst) {
-                break;
-            }
-            match self.stream.write(bytes) {
-                Err(error) if may_go_on(error.kind()) => {}
-                outcome => return outcome,
-            }
-        }
-        Err(io::Error::from(ErrorKind::ConnectionAborted))
-    }
-
-    fn flush(&mut self) -> io::Result<()> {
-        Ok(())
+        let found = addresses.get(..count).unwrap_or(&[]);
+        dial(self.net, found, timeout, MOST_TICKS, self.ending)
     }
 }

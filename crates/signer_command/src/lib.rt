@@ -1,10 +1,10 @@
-//! A replica that answers calls over HTTP: the words of its command line, its folder and its desk, where it listens, and
-//! threads that take connections, each with a session of its own, and others that ask for the logs of other replicas. Needs threads that wait for one lock, sockets and a clock.
+//! A replica that answers calls over HTTP: the words of its command line, its folder and its desk, where it listens, and threads
+//! that take connections: those of the ledger one at a time, with a session each, those of readers and auditors many at a time.
+//! Others ask for the logs of other replicas. Needs threads that wait for one lock, sockets and a clock.
 #![tactic(auto)]
 
 mod announcing;
 mod asking;
-mod calls_read;
 mod dialing;
 mod fault;
 mod handing_out;
@@ -15,6 +15,7 @@ mod notes;
 mod pace;
 mod pool;
 mod program;
+mod reading;
 mod socket_file;
 mod stay;
 mod successor;

@@ -1,7 +1,8 @@
 //! A caller's stream, which is given up where the caller takes too long or the signer ends.
 
-use crate::calls_read::CallsRead;
 use crate::pace::Pace;
+use patient_calls::CallsRead;
+use patient_sockets::{Hold, read_held, write_held};
 use std::cell::Cell;
 use std::io;
 use std::io::{ErrorKind, Read, Write};
@@ -9,9 +10,11 @@ use std::net::TcpStream;
 use std::sync::atomic::{AtomicBool, Ordering};
 use std::time::Clock;
 
-/// How many reads or writes of the system one call of a link makes at most. Each waits a quarter of a second, so a clock that
-/// stands still does not keep it for ever.
+/// How many ticks one call of a link waits at most, so that a clock that stands still does not keep it for ever.
 const MOST_TICKS: u32 = 400;
+
+/// How an answer begins that refuses a host or an origin.
+const FORBIDDEN: &[u8] = b"HTTP/1.1 403 ";
 
 /// A caller's stream and what it is held to. Both of its sides share it.
 #[derive(Drop)]
@@ -19,10 +22,13 @@ pub(crate) struct Link<'a, C: Clock> {
     pub stream: &'a TcpStream,
     pub clock: &'a C,
     pub pace: Cell<Pace>,
+    /// Whether a call was refused for its host or origin: nothing more is read then. A page in a browser could else hold connections
+    /// with one such call a minute.
+    pub is_refused: Cell<bool>,
     pub ending: &'a AtomicBool,
 }
 
-impl<C: Clock> Link<'_, C> {
+impl<C: Clock> Hold for Link<'_, C> {
     // Fails where the caller has taken too long or the signer ends.
     fn look(&self) -> io::Result<()> {
         if self.ending.load(Ordering::SeqCst) || self.pace.get().is_over(self.clock)? {
@@ -52,24 +58,15 @@ impl<C: Clock> Asking<'_, C> {
 
 impl<C: Clock> Read for Asking<'_, C> {
     fn read(&mut self, buffer: &mut [u8]) -> io::Result<usize> {
-        let mut pace = self.link.pace.get();
-        if !pace.begin_to_read(self.link.clock)? {
+        if self.link.is_refused.get() {
             return Ok(0);
         }
+        let mut pace = self.link.pace.get();
+        pace.begin_to_read(self.link.clock)?;
         self.link.pace.set(pace);
-        for _ in 0..MOST_TICKS {
-            self.link.look()?;
-            let mut stream = self.link.stream;
-            match stream.read(buffer) {
-                Err(error) if may_go_on(error.kind()) => {}
-                Ok(count) => {
-                    self.follow(buffer.get(..count).unwrap_or(&[]))?;
-                    return Ok(count);
-                }
-                Err(error) => return Err(error),
-            }
-        }
-        Err(io::Error::from(ErrorKind::TimedOut))
+        let count = read_held(self.link.stream, self.link, MOST_TICKS, buffer)?;
+        self.follow(buffer.get(..count).unwrap_or(&[]))?;
+        Ok(count)
     }
 }
 
@@ -84,25 +81,13 @@ impl<C: Clock> Write for Answering<'_, C> {
         let mut pace = self.link.pace.get();
         pace.begin_to_write(self.link.clock)?;
         self.link.pace.set(pace);
-        for _ in 0..MOST_TICKS {
-            self.link.look()?;
-            let mut stream = self.link.stream;
-            match stream.write(bytes) {
-                Err(error) if may_go_on(error.kind()) => {}
-                outcome => return outcome,
-            }
+        if bytes.starts_with(FORBIDDEN) {
+            self.link.is_refused.set(true);
         }
-        Err(io::Error::from(ErrorKind::TimedOut))
+        write_held(self.link.stream, self.link, MOST_TICKS, bytes)
     }
 
     fn flush(&mut self) -> io::Result<()> {
         Ok(())
     }
-}
-
-fn may_go_on(kind: ErrorKind) -> bool {
-    matches!(
-        kind,
-        ErrorKind::WouldBlock | ErrorKind::TimedOut | ErrorKind::Interrupted
-    )
 }

@@ -1,10 +1,9 @@
 //! Where callers connect.
 
-use crate::pace::tick;
+use patient_sockets::{bind, bind_at_home, set_ticks};
 use std::alloc::Global;
 use std::io;
-use std::io::ErrorKind;
-use std::net::{Net, Shutdown, TcpListener, TcpStream, ToSocketAddrs};
+use std::net::{Net, Shutdown, TcpListener, TcpStream};
 use std::os::fd::OwnedFd;
 use std::os::unix::net::UnixListener;
 
@@ -19,8 +18,7 @@ impl Listener {
     /// The next connection, of which a read or a write that waits longer than a tick gives up.
     pub fn accept(&self) -> io::Result<TcpStream> {
         let stream = self.accept_one()?;
-        stream.set_read_timeout(Some(tick()))?;
-        stream.set_write_timeout(Some(tick()))?;
+        set_ticks(&stream)?;
         Ok(stream)
     }
 
@@ -61,33 +59,34 @@ pub(crate) struct Place {
     pub name: String,
 }
 
-/// Listens at an address of this machine. The place is named by the address that it got, behind these words.
+/// Listens at an address of this machine, for many connections at once: `accept` does not wait. The place is named by the address that
+/// it got, behind these words.
 pub(crate) fn listen<R: Net<Listener = TcpListener, Stream = TcpStream>>(
     rt: &R,
     alloc: Global,
     words: &str,
     address: &str,
 ) -> io::Result<Place> {
-    let listener = TcpListener::bind(rt, address)?;
-    let got = listener.local_addr()?;
-    let name = format!(in alloc; "{words}{got}")?;
-    Ok(Place {
-        listener: Listener::Tcp(listener),
-        name,
-    })
+    place_of(alloc, words, bind(rt, address)?)
 }
 
-/// The same, where the address is one that only this machine reaches.
+/// The same, where the address is one that only this machine reaches, and `accept` waits.
 pub(crate) fn listen_at_home<R: Net<Listener = TcpListener, Stream = TcpStream>>(
     rt: &R,
     alloc: Global,
     words: &str,
     address: &str,
 ) -> io::Result<Place> {
-    for address in address.to_socket_addrs(rt)? {
-        if !address.ip().is_loopback() {
-            return Err(io::Error::from(ErrorKind::PermissionDenied));
-        }
-    }
-    listen(rt, alloc, words, address)
+    let listener = bind_at_home(rt, address)?;
+    listener.set_nonblocking(false)?;
+    place_of(alloc, words, listener)
+}
+
+fn place_of(alloc: Global, words: &str, listener: TcpListener) -> io::Result<Place> {
+    let got = listener.local_addr()?;
+    let name = format!(in alloc; "{words}{got}")?;
+    Ok(Place {
+        listener: Listener::Tcp(listener),
+        name,
+    })
 }

@@ -1,37 +1,18 @@
 //! How long a caller may take.
 
+pub(crate) use patient_sockets::tick;
 use std::io;
 use std::time::{Clock, Duration, Instant};
-
-/// How long one read or write of the system may wait, in milliseconds: so soon an ending, or a time that has run out, is noticed.
-const TICK_MILLISECONDS: u64 = 250;
-
-/// How long one read or write of the system may wait.
-pub(crate) fn tick() -> Duration {
-    Duration::from_millis(TICK_MILLISECONDS)
-}
 
 /// How long a caller may send nothing.
 const IDLE_SECONDS: u64 = 60;
 
-/// How long a call may take from its first byte to its last, an answer to be taken, and a brief connection in all.
+/// How long a call may take from its first byte to its last, and an answer to be taken.
 const WORK_SECONDS: u64 = 10;
-
-/// How long a connection may stay.
-#[derive(Clone, Copy, Debug, PartialEq, Eq)]
-pub(crate) enum Manner {
-    /// For as long as it asks.
-    Staying,
-    /// For one turn: it gives way behind its answers, so that others come to theirs.
-    Brief,
-}
 
 /// What a connection waits for, and since when.
 #[derive(Clone, Copy, Debug)]
 pub(crate) struct Pace {
-    manner: Manner,
-    /// When it was made.
-    made: Instant,
     /// When it began to wait for a call.
     quiet: Instant,
     /// When the first byte came of a call that is not answered.
@@ -42,25 +23,22 @@ pub(crate) struct Pace {
 
 impl Pace {
     /// A connection that was just made.
-    pub fn new(manner: Manner, clock: &impl Clock) -> io::Result<Pace> {
+    pub fn new(clock: &impl Clock) -> io::Result<Pace> {
         let now = Instant::now(clock)?;
         Ok(Pace {
-            manner,
-            made: now,
             quiet: now,
             asking: None,
             answering: None,
         })
     }
 
-    /// A read begins: what was to be sent was taken. Answers whether the connection goes on.
-    pub fn begin_to_read(&mut self, clock: &impl Clock) -> io::Result<bool> {
-        if self.answering.is_none() {
-            return Ok(true);
+    /// A read begins: what was to be sent was taken.
+    pub fn begin_to_read(&mut self, clock: &impl Clock) -> io::Result<()> {
+        if self.answering.is_some() {
+            self.answering = None;
+            self.quiet = Instant::now(clock)?;
         }
-        self.answering = None;
-        self.quiet = Instant::now(clock)?;
-        Ok(self.manner == Manner::Staying || self.asking.is_some())
+        Ok(())
     }
 
     /// Bytes came. Where they end amid a call it began with them, if another one ended in them, or before.
@@ -85,12 +63,8 @@ impl Pace {
 
     /// Whether it has waited too long.
     pub fn is_over(&self, clock: &impl Clock) -> io::Result<bool> {
-        let work = Duration::from_secs(WORK_SECONDS);
-        if self.manner == Manner::Brief && self.made.elapsed(clock)? > work {
-            return Ok(true);
-        }
         match self.answering.or(self.asking) {
-            Some(since) => Ok(since.elapsed(clock)? > work),
+            Some(since) => Ok(since.elapsed(clock)? > Duration::from_secs(WORK_SECONDS)),
             None => Ok(self.quiet.elapsed(clock)? > Duration::from_secs(IDLE_SECONDS)),
         }
     }

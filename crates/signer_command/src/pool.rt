@@ -3,18 +3,20 @@
 ghost use Rattle.std.specs.Prelude.{◌≡◌};
 
 use crate::asking::{Hearing, ask_on};
-use crate::calls_read::CallsRead;
-use crate::handing_out::{Asker, hand_out};
+use crate::handing_out::LogTalk;
 use crate::home::Home;
 use crate::link::{Answering, Asking, Link};
-use crate::listening::Place;
+use crate::listening::{Listener, Place};
 use crate::notes::Notes;
-use crate::pace::{Manner, Pace, tick};
-use crate::stay::Sockets;
+use crate::pace::{Pace, tick};
+use crate::reading::{MOST_OF_A_CALL, Reader, config};
+use crate::stay::{Sockets, THREADS_BESIDE};
+use crate::{handing_out, reading};
 use blocks::CommitteeView;
 use good_votes::{GoodVotes, SideBySide};
-use http_server::{Config, Connection};
-use http1::Limits;
+use http_server::Connection;
+use patient_calls::{CallTalk, CallsRead};
+use patient_sockets::{Rules as CrowdRules, Talk, connections_at, most_open_files, talk_to_all};
 use program_parts::SourceWord;
 use signing_service::{Commits, Gate, PutBack, Rules, Signer, Tallies, serve_calls};
 use stable_log::Disk;
@@ -29,9 +31,6 @@ use std::time::{Clock, Duration};
 use std::{io, thread};
 use streams::Sink;
 use vote_desk::{Desk, DeskNaming, Session};
-
-/// The longest body: a header of 84 bytes and a certificate of 45,147.
-const LONGEST_BODY: usize = 45_231;
 
 /// How long the threads of a pool are waited for to start, in looks a hundredth of a second apart.
 const MOST_LOOKS: u32 = 1_000;
@@ -160,13 +159,14 @@ fn work<
     let all_begun = shop.start.wait_for_all(shop.rt);
     match job {
         Job::Calls(session) if all_begun => {
+            let place = &shop.sockets.calls;
             let rules = &shop.sockets.call_rules;
-            Some(take_calls(shop, &shop.sockets.calls, rules, Manner::Staying, session))
+            Some(take_calls(shop, place, rules, Callers::All, session))
         }
         Job::Reads(session) if all_begun => match &shop.sockets.reads {
             Some(place) => {
                 let rules = &shop.sockets.read_rules;
-                Some(take_calls(shop, place, rules, Manner::Brief, session))
+                Some(take_calls(shop, place, rules, Callers::Readers, session))
             }
             None => Some(session),
         },
@@ -175,7 +175,7 @@ fn work<
             if let Some(place) = &shop.sockets.log
                 && all_begun
             {
-                hand_out_to_all(shop, place);
+                hand_out(shop, place);
             }
             None
         }
@@ -188,11 +188,31 @@ fn work<
     }
 }
 
-fn take_calls<'x, N: DeskNaming, T: Threads + Wait + Clock + Files<File = File>, S: Sink, D: Disk>(
+// Which calls a thread takes.
+#[derive(Clone, Copy, Debug, PartialEq, Eq)]
+enum Callers {
+    /// All calls, of one caller at a time.
+    All,
+    /// Calls that only read, of many at once.
+    Readers,
+}
+
+// Takes calls until the signer ends.
+fn take_calls<
+    'x,
+    N: DeskNaming,
+    T: Threads
+        + Wait
+        + Clock
+        + Files<File = File>
+        + Net<Listener = TcpListener, Stream = TcpStream>,
+    S: Sink,
+    D: Disk,
+>(
     shop: &'x Shop<'x, N, T, S, D>,
     place: &Place,
     rules: &'x Rules,
-    manner: Manner,
+    callers: Callers,
     session: Session<N>,
 ) -> Session<N> {
     let checker = SideBySide::new(shop.rt, shop.good);
@@ -212,6 +232,28 @@ fn take_calls<'x, N: DeskNaming, T: Threads + Wait + Clock + Files<File = File>,
         shop.notes,
         session,
     );
+    match callers {
+        Callers::All => {
+            answer_streams(shop, &mut signer, place);
+            signer.into_session()
+        }
+        Callers::Readers => answer_readers(shop, signer, place),
+    }
+}
+
+// Answers one stream after the other.
+fn answer_streams<
+    'a,
+    'x,
+    N: DeskNaming,
+    T: Threads + Wait + Clock + Files<File = File>,
+    S: Sink,
+    D: Disk,
+>(
+    shop: &Shop<'_, N, T, S, D>,
+    signer: &mut Signer<'a, N, T, D, SideBySide<'x, T>, Home<'x, T, S>, Notes<'x, T, S>>,
+    place: &Place,
+) {
     for _ in shop.rt.forever() {
         if shop.start.is_ending() {
             break;
@@ -219,12 +261,92 @@ fn take_calls<'x, N: DeskNaming, T: Threads + Wait + Clock + Files<File = File>,
         match place.listener.accept() {
             Ok(stream) => {
                 // Where it breaks off, the caller knows.
-                let _ = answer_stream(shop, &mut signer, manner, &stream);
+                let _ = answer_stream(shop, signer, &stream);
             }
             Err(_) => thread::sleep(shop.rt, tick()),
         }
     }
+}
+
+// Answers many streams at once.
+fn answer_readers<
+    'a,
+    'x,
+    N: DeskNaming,
+    T: Threads
+        + Wait
+        + Clock
+        + Files<File = File>
+        + Net<Listener = TcpListener, Stream = TcpStream>,
+    S: Sink,
+    D: Disk,
+>(
+    shop: &Shop<'_, N, T, S, D>,
+    signer: Signer<'a, N, T, D, SideBySide<'x, T>, Home<'x, T, S>, Notes<'x, T, S>>,
+    place: &Place,
+) -> Session<N> {
+    let rules = reading::rules(connections(shop));
+    let mut talk = CallTalk {
+        alloc: shop.alloc,
+        answerer: Reader {
+            alloc: shop.alloc,
+            keys: shop.sockets.keys,
+            signer,
+        },
+        most: MOST_OF_A_CALL,
+    };
+    talk_at(shop, place, &rules, &mut talk);
+    let CallTalk { answerer, .. } = talk;
+    let Reader { signer, .. } = answerer;
     signer.into_session()
+}
+
+// Hands out the log to many at once.
+fn hand_out<
+    N: DeskNaming,
+    T: Wait + Clock + Files<File = File> + Net<Listener = TcpListener, Stream = TcpStream>,
+    S: Sink,
+    D: Disk,
+>(shop: &Shop<'_, N, T, S, D>, place: &Place) {
+    let rules = handing_out::rules(connections(shop));
+    let mut talk = LogTalk {
+        rt: shop.rt,
+        alloc: shop.alloc,
+        desk: shop.desk,
+    };
+    talk_at(shop, place, &rules, &mut talk);
+}
+
+// Talks over the connections of a place until the signer ends.
+fn talk_at<
+    N: DeskNaming,
+    T: Wait + Clock + Net<Listener = TcpListener, Stream = TcpStream>,
+    S: Sink,
+    D: Disk,
+    K: Talk,
+>(shop: &Shop<'_, N, T, S, D>, place: &Place, rules: &CrowdRules, talk: &mut K) {
+    if let Listener::Tcp(listener) = &place.listener {
+        talk_to_all(
+            shop.rt,
+            shop.alloc,
+            listener,
+            rules,
+            &shop.start.ending,
+            talk,
+        );
+    }
+}
+
+// How many connections one thread of a socket beside that for calls keeps. Each other thread may have a stream of its own.
+fn connections<N: DeskNaming, T: Wait + Files<File = File>, S: Sink, D: Disk>(
+    shop: &Shop<'_, N, T, S, D>,
+) -> usize {
+    let files = most_open_files(shop.rt, shop.alloc);
+    let sockets = u64::from(shop.sockets.reads.is_some()) + u64::from(shop.sockets.log.is_some());
+    let all = connections_at(files, u64::from(shop.start.wanted), sockets);
+    usize::try_from(all / u64::from(THREADS_BESIDE))
+        .unwrap_or(0)
+        .max(1)
 }
 
 // Answers the calls of one stream.
@@ -238,13 +360,13 @@ fn answer_stream<
 >(
     shop: &Shop<'_, N, T, S, D>,
     signer: &mut Signer<'a, N, T, D, SideBySide<'x, T>, Home<'x, T, S>, Notes<'x, T, S>>,
-    manner: Manner,
     stream: &TcpStream,
 ) -> io::Result<()> {
     let link = Link {
         stream,
         clock: shop.rt,
-        pace: Cell::new(Pace::new(manner, shop.rt)?),
+        pace: Cell::new(Pace::new(shop.rt)?),
+        is_refused: Cell::new(false),
         ending: &shop.start.ending,
     };
     let mut asking = Asking {
@@ -254,40 +376,4 @@ fn answer_stream<
     let mut answering = Answering { link: &link };
     let mut connection = Connection::new(shop.alloc, shop.sockets.keys, config());
     serve_calls(signer, &mut connection, &mut asking, &mut answering)
-}
-
-// What a connection is held to.
-fn config() -> Config {
-    Config {
-        limits: Limits::default(),
-        max_body_len: LONGEST_BODY,
-        max_pending: 65_536,
-        read_size: 65_536,
-    }
-}
-
-fn hand_out_to_all<N: DeskNaming, T: Wait + Clock, S: Sink, D: Disk>(
-    shop: &Shop<'_, N, T, S, D>,
-    place: &Place,
-) {
-    for _ in shop.rt.forever() {
-        if shop.start.is_ending() {
-            break;
-        }
-        match place.listener.accept() {
-            Ok(stream) => {
-                // Where it breaks off, the audit asks again.
-                let _ = hand_out_once(shop, &stream);
-            }
-            Err(_) => thread::sleep(shop.rt, tick()),
-        }
-    }
-}
-
-fn hand_out_once<N: DeskNaming, T: Wait + Clock, S: Sink, D: Disk>(
-    shop: &Shop<'_, N, T, S, D>,
-    stream: &TcpStream,
-) -> io::Result<()> {
-    let asker = Asker::new(stream, shop.rt, &shop.start.ending)?;
-    hand_out(shop.rt, shop.alloc, shop.desk, &asker)
 }

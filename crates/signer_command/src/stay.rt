@@ -324,7 +324,7 @@ fn close<N: DeskNaming, D: Disk>(
     }
 }
 
-// A job for each session, those of the last two where callers only read, two that hand out the log, and one for each source.
+// A job for each session, those of the first two where callers only read, two that hand out the log, and one for each source.
 fn jobs_of<N: DeskNaming>(
     alloc: Global,
     sessions: Vec<Session<N>>,

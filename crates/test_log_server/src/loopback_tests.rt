@@ -88,7 +88,7 @@ fn serve_three<R: Net<Listener = TcpListener, Stream = TcpStream> + Clock + Thre
     let address = free_address(rt, alloc)?;
     Ok(join(
         rt,
-        || serve_requests(rt, address.as_str(), 3, log, out),
+        || serve_requests(rt, alloc, address.as_str(), 3, log, out),
         || matches!(ask_three(rt, alloc, address.as_str()), Ok(true)),
     ))
 }
@@ -121,7 +121,7 @@ fn is_refused<R: Net<Listener = TcpListener, Stream = TcpStream> + Clock>(
     address: &str,
 ) -> bool {
     let mut out = MemorySink::new(alloc);
-    serve_requests(rt, address, 1, log, &mut out) == Err(ServiceFault::Listen)
+    serve_requests(rt, alloc, address, 1, log, &mut out) == Err(ServiceFault::Listen)
         && out.bytes().is_empty()
 }
 

@@ -50,7 +50,8 @@ pub fn replica<
     match (end.end.ending, service) {
         (Ending::Done, Some(service)) => {
             let log = &mut end.end.closed.parts.log;
-            match serve_requests(host.rt, service.address, service.requests.count(), log, out) {
+            let (rt, alloc, requests) = (host.rt, host.alloc, service.requests.count());
+            match serve_requests(rt, alloc, service.address, requests, log, out) {
                 Ok(()) => Ok(Ending::Done),
                 Err(fault) => Err(fault_of_service(fault)),
             }

@@ -12,7 +12,7 @@ use std::fs::{File, Files};
 use streams::Sink;
 
 /// Writes an export of each log that is kept of the source, and prints a line for it. No watch may run on the folder meanwhile.
-pub(crate) fn give_out<'a, T: Files<File = File>, W: Sink>(
+pub(crate) fn give_out<'a, T: Files<File = File> + AllocGlobal + Clone + Drop, W: Sink>(
     host: &Host<'_, T>,
     words: &ExportWords<'a>,
     out: &mut W,

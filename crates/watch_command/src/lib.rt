@@ -7,7 +7,6 @@ mod draft;
 mod exporting;
 mod fault;
 mod following;
-mod link;
 mod next_committee;
 mod patience;
 mod program;

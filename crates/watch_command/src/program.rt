@@ -63,6 +63,9 @@ enum Job {
 pub fn run_watch<
     'h,
     T: Files<File = File>
+        + AllocGlobal
+        + Clone
+        + Drop
         + Threads
         + Wait
         + Clock
@@ -87,6 +90,9 @@ fn run<
     'a,
     'h,
     T: Files<File = File>
+        + AllocGlobal
+        + Clone
+        + Drop
         + Threads
         + Wait
         + Clock
@@ -127,7 +133,7 @@ where
 }
 
 // Where what is read is kept, if it is, and its lock.
-fn state_of<'a, 'h, T: Files<File = File>>(
+fn state_of<'a, 'h, T: Files<File = File> + AllocGlobal + Clone + Drop>(
     host: &'h Host<'h, T>,
     words: &Words<'a>,
     committee: &CommitteeView<'_>,

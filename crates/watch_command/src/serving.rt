@@ -2,25 +2,40 @@
 
 ghost use Rattle.std.specs.Prelude.{◌≡◌};
 
-use crate::link::{Answering, Asking, Link, tick};
 use crate::shop::Shop;
 use http_server::{Config, Connection};
 use http1::Limits;
-use std::alloc::{AllocError, Global};
-use std::cell::Cell;
+use patient_calls::{Answerer, CallTalk};
+use patient_sockets::{Bounds, Rules, bind, connections_at, most_open_files, talk_to_all};
+use std::alloc::Global;
+use std::fs::{File, Files};
 use std::hash::RandomState;
+use std::io;
+use std::io::{Read, Write};
 use std::net::{Net, Shutdown, TcpListener, TcpStream};
 use std::os::fd::OwnedFd;
 use std::random::RandomSource;
 use std::sync::{Mutex, Wait};
-use std::time::{Clock, Instant};
-use std::{io, thread};
+use std::time::Clock;
 use watch_service::{Watcher, serve_watcher};
 use watch_snapshot::Snapshot;
 use wire::append;
 
-/// How many threads answer.
-pub(crate) const ANSWERERS: usize = 8;
+/// How many threads answer, each many readers at once.
+pub(crate) const ANSWERERS: usize = 2;
+
+/// How long a reader may take, in milliseconds: to send its request, while it takes nothing of the answer, and in all.
+const BOUNDS: Bounds = Bounds {
+    asking: 5_000,
+    answering: 10_000,
+    whole: 15_000,
+};
+
+/// From how many bytes on that were made and not taken, over the readers of one thread, no further answer is made.
+const FULL: usize = 28 * 1024 * 1024;
+
+/// How many bytes of a request are kept at most: a head of 16,384. No request has a body.
+const MOST_OF_A_REQUEST: usize = 32_768;
 
 /// Where the watch tells what it knows, and what it knows.
 #[derive(Drop)]
@@ -38,7 +53,7 @@ impl Server {
         seen: Snapshot,
     ) -> io::Result<Server> {
         Ok(Server {
-            listener: TcpListener::bind(rt, address)?,
+            listener: bind(rt, address)?,
             keys: RandomState::new(rt)?,
             seen: Mutex::new(seen),
         })
@@ -64,44 +79,57 @@ impl Server {
     }
 }
 
-/// Takes connections and answers them, one after the other, until the watch ends.
-pub(crate) fn answer_all<'x, T: Wait + Clock>(shop: &'x Shop<'_, '_, '_, T>, server: &'x Server) {
-    let hosts: &[String] = &shop.words.hosts;
-    let mut watcher = Watcher::new(shop.rt, shop.alloc, hosts, &server.seen);
-    for _ in shop.rt.forever() {
-        if shop.is_ending() {
-            break;
-        }
-        match server.listener.accept() {
-            Ok((stream, _)) => {
-                // Where it breaks off, the reader knows.
-                let _ = answer_one(shop, server, &mut watcher, &stream);
-            }
-            Err(_) => thread::sleep(shop.rt, tick()),
-        }
+// Answers requests by what the watch knows.
+#[derive(Drop)]
+struct Teller<'a, T: Wait + Clock> {
+    alloc: Global,
+    keys: RandomState,
+    watcher: Watcher<'a, T>,
+}
+
+impl<T: Wait + Clock> Answerer for Teller<'_, T> {
+    fn answer<R: Read, W: Write>(&mut self, reader: &mut R, writer: &mut W) -> io::Result<()> {
+        let mut connection = Connection::new(self.alloc, self.keys, config());
+        serve_watcher(&mut self.watcher, &mut connection, reader, writer)
     }
 }
 
-fn answer_one<'a, T: Wait + Clock>(
-    shop: &Shop<'_, '_, '_, T>,
-    server: &Server,
-    watcher: &mut Watcher<'a, T>,
-    stream: &TcpStream,
-) -> io::Result<()> {
-    stream.set_nodelay(true)?;
-    stream.set_read_timeout(Some(tick()))?;
-    stream.set_write_timeout(Some(tick()))?;
-    let link = Link {
-        stream,
-        clock: shop.rt,
-        made: Instant::now(shop.rt)?,
-        answering: Cell::new(None),
-        ending: &shop.ending,
+/// Answers many readers at once, until the watch ends.
+pub(crate) fn answer_all<
+    'x,
+    T: Files<File = File> + Wait + Clock + Net<Listener = TcpListener, Stream = TcpStream>,
+>(shop: &'x Shop<'_, '_, '_, T>, server: &'x Server) {
+    let hosts: &[String] = &shop.words.hosts;
+    let rules = Rules {
+        bounds: BOUNDS,
+        most: connections(shop),
+        full: FULL,
     };
-    let mut asking = Asking { link: &link };
-    let mut answering = Answering { link: &link };
-    let mut connection = Connection::new(shop.alloc, server.keys, config());
-    serve_watcher(watcher, &mut connection, &mut asking, &mut answering)
+    let mut talk = CallTalk {
+        alloc: shop.alloc,
+        answerer: Teller {
+            alloc: shop.alloc,
+            keys: server.keys,
+            watcher: Watcher::new(shop.rt, shop.alloc, hosts, &server.seen),
+        },
+        most: MOST_OF_A_REQUEST,
+    };
+    talk_to_all(
+        shop.rt,
+        shop.alloc,
+        &server.listener,
+        &rules,
+        &shop.ending,
+        &mut talk,
+    );
+}
+
+// How many connections one thread keeps. Each source may have a stream and a file.
+fn connections<T: Files<File = File>>(shop: &Shop<'_, '_, '_, T>) -> usize {
+    let files = most_open_files(shop.rt, shop.alloc);
+    let taken = u64::try_from(shop.targets.len()).unwrap_or(u64::MAX);
+    let all = connections_at(files, taken.saturating_mul(2), 1);
+    usize::try_from(all / 2).unwrap_or(0).max(1)
 }
 
 // What a connection is held to. No request has a body.

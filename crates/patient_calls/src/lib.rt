@@ -1,0 +1,9 @@
+//! HTTP calls of many connections in one thread: each is gathered until it is whole, is answered in memory, and its answer goes out as
+//! it is taken. Needs what patient_sockets needs.
+#![tactic(auto)]
+
+mod calls_read;
+mod gathering;
+
+pub use calls_read::{CallsRead, Found};
+pub use gathering::{Answerer, CallTalk, CallsSoFar};

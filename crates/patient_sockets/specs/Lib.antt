@@ -1,0 +1,4 @@
+pub mod Standings
+pub mod Bounding
+pub mod GivingWay
+pub mod Rooms

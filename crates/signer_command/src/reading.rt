@@ -1,0 +1,76 @@
+//! Calls that only read, of many connections in one thread.
+
+use good_votes::Checker;
+use http_server::{Config, Connection};
+use http1::Limits;
+use patient_calls::Answerer;
+use patient_sockets::{Bounds, Rules};
+use signing_service::{Approver, Keeper, Signer, Witness, serve_calls};
+use stable_log::Disk;
+use std::alloc::Global;
+use std::hash::RandomState;
+use std::io;
+use std::io::{Read, Write};
+use std::sync::Wait;
+use std::time::Clock;
+use vote_desk::DeskNaming;
+
+/// How long a connection has in all, in milliseconds: to send its calls and to take their answers.
+const BOUNDS: Bounds = Bounds {
+    asking: 10_000,
+    answering: 10_000,
+    whole: 10_000,
+};
+
+/// From how many bytes on that were made and not taken, over the connections of one thread, no further answer is made. One answer has
+/// at most 64 entries of a log: 3 MB. So the two threads hold at most 64 MB.
+const FULL: usize = 28 * 1024 * 1024;
+
+/// The longest body: a header of 84 bytes and a certificate of 45,147.
+const LONGEST_BODY: usize = 45_231;
+
+/// How many bytes of one call are kept at most: a head of 16,384 and the longest body.
+pub(crate) const MOST_OF_A_CALL: usize = 65_536;
+
+/// What one of the threads holds its connections to, of which it has so many.
+pub(crate) fn rules(most: usize) -> Rules {
+    Rules {
+        bounds: BOUNDS,
+        most,
+        full: FULL,
+    }
+}
+
+/// What a connection for calls is held to.
+pub(crate) fn config() -> Config {
+    Config {
+        limits: Limits::default(),
+        max_body_len: LONGEST_BODY,
+        max_pending: 65_536,
+        read_size: 65_536,
+    }
+}
+
+/// Answers calls that only read.
+#[derive(Drop)]
+pub(crate) struct Reader<
+    'a,
+    N: DeskNaming,
+    T: Wait + Clock,
+    D: Disk,
+    V: Checker,
+    A: Approver + Keeper,
+    S: Witness,
+> {
+    pub alloc: Global,
+    pub keys: RandomState,
+    pub signer: Signer<'a, N, T, D, V, A, S>,
+}
+
+impl<N: DeskNaming, T: Wait + Clock, D: Disk, V: Checker, A: Approver + Keeper, S: Witness> Answerer
+    for Reader<'_, N, T, D, V, A, S> {
+    fn answer<R: Read, W: Write>(&mut self, reader: &mut R, writer: &mut W) -> io::Result<()> {
+        let mut connection = Connection::new(self.alloc, self.keys, config());
+        serve_calls(&mut self.signer, &mut connection, reader, writer)
+    }
+}
