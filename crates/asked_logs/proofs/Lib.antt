@@ -1,2 +1,3 @@
+mod OneFirst
 mod Frames
 pub mod Asked

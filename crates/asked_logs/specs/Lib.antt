@@ -1,3 +1,4 @@
 pub use Rattle.certificates.specs.BlockChecks
 pub mod Enough
 pub mod Greatest
+pub mod OtherChain
