@@ -81,11 +81,16 @@ fn fits(form: &str, line: &str) -> bool {
 fn takes(place: &str, word: &str) -> bool {
     match place.strip_prefix("=") {
         Some(exact) => exact == word,
-        None => place == word || stands_for_any(place),
+        None => place == word || stands_for(place, word),
     }
 }
 
-// Whether a word of a form stands for any word.
-fn stands_for_any(place: &str) -> bool {
-    place.bytes().all(|byte| byte.is_ascii_uppercase())
+// Whether a word of a form stands for this one: one in capitals for any, and where it is one letter for a number.
+fn stands_for(place: &str, word: &str) -> bool {
+    let in_capitals = place.bytes().all(|byte| byte.is_ascii_uppercase());
+    in_capitals && (place.len() > 1 || is_number(word))
+}
+
+fn is_number(word: &str) -> bool {
+    !word.is_empty() && word.bytes().all(|byte| byte.is_ascii_digit())
 }

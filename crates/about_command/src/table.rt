@@ -1,8 +1,8 @@
 //! What the programs' lines mean.
 
 /// A row for each line that a program prints, behind it a line feed but for the last: which programs print it, the line, what it
-/// means, and what to do, with ` | ` between. Of the line a word in capitals stands for any word, one behind `=` for itself, and one
-/// that ends in `..` for one or more.
+/// means, and what to do, with ` | ` between. Of the line a word in capitals stands for any word, or for a number where it is one
+/// letter; one behind `=` for itself, and one that ends in `..` for one or more.
 pub(crate) fn table() -> &'static str {
     "hs_check | accepted replica R rule K view V | The verdict proves that replica R broke rule K (1, a double vote; 2, a lock violation); V is the view of its later vote. | Send the verdict to everyone who must agree to the removal; each judges it under a committee's file of their own.\n\
 hs_check, hs_show --statement | refused 1 Short | The verdict has fewer than 39 bytes. | It is no verdict: get the file anew.\n\
@@ -34,7 +34,15 @@ hs_tool audit --why | SOURCE K frames are no entries | So many whole frames spel
 hs_tool audit --why | SOURCE V votes, G good: another committee, or another R? | The log names V different votes, of which G are good. | Compare chain ids (hs_show COMMITTEE), and see that it is the log of that replica.\n\
 hs_tool audit --why | verdict PATH | The verdict on a culprit stands at PATH. | Send it to everyone; each judges it by hs_check COMMITTEE PATH.\n\
 hs_signer | stopped vote view V id ID not in the log | A good certificate, or one in another's log that --ask reads, has a good vote of this replica on that block that its log lacks: its folder was put back to a backup, or its key signs elsewhere too. It votes no more, and wrote DIR/put-back. | Leave put-back where it is, hand out the log, and tell the other operators: the replica counts as one of the f until there is a new committee.\n\
-hs_signer | asking | Before it takes a block it reads the logs of others, which --ask names, and replicas of more than a third of the weight were not heard yet. Nothing was done. | Ask again. Where it stays so, see that the others' logs can be reached.\n\
+hs_signer | put-back not written PATH.. | The log was found to be put back to a backup (stopped vote), and the file that keeps each later start from voting could not be written or synced. This process gives no vote more all the same. | Make an empty file at PATH before anything starts the signer again, and see to the disk.\n\
+hs_signer | asking | Before it takes a block it reads the logs of others, which --ask names, and replicas of more than a third of the weight were not heard yet. Nothing was done. | Ask again. Where it stays so, standard error says of each source why it is not heard (asking source I).\n\
+hs_signer | asking source I Whole | Source I of --ask, counted from 0, was read to its end: its replica is heard. | Nothing.\n\
+hs_signer | asking source I Cut | What came of source I of --ask, counted from 0, ended early, as an empty file does. It is read again. | Where it stays so, see whether its server runs, or get the file anew.\n\
+hs_signer | asking source I Broken | What source I of --ask, counted from 0, gave is no export, or does not end as one. It is read again. | See that its path or address is that of a replica's log.\n\
+hs_signer | asking source I TooLong | Source I of --ask, counted from 0, gave more entries than a log has. It is read again. | Ask who serves it.\n\
+hs_signer | asking source I Failed | Source I of --ask, counted from 0, could not be reached, or not read to its end. It is read again. | See that its path or address is right, and that its server runs and can be reached.\n\
+hs_signer | asking source I Unresolved | The host that source I of --ask, counted from 0, names can't be found. It is looked up again. | Look for a slip in the word, and at the name service; or write the number of the host.\n\
+hs_signer | asking source I OtherChain | What source I of --ask, counted from 0, gave is a log under another committee's file: its replica is not heard. | See that its path or address is that of a replica of this committee.\n\
 hs_signer | successor not read | A block that hands over came, and the file of --successor can't be opened or read, or memory was refused. It is as if it were not there, and the block got no vote. | See to the file's mode: it is read anew at the next such block.\n\
 hs_signer | successor 1 Length | The file of --successor has not as many bytes as its replicas ask for. The file is as if it were not there. | Lay the right file down by renaming it into its place; no restart is needed.\n\
 hs_signer | successor 2 Magic | The file of --successor does not begin as a committee. The file is as if it were not there. | Lay the right file down by renaming it into its place; no restart is needed.\n\
@@ -48,6 +56,7 @@ hs_check, hs_tool, hs_show, hs_draw, hs_signer, hs_watch, hs_follow | fault usag
 hs_check | fault hex | Standard input is not two lines of hex digits. | Give committee and verdict as two lines of hex digits, or name two files.\n\
 hs_tool keygen | fault hex | SEED is not 96 hex digits. | Put SEED right.\n\
 hs_check, hs_tool, hs_show, hs_draw, hs_signer, hs_watch, hs_follow | fault file PATH.. | The file can't be opened, read, made or written, or is there and must not be; of a replica's folder its lock may be held, or put-back says that its log was put back to a backup. | Look at the path, its mode and the disk. Never remove a replica's lock, and never write over a file in a replica's folder: the manual page says what was left.\n\
+hs_tool replica | fault file PATH.. | Where PATH is DIR/disk-failed: a disk failed under the last signer on this folder, and whether its last vote was stored is open. | See to the disk; then remove that file, and start again.\n\
 hs_watch --export | fault file PATH.. | Where PATH is DIR/R-I-K-N: of log K of source I of replica R the part behind N frames is damaged, or what stands before it is missing or damaged. All else was given out, and of this log the frames in front of that, with no end mark; nothing of it where its first part is the one. | Audit what was given out: such a log reads as Cut. A part can't be mended: keep a copy of DIR, move the files R-I-.. out of it, and start the watch again, which reads the log from its source, as long as that has it.\n\
 hs_check, hs_tool, hs_show, hs_draw, hs_signer, hs_watch, hs_follow | fault memory | Memory was refused. | Free memory, and look at the manual page for what was left.\n\
 hs_check, hs_tool, hs_show, hs_draw, hs_signer, hs_watch, hs_follow | fault output | The lines could not be written, or not all. | Look at where standard output goes: a disk that is full, a pipe that was closed.\n\
@@ -62,6 +71,7 @@ hs_follow | fault committee 8 OldKey K | Key K of the new committee is one of th
 hs_tool audit, hs_draw, hs_watch, hs_follow | fault source I | The word of source I, counted from 0, is not R=file:PATH or R=tcp:ADDRESS. | Put that word right.\n\
 hs_tool audit, hs_draw, hs_watch, hs_follow | fault collision | Two different headers have one id: SHA-256 is broken, and no audit of these sources holds. | Keep all sources.\n\
 hs_watch | fault state | The folder of --state has logs of another chain, or logs and no file that says of which; or, with --export, nothing of that source. | Name another folder, or the committee's own; R-I is how the names of its files begin.\n\
+hs_signer | fault disk PATH.. | A disk failed under the last signer on this folder, as the file at PATH says: whether its last vote was stored is open, and a start before the disk was seen to may use a one-time key twice. | See to the disk; then remove the file at PATH, and start again.\n\
 hs_tool replica, hs_signer | fault store 2 | The committee has no replica R, or a disk failed while a store was recovered. | Compare R and COMMITTEE, and look at the disk: nothing is spent by trying again.\n\
 hs_tool migrate | fault store 2 | The disk failed. | Look at the disk.\n\
 hs_tool replica, hs_signer | fault store 3 | The keys of the folder are not those of replica R in their order, or log.hsj is no journal. | Compare R, COMMITTEE and DIR. Never rename seeds to make them fit.\n\
@@ -76,31 +86,37 @@ hs_tool replica, hs_signer, hs_tool migrate | fault store 10 | The log's entries
 hs_tool replica, hs_signer | fault receipts | The votes that were given out are not those of the log. It can't come: it is a bug. | Stop the replica, keep its folder as it is, and report it.\n\
 hs_tool replica, hs_signer, hs_watch | fault listen | The address can't be listened on. | Put it right, or see which program listens there (ss -ltnp).\n\
 hs_signer, hs_watch | fault threads | A thread can't be made. | Look at the limits of processes and of memory.\n\
-hs_tool replica, hs_signer | voted N HEX | The replica voted for the block: entry N of its log, synced before this was told. | Send the vote on. Its bytes stay the replica's only vote in that view.\n\
+hs_tool replica, hs_signer | voted N HEX | The replica voted for the block: entry N of its log, synced before this was told. Where the block came before, hs_signer tells the vote that it gave it then. | Send the vote on. Its bytes stay the replica's only vote in that view.\n\
 hs_tool replica, hs_signer | voted N HEX committed ID | As voted; and by what this process was told the block ID is committed. | Send the vote on, and apply what ID's chain has.\n\
-hs_tool replica, hs_signer | raised | The replica raised its lock, stored that, and gave the block no vote. | Nothing: it has voted in this view or a later one, gave the view up, or its lock forbids this vote. hs_signer gives a view up by a timeout, by a block that hands over to another file than that of --successor, and, with --ask, before its first block.\n\
-hs_tool replica, hs_signer | raised committed ID | As raised; and by what this process was told the block ID is committed. | Apply what ID's chain has.\n\
-hs_tool replica, hs_signer | held | The block is held, and this call gave it no vote. | Nothing: the replica has voted in this view or a later one, gave the view up, or its lock forbids this vote. hs_signer gives a view up by a timeout, and by a block that hands over to another file than that of --successor.\n\
-hs_signer --ask | held | Before its first block the signer gave up all views up to V + 1, where V is the greatest view of a good certificate in the others' logs: there a vote of it may stand that it forgot. | Nothing: it votes in later views. vote_view of GET /status is the last view that it voted in or gave up.\n\
+hs_tool replica | raised | The replica raised its lock, stored that, and gave the block no vote. | Nothing: it has voted in this view or a later one, gave the view up, or its lock forbids this vote.\n\
+hs_signer | raised V ID | The replica raised its lock by the block ID of view V, stored that, and gave that block no vote. | Nothing: it has voted in this view or a later one, gave the view up, or its lock forbids this vote. It gives a view up by a timeout, by a block that hands over to another file than that of --successor, and, with --ask, before its first block.\n\
+hs_tool replica | raised committed ID | As raised; and by what this process was told the block ID is committed. | Apply what ID's chain has.\n\
+hs_signer | raised V ID committed ID | As raised V ID; and by what this process was told the block of the last ID is committed. | Apply what the chain of the last ID has.\n\
+hs_tool replica | held | The block is held, and this call gave it no vote. | Nothing: the replica has voted in this view or a later one, gave the view up, or its lock forbids this vote.\n\
+hs_signer | held V ID | The block ID of view V is held, and got no vote: the log has none on it, or could not be read. | Nothing: it has voted for another block in this view, or in a later one, gave the view up, or its lock forbids this vote. It gives a view up by a timeout, and by a block that hands over to another file than that of --successor.\n\
+hs_signer --ask | held V ID | Before its first block the signer gave up all views up to one above the greatest view of a good certificate in the others' logs: there a vote of it may stand that it forgot. | Nothing: it votes in later views. vote_view of GET /status is the last view that it voted in or gave up.\n\
 hs_signer | held | To GET /block/ID: the block is held. | Deliver blocks on it.\n\
-hs_tool replica, hs_signer | held committed ID | As held; and by what this process was told the block ID is committed. | Apply what ID's chain has.\n\
+hs_tool replica | held committed ID | As held; and by what this process was told the block ID is committed. | Apply what ID's chain has.\n\
+hs_signer | held V ID committed ID | As held V ID; and by what this process was told the block of the last ID is committed. | Apply what the chain of the last ID has.\n\
 hs_tool replica, hs_signer | timeout V | Until it ends the replica gives no vote in a view up to V. | Send it again after a start: it is not stored.\n\
+hs_signer | refused log 2 Device | The disk failed where the log was read: for its vote in the view of the block's certificate, in the view of GET /vote, or for GET /log. Nothing was delivered, and the desk is not stopped. | See to the disk, and ask again.\n\
+hs_signer | refused log 9 BadEntry | What the log gave, for its vote in the view of the block's certificate or of GET /vote, is no vote, or not the one that was stored. Nothing was delivered, and the desk is not stopped. | The disk gives other bytes than were written: see to it, and look at the log with hs_show.\n\
 hs_signer | refused header 1 Length | There are not 84 bytes. | Send the header's 84 bytes, and behind them the certificate of its parent.\n\
 hs_signer | refused header 2 Magic | The header does not begin with HSB1. | Build the header as FORMATS.md says.\n\
 hs_signer | refused header 3 ViewOrder | The parent's view is not below the block's. | Build the header as FORMATS.md says.\n\
-hs_tool replica, hs_signer | refused header N | The first 84 bytes are no header: 1 Length, 2 Magic, 3 ViewOrder. | Build the header as FORMATS.md says.\n\
-hs_tool replica, hs_signer | refused certificate N | The rest is no certificate: 1 Memory, 2 Length, 3 Order, 4 Count. | Build the certificate as FORMATS.md says.\n\
+hs_tool replica | refused header N | The first 84 bytes are no header: 1 Length, 2 Magic, 3 ViewOrder. | Build the header as FORMATS.md says.\n\
+hs_tool replica | refused certificate N | The rest is no certificate: 1 Memory, 2 Length, 3 Order, 4 Count. | Build the certificate as FORMATS.md says.\n\
 hs_signer | refused certificate 1 Memory | Memory was refused. | Send the block again.\n\
 hs_signer | refused certificate 2 Length | The rest has not as many bytes as its votes ask for. | Build the certificate as FORMATS.md says.\n\
 hs_signer | refused certificate 3 Order | The numbers of the replicas do not rise. | Put the votes in the order of their replicas.\n\
 hs_signer | refused certificate 4 Count | It has more than 31 votes, or none with a view above 0, or some with view 0. | Build the certificate as FORMATS.md says.\n\
-hs_tool replica, hs_signer | refused block N | The certificate does not fit the block, or is not good: 1 WrongBlock, 2 Count, 3 UnknownReplica, 4 Signature, 5 UnknownKey. | Drop the block: its leader is faulty, or is of another committee.\n\
+hs_tool replica | refused block N | The certificate does not fit the block, or is not good: 1 WrongBlock, 2 Count, 3 UnknownReplica, 4 Signature, 5 UnknownKey. | Drop the block: its leader is faulty, or is of another committee.\n\
 hs_signer | refused block 1 WrongBlock | The certificate is not on the parent's id and view that the header names. | Drop the block.\n\
 hs_signer | refused block 2 Count | The votes are no quorum, or are more than there are replicas. | Drop the block.\n\
 hs_signer | refused block 3 UnknownReplica | A vote is of a replica that the committee lacks. | Drop the block.\n\
 hs_signer | refused block 4 Signature | A vote does not verify. | Drop the block, and look which vote it is.\n\
 hs_signer | refused block 5 UnknownKey | A vote names a key that its replica has not. | Drop the block.\n\
-hs_tool replica, hs_signer | refused core N | The replica can't take the block: 1 Memory, 2 UnknownParent, 3 ParentView, 4 TreeFull, 5 SameId. | With 2 deliver the parent first, and then the block again.\n\
+hs_tool replica | refused core N | The replica can't take the block: 1 Memory, 2 UnknownParent, 3 ParentView, 4 TreeFull, 5 SameId. | With 2 deliver the parent first, and then the block again.\n\
 hs_signer | refused core 1 Memory | Memory for one more header was refused. | Send the block again.\n\
 hs_signer | refused core 2 UnknownParent | No block of the parent's id is held. | Deliver the parent first, and then the block again.\n\
 hs_signer | refused core 3 ParentView | The parent has another view than the header says. | Drop the block.\n\
@@ -111,17 +127,18 @@ hs_signer | refused vote 2 Signature | The vote does not verify under the key th
 hs_signer | refused vote 3 UnknownKey | The replica has no key of that number. | Drop the vote.\n\
 hs_signer | good | The vote verifies under the replica's key. | Count it.\n\
 hs_signer | ok | The process answers; at /health also that log, keys, disks and places for headers allow a vote. | Nothing.\n\
-hs_tool replica, hs_signer | desk 1 | Memory was refused; nothing was stored. | Send the block again.\n\
-hs_tool replica, hs_signer | desk 3 | The replica's keys are spent. | A new committee, of new keys, is due.\n\
-hs_tool replica, hs_signer | desk 4 | The log is full: it has 4,096 entries. | A new committee is due.\n\
-hs_tool replica, hs_signer | desk 5 | A disk failed in this call: whether the vote was stored is open, and the replica does nothing more. | See to the disk, and start the replica again.\n\
-hs_tool replica, hs_signer | desk 6 | A disk failed in an earlier call. | See to the disk, and start the replica again.\n\
+hs_tool replica | desk 1 | Memory was refused; nothing was stored. | Send the block again.\n\
+hs_tool replica | desk 3 | The replica's keys are spent. | A new committee, of new keys, is due.\n\
+hs_tool replica | desk 4 | The log is full: it has 4,096 entries. | A new committee is due.\n\
+hs_tool replica | desk 5 | A disk failed in this call: whether the vote was stored is open, and the replica does nothing more. | See to the disk, and start the replica again.\n\
+hs_tool replica | desk 6 | A disk failed in an earlier call. | See to the disk, and start the replica again.\n\
 hs_signer | desk 1 Memory | Memory was refused; nothing was stored. | Send the block again.\n\
 hs_signer | desk 3 KeySpent | The replica's keys are spent. | A new committee, of new keys, is due.\n\
 hs_signer | desk 4 LogFull | The log is full: it has 4,096 entries. | A new committee is due.\n\
-hs_signer | desk 5 Device | A disk failed in this call: whether the vote was stored is open, and the replica does nothing more. | See to the disk, and start the signer again.\n\
-hs_signer | desk 6 Stopped | A disk failed in an earlier call, and nothing was done. | See to the disk, and start the signer again.\n\
-hs_signer | stopped desk 5 | A disk failed under a block; the process goes on answering, and gives no vote more. | See to the disk, and start the signer again.\n\
+hs_signer | desk 5 Device | A disk failed in this call: whether the vote was stored is open. This process delivers and votes no more, and wrote disk-failed, so that none is started before an operator removes it. | See to the disk, remove disk-failed, and start the signer again; then ask GET /vote/V.\n\
+hs_signer | desk 6 Stopped | A disk failed in an earlier call, and nothing was done. This process delivers and votes no more. | See to the disk, remove disk-failed, and start the signer again.\n\
+hs_signer | stopped desk 5 | A disk failed under a block: the desk is stopped. The process goes on answering, delivers and votes no more, and wrote disk-failed, so that none is started before an operator removes it. | See to the disk, remove disk-failed, and start the signer again.\n\
+hs_signer | disk-failed not written | A disk failed under a block, and the file that keeps a start from being made could be written neither into DIR nor beside the socket. | Start no signer on this folder before the disk was seen to: nothing else keeps it from using a one-time key twice.\n\
 hs_tool replica | bad line | The line is neither a block nor a timeout in its one spelling; a line that ends in CRLF is none. | Put the line right.\n\
 hs_tool replica, hs_signer | closed N | The input ended; the log has N entries. | Nothing.\n\
 hs_tool replica | served FRAMES | A request for the log was answered with so many entries. | Nothing: that they arrived is not known.\n\

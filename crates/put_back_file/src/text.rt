@@ -1,4 +1,4 @@
-//! The bytes of the file.
+//! The names of the files, and the bytes of the first.
 
 ghost use Rattle.std.specs.Prelude.{◌≡◌, IfOk};
 ghost use Rattle.put_back_file.specs.PutBackFiles.{put_back_text};
@@ -8,8 +8,11 @@ use certificates::Certificate;
 use std::alloc::{AllocError, Global};
 use wire::append;
 
-/// The name of the file in a replica's folder.
+/// The name of the file that says that the log of a replica's folder was put back to a backup.
 pub const PUT_BACK: &str = "put-back";
+
+/// The name of the one that says that a disk failed under the desk of a replica's folder: an operator removes it.
+pub const DISK_FAILED: &str = "disk-failed";
 
 /// What is written down where the block of this header came with this certificate, which has a vote that the log, of so many
 /// entries, lacks: docs/FORMATS.md lays it out. `AllocError` where memory was refused.

@@ -6,8 +6,8 @@ use Rattle.vote_desk.specs.Deliveries.{with_receipt}
 use Rattle.vote_desk.specs.declared.reply.Answer.{Answer}
 use Rattle.vote_desk.specs.declared.reply.Answer.TheVariants.{Voted, Raised, Held}
 use Rattle.vote_desk.specs.declared.reply.Receipt.{Receipt}
-use Rattle.replica_lines.specs.declared.outcome.Outcome.{Outcome}
-use Rattle.replica_lines.specs.declared.outcome.Outcome.TheVariants as came
+use Rattle.replica_answers.specs.declared.outcome.Outcome.{Outcome}
+use Rattle.replica_answers.specs.declared.outcome.Outcome.TheVariants as came
 use Rattle.replica_answers.specs.SessionReceipts.{HasReceipt, HasReceiptOf, ReceiptsGrow, receipts_after}
 
 -- ---- they grow
@@ -31,7 +31,6 @@ grow_after receipts (came.RefusedHeader refusal) = grow_none receipts
 grow_after receipts (came.RefusedCertificate refusal) = grow_none receipts
 grow_after receipts (came.RefusedBlock refusal) = grow_none receipts
 grow_after receipts (came.RefusedByDesk refusal) = grow_none receipts
-grow_after receipts came.BadLine = grow_none receipts
 
 -- what grows keeps what it has
 pub kept_by_growth : (old new : List Receipt) → ReceiptsGrow old new → (r : Receipt) → Contains old r → Contains new r
@@ -52,7 +51,6 @@ has_receipt_among_more receipts more (came.RefusedHeader refusal) keeps h = tt
 has_receipt_among_more receipts more (came.RefusedCertificate refusal) keeps h = tt
 has_receipt_among_more receipts more (came.RefusedBlock refusal) keeps h = tt
 has_receipt_among_more receipts more (came.RefusedByDesk refusal) keeps h = tt
-has_receipt_among_more receipts more came.BadLine keeps h = tt
 
 has_receipt_of_answer : (receipts : List Receipt) (a : Answer) → HasReceiptOf (with_receipt receipts a) a
 has_receipt_of_answer receipts (Voted receipt) = Contains-push receipts receipt
@@ -67,4 +65,3 @@ has_receipt_after receipts (came.RefusedHeader refusal) = tt
 has_receipt_after receipts (came.RefusedCertificate refusal) = tt
 has_receipt_after receipts (came.RefusedBlock refusal) = tt
 has_receipt_after receipts (came.RefusedByDesk refusal) = tt
-has_receipt_after receipts came.BadLine = tt

@@ -11,10 +11,10 @@ use Rattle.vote_desk.specs.SomeDesk.{IsDeskOf, Refuses, Replies, SomeDesk, SomeD
 use Rattle.vote_desk.specs.declared.desk_error.DeskError.{DeskError}
 use Rattle.vote_desk.specs.declared.desk_error.DeskError.TheVariants as desk
 use Rattle.vote_desk.specs.declared.reply.Reply.{Reply}
-use Rattle.replica_lines.specs.declared.outcome.Outcome.{Outcome}
-use Rattle.replica_lines.specs.declared.outcome.Outcome.TheVariants as came
-use Rattle.replica_lines.specs.declared.request.Request.{Request}
-use Rattle.replica_lines.specs.declared.request.Request.TheVariants as asks
+use Rattle.replica_answers.specs.declared.outcome.Outcome.{Outcome}
+use Rattle.replica_answers.specs.declared.outcome.Outcome.TheVariants as came
+use Rattle.replica_answers.specs.declared.request.Request.{Request}
+use Rattle.replica_answers.specs.declared.request.Request.TheVariants as asks
 
 -- ---- a block
 
@@ -64,4 +64,3 @@ IsAnswerTo disk committee replica opening (asks.Block header certificate) outcom
 IsAnswerTo disk committee replica opening (asks.Timeout view) outcome = IsAnswerToTimeout disk committee replica opening view outcome
 IsAnswerTo disk committee replica opening (asks.RefusedHeader refusal) outcome = outcome ≡ came.RefusedHeader refusal
 IsAnswerTo disk committee replica opening (asks.RefusedCertificate refusal) outcome = outcome ≡ came.RefusedCertificate refusal
-IsAnswerTo disk committee replica opening asks.BadLine outcome = outcome ≡ came.BadLine

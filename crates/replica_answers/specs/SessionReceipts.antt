@@ -5,8 +5,8 @@ use Rattle.vote_desk.specs.Deliveries.{with_receipt}
 use Rattle.vote_desk.specs.declared.reply.Answer.{Answer}
 use Rattle.vote_desk.specs.declared.reply.Answer.TheVariants.{Voted, Raised, Held}
 use Rattle.vote_desk.specs.declared.reply.Receipt.{Receipt}
-use Rattle.replica_lines.specs.declared.outcome.Outcome.{Outcome}
-use Rattle.replica_lines.specs.declared.outcome.Outcome.TheVariants as came
+use Rattle.replica_answers.specs.declared.outcome.Outcome.{Outcome}
+use Rattle.replica_answers.specs.declared.outcome.Outcome.TheVariants as came
 
 -- the receipt of a vote that was given out is among these
 abbrev pub HasReceiptOf : List Receipt → Answer → Type 0

@@ -4,9 +4,10 @@ ghost use Rattle.std.specs.Prelude.{◌≡◌};
 ghost use Rattle.replica_answers.specs.Answers.{IsAnswerTo, IsAnswerToBlock, IsAnswerToTimeout};
 ghost use Rattle.replica_answers.specs.SessionReceipts.{receipts_after};
 
+use crate::outcome::Outcome;
+use crate::request::Request;
 use blocks::{CommitteeView, Header};
 use certificates::{Certificate, Verifier, check_block};
-use replica_lines::{Outcome, Request};
 use stable_log::Disk;
 use std::sync::Wait;
 use vote_desk::{Desk, DeskNaming, Session};
@@ -33,7 +34,6 @@ pub fn answer<N: DeskNaming, T: Wait, D: Disk, V: Verifier>(
         Request::Timeout(view) => time_out(rt, desk, view),
         Request::RefusedHeader(refusal) => Outcome::RefusedHeader(refusal),
         Request::RefusedCertificate(refusal) => Outcome::RefusedCertificate(refusal),
-        Request::BadLine => Outcome::BadLine,
     }
 }
 

@@ -14,16 +14,16 @@ use Rattle.streams.specs.Streams.{Wrote}
 use Rattle.streams.proofs.Writing.{wrote_both}
 use Rattle.vote_desk.specs.Receipts.{receipts_of}
 use Rattle.vote_desk.specs.declared.reply.Receipt.{Receipt}
-use Rattle.replica_lines.specs.declared.outcome.Outcome.{Outcome}
-use Rattle.replica_lines.specs.declared.request.Request.{Request}
-use Rattle.replica_answers.specs.SessionReceipts.{HasReceipt}
-use Rattle.replica_answers.proofs.Receipts.{has_receipt_among_more}
+use Rattle.replica_lines.specs.declared.outcome.LineOutcome.{LineOutcome}
+use Rattle.replica_lines.specs.declared.request.LineRequest.{LineRequest}
 use Rattle.replica_command.specs.Dealing.{AreWorked, IsAnswered, IsRequestIn}
+use Rattle.replica_command.specs.LineReceipts.{HasLineReceipt}
 use Rattle.replica_command.specs.StayAnswers.{IsStayAnswer}
 use Rattle.replica_command.specs.StayText.{IsPrinted, IsStayPrinted, answers, closed_line}
 use Rattle.replica_command.specs.declared.staying.Ending.{Ending}
 use Rattle.replica_command.specs.declared.worker.Answered.{Answered}
 use Rattle.replica_command.specs.declared.worker.Asked.{Asked}
+use Rattle.replica_command.proofs.LineReceipts.{has_line_receipt_among_more}
 
 -- ---- lists
 
@@ -47,7 +47,7 @@ drop_at (y ∷ xs) (suc n) x rest e =
     (h.0, subst (λ (m : ℕ). drop m (y ∷ xs) ≡ rest) (sym (add-one (suc n))) (subst (λ (m : ℕ). drop m xs ≡ rest) (add-one n) h.1))
 
 -- one request more was dealt, under its number
-pub dealt_one_more : (requests : List Request) (count count' number : ℕ) (x : Request) (rest rest' : List Request) → drop count requests ≡ rest → rest ≡ x ∷ rest' → number ≡ count → count' ≡ count + 1
+pub dealt_one_more : (requests : List LineRequest) (count count' number : ℕ) (x : LineRequest) (rest rest' : List LineRequest) → drop count requests ≡ rest → rest ≡ x ∷ rest' → number ≡ count → count' ≡ count + 1
     → (slice_get requests number ≡ Some x) × (drop count' requests ≡ rest')
 dealt_one_more requests count count' number x rest rest' here is_rest is_number is_count =
     let at = drop_at requests count x rest' (here ∙ is_rest) in
@@ -81,14 +81,14 @@ zip_from_get R (x ∷ xs) (y ∷ ys) same each =
 
 -- ---- a stay
 
-module _ {D : Type 0} (disk : Ghosts D) (committee : List ℕ) (replica : ℕ) (opening : List Stored) (requests : List Request) (receipts : List Receipt) where
+module _ {D : Type 0} (disk : Ghosts D) (committee : List ℕ) (replica : ℕ) (opening : List Stored) (requests : List LineRequest) (receipts : List Receipt) where
   -- what was asked under its number may have come so, and the receipt of a vote is among the receipts
   IsGood : Answered → Type 0
-  IsGood a = ((r : Request) × (slice_get requests a.number ≡ Some r) × IsStayAnswer disk committee replica opening r a.outcome) × HasReceipt receipts a.outcome
+  IsGood a = ((r : LineRequest) × (slice_get requests a.number ≡ Some r) × IsStayAnswer disk committee replica opening r a.outcome) × HasLineReceipt receipts a.outcome
 
   -- of one worker
   good_of_one : (asked : List Asked) (answered : List Answered) (own : List Receipt) → ((r : Receipt) → Contains own r → Contains receipts r)
-      → All (IsRequestIn requests) asked → AllZip (IsAnswered disk committee replica opening) asked answered → All (λ (a : Answered). HasReceipt own a.outcome) answered
+      → All (IsRequestIn requests) asked → AllZip (IsAnswered disk committee replica opening) asked answered → All (λ (a : Answered). HasLineReceipt own a.outcome) answered
       → All IsGood answered
   unfolding IsGood
   good_of_one [] [] own among dealt zip backed = All-nil IsGood
@@ -103,9 +103,9 @@ module _ {D : Type 0} (disk : Ghosts D) (committee : List ℕ) (replica : ℕ) (
           subst (λ (n : ℕ). slice_get requests n ≡ Some q.request) (sym here.0) asked_here,
           here.1,
         ),
-        has_receipt_among_more own receipts a.outcome among (All-head (λ (x : Answered). HasReceipt own x.outcome) a answered backed),
+        has_line_receipt_among_more own receipts a.outcome among (All-head (λ (x : Answered). HasLineReceipt own x.outcome) a answered backed),
       )
-      (good_of_one asked answered own among (All-tail (IsRequestIn requests) q asked dealt) zip.1 (All-tail (λ (x : Answered). HasReceipt own x.outcome) a answered backed))
+      (good_of_one asked answered own among (All-tail (IsRequestIn requests) q asked dealt) zip.1 (All-tail (λ (x : Answered). HasLineReceipt own x.outcome) a answered backed))
 
   module _ {W X : Type 0} (asked_of : W → List Asked) (answered_of : X → List Answered) (receipts_in : X → List Receipt) where
     -- of all workers
@@ -137,7 +137,7 @@ module _ {D : Type 0} (disk : Ghosts D) (committee : List ℕ) (replica : ℕ) (
     stay_printed before mid after work done count opened steps ending count_is begins dealt zip p same wrote =
         let good = good_of_all work done (λ r h. Contains-permutation (receipts_of (map receipts_in done)) receipts r same h) dealt zip in
         let all = All-map (λ (answered : List Answered). All IsGood answered) answered_of done good in
-        let found = λ (k : ℕ) (o : Outcome) (e : slice_get p.outcomes k ≡ Some o).
+        let found = λ (k : ℕ) (o : LineOutcome) (e : slice_get p.outcomes k ≡ Some o).
         let at = p.found k o e in
         All-contains IsGood at.0 (record { number = k; outcome = o }) (All-contains (λ (answered : List Answered). All IsGood answered) (map answered_of done) at.0 all at.1) at.2 in
         record {

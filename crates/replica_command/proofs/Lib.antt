@@ -1,3 +1,4 @@
+pub mod LineReceipts
 pub mod Answering
 pub mod Printing
 pub mod Gathering

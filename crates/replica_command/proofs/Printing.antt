@@ -6,8 +6,8 @@ use Rattle.std.proofs.lemmas.List.{append-nil, length_push}
 use Rattle.std.proofs.lemmas.Option.{none-some, same_Some}
 use Rattle.streams.specs.Streams.{Wrote}
 use Rattle.streams.proofs.Writing.{wrote_nothing, wrote_both}
-use Rattle.replica_lines.specs.OutcomeLines.{outcome_line}
-use Rattle.replica_lines.specs.declared.outcome.Outcome.{Outcome}
+use Rattle.replica_lines.specs.OutcomeLines.{answer_line}
+use Rattle.replica_lines.specs.declared.outcome.LineOutcome.{LineOutcome}
 use Rattle.replica_command.specs.Dealing.{IsOutcomeAt}
 use Rattle.replica_command.specs.StayAnswers.{both_endings, ending_of, ending_of_all}
 use Rattle.replica_command.specs.StayText.{IsPrinted, answers}
@@ -32,7 +32,7 @@ both_endings-assoc : (a b c : Ending) → both_endings (both_endings a b) c ≡ 
 both_endings-assoc Done b c = refl
 both_endings-assoc Stopped b c = refl
 
-ending_of_all-push : (outcomes : List Outcome) (outcome : Outcome) → ending_of_all (outcomes ++ outcome ∷ []) ≡ both_endings (ending_of_all outcomes) (ending_of outcome)
+ending_of_all-push : (outcomes : List LineOutcome) (outcome : LineOutcome) → ending_of_all (outcomes ++ outcome ∷ []) ≡ both_endings (ending_of_all outcomes) (ending_of outcome)
 ending_of_all-push [] outcome = both_endings-Done (ending_of outcome)
 ending_of_all-push (o ∷ rest) outcome =
     ap (λ (e : Ending). both_endings (ending_of o) e) (ending_of_all-push rest outcome)
@@ -49,8 +49,8 @@ printed_none before all = record {
 }
 
 -- one outcome more was printed
-pub printed_one_more : (before mid after : Option (List ℕ)) (all : List (List Answered)) (count : ℕ) (ending then both : Ending) (outcome : Outcome)
-    → IsPrinted before mid all count ending → IsOutcomeAt all count outcome → then ≡ ending_of outcome → both ≡ both_endings ending then → Wrote mid after (outcome_line outcome)
+pub printed_one_more : (before mid after : Option (List ℕ)) (all : List (List Answered)) (count : ℕ) (ending then both : Ending) (outcome : LineOutcome)
+    → IsPrinted before mid all count ending → IsOutcomeAt all count outcome → then ≡ ending_of outcome → both ≡ both_endings ending then → Wrote mid after (answer_line outcome)
     → IsPrinted before after all (count + 1) both
 printed_one_more before mid after all count ending then both outcome p here is_then is_both wrote =
     let os = p.outcomes in record {
@@ -58,11 +58,11 @@ printed_one_more before mid after all count ending then both outcome p here is_t
       many = length_push os outcome ∙ ap (λ (n : ℕ). n + 1) p.many;
       found = λ k o e. elim (slice_get-push os outcome o k e) [
         | inl h ↦ p.found k o h
-        | inr h ↦ subst (λ (x : Outcome). IsOutcomeAt all k x) h.1 (subst (λ (n : ℕ). IsOutcomeAt all n outcome) (sym (h.0 ∙ p.many)) here)
+        | inr h ↦ subst (λ (x : LineOutcome). IsOutcomeAt all k x) h.1 (subst (λ (n : ℕ). IsOutcomeAt all n outcome) (sym (h.0 ∙ p.many)) here)
       ];
       ends = is_both ∙ ap (λ (e : Ending). both_endings ending e) is_then ∙ ap (λ (e : Ending). both_endings e (ending_of outcome)) p.ends
           ∙ sym (ending_of_all-push os outcome);
-      wrote = subst (λ (t : List ℕ). Wrote before after t) (sym (flat_map-append outcome_line os (outcome ∷ [])))
+      wrote = subst (λ (t : List ℕ). Wrote before after t) (sym (flat_map-append answer_line os (outcome ∷ [])))
           (wrote_both before mid after (answers os) (answers (outcome ∷ [])) p.wrote
-          (subst (λ (t : List ℕ). Wrote mid after t) (sym (append-nil (outcome_line outcome))) wrote));
+          (subst (λ (t : List ℕ). Wrote mid after t) (sym (append-nil (answer_line outcome))) wrote));
     }

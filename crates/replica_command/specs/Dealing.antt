@@ -4,15 +4,15 @@ use Rattle.std.specs.List.{All, AllZip, Contains, slice_get}
 use Rattle.blocks.specs.Replica.{Stored}
 use Rattle.stable_log.specs.declared.disk.Disk.{Ghosts}
 use Rattle.vote_desk.specs.declared.reply.Receipt.{Receipt}
-use Rattle.replica_lines.specs.declared.outcome.Outcome.{Outcome}
-use Rattle.replica_lines.specs.declared.request.Request.{Request}
-use Rattle.replica_answers.specs.SessionReceipts.{HasReceipt}
+use Rattle.replica_lines.specs.declared.outcome.LineOutcome.{LineOutcome}
+use Rattle.replica_lines.specs.declared.request.LineRequest.{LineRequest}
+use Rattle.replica_command.specs.LineReceipts.{HasLineReceipt}
 use Rattle.replica_command.specs.StayAnswers.{IsStayAnswer}
 use Rattle.replica_command.specs.declared.worker.Answered.{Answered}
 use Rattle.replica_command.specs.declared.worker.Asked.{Asked}
 
 -- it is the request of its number
-abbrev pub IsRequestIn : List Request → Asked → Type 0
+abbrev pub IsRequestIn : List LineRequest → Asked → Type 0
 IsRequestIn requests asked = slice_get requests asked.number ≡ Some asked.request
 
 -- it has the number of the request, and may come of it
@@ -23,9 +23,9 @@ IsAnswered disk committee replica opening asked answered =
 -- a worker's outcomes: one of each of its requests, in order, and each vote's receipt is its session's
 pub record AreWorked {D : Type 0} (disk : Ghosts D) (committee : List ℕ) (replica : ℕ) (opening : List Stored) (asked : List Asked) (receipts : List Receipt) (answered : List Answered) : Type 0 where
   pub each : AllZip (IsAnswered disk committee replica opening) asked answered
-  pub backed : All (λ a. HasReceipt receipts a.outcome) answered
+  pub backed : All (λ a. HasLineReceipt receipts a.outcome) answered
 
 -- one of the workers has this outcome under this number
-abbrev pub IsOutcomeAt : List (List Answered) → ℕ → Outcome → Type 0
+abbrev pub IsOutcomeAt : List (List Answered) → ℕ → LineOutcome → Type 0
 IsOutcomeAt all number outcome =
     (answered : List Answered) × Contains all answered × Contains answered (record { number = number; outcome = outcome })

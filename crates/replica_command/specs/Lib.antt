@@ -1,5 +1,6 @@
 pub mod Folders
 pub mod Blame
+pub mod LineReceipts
 pub mod StayAnswers
 pub mod Dealing
 pub mod StayText

@@ -5,7 +5,7 @@ ghost use Rattle.std.specs.List.{All};
 ghost use Rattle.replica_command.specs.Dealing.{IsOutcomeAt, IsRequestIn};
 
 use crate::worker::{Asked, Done, Work};
-use replica_lines::{Outcome, Request};
+use replica_lines::{LineOutcome, LineRequest};
 use std::alloc::{AllocError, Global};
 use vote_desk::{DeskNaming, Session};
 
@@ -13,7 +13,7 @@ use vote_desk::{DeskNaming, Session};
 pub(crate) fn deal<N: DeskNaming>(
     alloc: Global,
     sessions: Vec<Session<N>>,
-    requests: Vec<Request>,
+    requests: Vec<LineRequest>,
 ) -> Result<Vec<Work<N>>, AllocError>
     ensures { IfOk result (λ all.
         All (λ work. All (IsRequestIn requests.items) work.requests.items) all.items) }
@@ -32,7 +32,7 @@ pub(crate) fn deal<N: DeskNaming>(
 }
 
 /// What came of the request of this number, where it was dealt to a worker in turn.
-pub(crate) fn outcome_at<N: DeskNaming>(all: &[Done<N>], number: usize) -> Option<&Outcome>
+pub(crate) fn outcome_at<N: DeskNaming>(all: &[Done<N>], number: usize) -> Option<&LineOutcome>
     ensures { IfSome result (λ outcome.
         IsOutcomeAt (map (λ done. done.outcomes.items) all.now) number outcome.now) }
 {

@@ -4,7 +4,7 @@ ghost use Rattle.std.specs.Prelude.{◌≡◌, ◌≤◌, length};
 ghost use Rattle.replica_command.specs.Folders.{name_in_folder};
 
 use key_files::KeyFile;
-use put_back_file::PUT_BACK;
+use put_back_file::{DISK_FAILED, PUT_BACK};
 use std::alloc::{AllocError, AllocFailed};
 
 /// A file of a replica's folder.
@@ -16,18 +16,21 @@ pub enum ReplicaFile {
     Key(KeyFile),
     /// The file that says that its log was put back to a backup. That it is there is the fault.
     PutBack,
+    /// The file that says that a disk failed under its desk. That it is there is the fault, until an operator removes it.
+    DiskFailed,
 }
 
 impl ReplicaFile {
     /// Its name in the folder.
     pub fn name(self) -> &'static str
         ensures name { result.now ≡ name_in_folder self }
-        ensures short { length result.now ≤ 10 }
+        ensures short { length result.now ≤ 11 }
     {
         match self {
             ReplicaFile::Lock => "lock",
             ReplicaFile::Key(file) => file.name(),
             ReplicaFile::PutBack => PUT_BACK,
+            ReplicaFile::DiskFailed => DISK_FAILED,
         }
     }
 }

@@ -14,7 +14,6 @@ use lmots::{PRIVATE_SEED_LEN, PrivateSeed};
 use lms_tree::SigningTree;
 use parallel_keys::generate_parallel;
 use program_parts::{InputFault, read_at_most};
-use put_back_file::PUT_BACK;
 use safe_files::is_nothing_at;
 use stable_log::{Disk, FileDisk};
 use std::alloc::Global;
@@ -40,7 +39,8 @@ pub struct ReplicaFolder<'a, F: Files<File = File>> {
 
 impl<F: Files<File = File>> ReplicaFolder<'_, F> {
     /// Asks for the folder's lock, and makes its file where there is none, for its owner alone. The lock is given up when the
-    /// file that is answered is dropped, or the process ends. A folder whose log was found to be put back is refused for good.
+    /// file that is answered is dropped, or the process ends. A folder whose log was found to be put back is refused for good,
+    /// and one under whose desk a disk failed until an operator says that it is sound again.
     pub fn lock(&self) -> Result<File, ReplicaFault>
         ensures { IfErr result (λ fault. fault ≢ ReplicaFault.Output) }
     {
@@ -51,22 +51,23 @@ impl<F: Files<File = File>> ReplicaFolder<'_, F> {
         let _ = file.set_permissions(Permissions::from_mode(OWNER_ALONE));
         match file.try_lock() {
             Ok(()) => {
-                self.see_nothing_put_back()?;
+                self.see_none(ReplicaFile::PutBack)?;
+                self.see_none(ReplicaFile::DiskFailed)?;
                 Ok(file)
             }
             Err(_) => Err(ReplicaFault::File(ReplicaFile::Lock)),
         }
     }
 
-    // Whether nothing says that the log was put back.
-    fn see_nothing_put_back(&self) -> Result<(), ReplicaFault>
+    // Refuses the folder where it has this file, or where that can't be told.
+    fn see_none(&self, file: ReplicaFile) -> Result<(), ReplicaFault>
         ensures { IfErr result (λ fault. fault ≢ ReplicaFault.Output) }
     {
-        let folder = self.path;
-        let path = format!(in self.alloc; "{folder}/{PUT_BACK}")?;
+        let (folder, name) = (self.path, file.name());
+        let path = format!(in self.alloc; "{folder}/{name}")?;
         match is_nothing_at(self.files, &path) {
             Ok(true) => Ok(()),
-            _ => Err(ReplicaFault::File(ReplicaFile::PutBack)),
+            _ => Err(ReplicaFault::File(file)),
         }
     }
 

@@ -2,7 +2,7 @@
 
 ghost use Rattle.std.specs.Prelude.{◌≡◌, ◌≤◌, List, IfOk, length};
 ghost use Rattle.vote_desk.specs.Receipts.{AreReceipts};
-ghost use Rattle.replica_lines.specs.declared.request.Request.{Request as RequestValue};
+ghost use Rattle.replica_lines.specs.declared.request.LineRequest.{LineRequest as RequestValue};
 ghost use Rattle.replica_command.specs.Blame.{BlamesOutput};
 ghost use Rattle.replica_command.specs.StayText.{AreRequestsRead, IsStayPrinted};
 
@@ -10,7 +10,7 @@ use crate::fault::ReplicaFault;
 use crate::folder::ReplicaFolder;
 use crate::staying::{StayEnd, stay};
 use blocks::CommitteeView;
-use replica_lines::{Request, read_requests};
+use replica_lines::{LineRequest, read_requests};
 use stable_log::{Disk, FileDisk};
 use std::alloc::Global;
 use std::fs::{File, Files};
@@ -73,7 +73,7 @@ fn stay_once<T: Threads + Wait + Sync, W: Sink>(
     replica: u16,
     parts: Parts<FileDisk>,
     workers: u8,
-    requests: Vec<Request>,
+    requests: Vec<LineRequest>,
     out: &mut W,
 ) -> Result<StayEnd<FileDisk>, ReplicaFault>
     requires { (1 ≤ workers) × (workers ≤ 64) }

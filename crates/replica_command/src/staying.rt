@@ -5,8 +5,8 @@ ghost use Rattle.std.specs.List.{AllZip};
 ghost use Rattle.std.specs.List.Sorted.{IsPermutation};
 ghost use Rattle.streams.specs.Streams.{Wrote};
 ghost use Rattle.vote_desk.specs.Receipts.{AreReceipts, receipts_of};
-ghost use Rattle.replica_lines.specs.OutcomeLines.{outcome_line};
-ghost use Rattle.replica_lines.specs.declared.outcome.Outcome.{Outcome as OutcomeValue};
+ghost use Rattle.replica_lines.specs.OutcomeLines.{answer_line};
+ghost use Rattle.replica_lines.specs.declared.outcome.LineOutcome.{LineOutcome as OutcomeValue};
 ghost use Rattle.replica_command.specs.StayAnswers.{both_endings, ending_of};
 ghost use Rattle.replica_command.specs.Dealing.{AreWorked, IsOutcomeAt};
 ghost use Rattle.replica_command.specs.StayText.{IsPrinted, IsStayPrinted, closed_line};
@@ -19,7 +19,8 @@ use crate::worker::{Done, Work};
 use blocks::CommitteeView;
 use itoa::Buffer;
 use printed_lines::Line;
-use replica_lines::{Outcome, Request, write_outcome};
+use replica_answers::Outcome;
+use replica_lines::{LineOutcome, LineRequest, write_outcome};
 use stable_log::Disk;
 use std::alloc::{AllocError, Global};
 use std::sync::Wait;
@@ -49,11 +50,13 @@ pub enum Ending {
 
 impl Ending {
     // How a stay with this outcome alone ends.
-    fn of(outcome: &Outcome) -> Ending
+    fn of(outcome: &LineOutcome) -> Ending
         ensures { result ≡ ending_of outcome.now }
     {
         match outcome {
-            Outcome::RefusedByDesk(DeskError::Device | DeskError::Stopped) => Ending::Stopped,
+            LineOutcome::Came(Outcome::RefusedByDesk(DeskError::Device | DeskError::Stopped)) => {
+                Ending::Stopped
+            }
             _ => Ending::Done,
         }
     }
@@ -80,7 +83,7 @@ pub fn stay<N: DeskNaming + Send + Sync, T: Threads + Wait + Sync, D: Disk + Sen
     replica: u16,
     parts: Parts<D>,
     workers: u8,
-    requests: Vec<Request>,
+    requests: Vec<LineRequest>,
     out: &mut W,
 ) -> Result<StayEnd<D>, ReplicaFault>
     requires name { blank.name ≡ N.name }
@@ -173,7 +176,7 @@ fn print_turn<N: DeskNaming, W: Sink>(
     ensures printed { IfOk result (λ ending. (outcome : OutcomeValue)
         × IsOutcomeAt (map (λ d. d.outcomes.items) done.now) number outcome
         × (ending ≡ ending_of outcome)
-        × Wrote (W.text out.old) (W.text out.new) (outcome_line outcome)) }
+        × Wrote (W.text out.old) (W.text out.new) (answer_line outcome)) }
     ensures blame { BlamesOutput result (W.failed out.old) (W.failed out.new) }
     ensures refused { IfErr result IsWorkFault }
 {
@@ -184,9 +187,9 @@ fn print_turn<N: DeskNaming, W: Sink>(
     Ok(Ending::of(outcome))
 }
 
-fn print_outcome<W: Sink>(outcome: &Outcome, out: &mut W) -> Result<(), ReplicaFault>
+fn print_outcome<W: Sink>(outcome: &LineOutcome, out: &mut W) -> Result<(), ReplicaFault>
     ensures printed { OnOk result (Wrote (W.text out.old) (W.text out.new)
-        (outcome_line outcome.now)) }
+        (answer_line outcome.now)) }
     ensures blame { BlamesOutput result (W.failed out.old) (W.failed out.new) }
     ensures refused { IfErr result IsWorkFault }
 {

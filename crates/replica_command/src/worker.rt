@@ -1,14 +1,14 @@
 //! What one worker does.
 
 ghost use Rattle.std.specs.Prelude.{◌≡◌, [], IfOk};
-ghost use Rattle.replica_answers.specs.SessionReceipts.{receipts_after};
+ghost use Rattle.replica_command.specs.LineReceipts.{receipts_after_line};
 ghost use Rattle.replica_command.specs.StayAnswers.{IsStayAnswer};
 ghost use Rattle.replica_command.specs.Dealing.{AreWorked};
 
 use blocks::CommitteeView;
 use certificates::LmsVerifier;
-use replica_answers::answer;
-use replica_lines::{Outcome, Request};
+use replica_answers::{Outcome, answer};
+use replica_lines::{LineOutcome, LineRequest};
 use stable_log::Disk;
 use std::alloc::{AllocError, Global};
 use std::sync::Wait;
@@ -18,14 +18,14 @@ use vote_desk::{Desk, DeskError, DeskNaming, Session};
 #[derive(Drop)]
 pub(crate) struct Asked {
     pub number: usize,
-    pub request: Request,
+    pub request: LineRequest,
 }
 
 /// What came of the request of this number.
 #[derive(Clone, Copy)]
 pub(crate) struct Answered {
     pub number: usize,
-    pub outcome: Outcome,
+    pub outcome: LineOutcome,
 }
 
 /// A worker's session, and the requests that were dealt to it.
@@ -80,21 +80,24 @@ impl<N: DeskNaming> Work<N> {
     }
 }
 
-// What comes of a request, or that memory was refused.
+// What comes of a line's request, or that memory was refused. A bad line asks for nothing.
 fn answer_unless_starved<N: DeskNaming, T: Wait, D: Disk>(
     rt: &T,
     desk: &Desk<N, D>,
     committee: &CommitteeView,
     session: &mut Session<N>,
-    request: Request,
-) -> Result<Outcome, AllocError>
+    request: LineRequest,
+) -> Result<LineOutcome, AllocError>
     requires { committee.now ≡ N.committee }
     ensures answer { IfOk result (IsStayAnswer D.Disk N.committee N.replica N.opening request) }
     ensures receipts { IfOk result (λ outcome.
-        session.new.receipts.items ≡ receipts_after session.old.receipts.items outcome) }
+        session.new.receipts.items ≡ receipts_after_line session.old.receipts.items outcome) }
 {
+    let LineRequest::Asked(request) = request else {
+        return Ok(LineOutcome::BadLine);
+    };
     match answer(rt, desk, committee, &LmsVerifier, session, request) {
         Outcome::RefusedByDesk(DeskError::Memory) => Err(AllocError),
-        outcome => Ok(outcome),
+        outcome => Ok(LineOutcome::Came(outcome)),
     }
 }

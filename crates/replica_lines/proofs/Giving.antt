@@ -7,11 +7,11 @@ use Rattle.streams.specs.Streams.{Read}
 use Rattle.replica_lines.specs.Intakes.{HeldLine, IsTakenIn, held}
 use Rattle.replica_lines.specs.LineReading.{AreOfText, IsWhatWasRead}
 use Rattle.replica_lines.specs.declared.reading.TheConstants.{MOST_LINES}
-use Rattle.replica_lines.specs.declared.request.Request.{Request}
+use Rattle.replica_lines.specs.declared.request.LineRequest.{LineRequest}
 use Rattle.replica_lines.proofs.Taking.{ends_early, ends_full, none_taken}
 
 -- after so many reads, each of which gave something: what was given is taken in, and the feed has the rest
-pub record HasGiven (text : List ℕ) (now : Option (List ℕ)) (reads : ℕ) (requests : List Request) (line : HeldLine) : Type 0 where
+pub record HasGiven (text : List ℕ) (now : Option (List ℕ)) (reads : ℕ) (requests : List LineRequest) (line : HeldLine) : Type 0 where
   pub given : List ℕ
   pub left : List ℕ
   pub left_is : now ≡ Some left
@@ -20,11 +20,11 @@ pub record HasGiven (text : List ℕ) (now : Option (List ℕ)) (reads : ℕ) (r
   pub count : reads ≤ length given
 
 -- .. of a feed that tells
-abbrev pub IsReading : Option (List ℕ) → Option (List ℕ) → ℕ → List Request → HeldLine → Type 0
+abbrev pub IsReading : Option (List ℕ) → Option (List ℕ) → ℕ → List LineRequest → HeldLine → Type 0
 IsReading before now reads requests line = IfSome before (λ text. HasGiven text now reads requests line)
 
 -- what is to be shown of the requests
-abbrev pub AreRead : Option (List ℕ) → Option (List ℕ) → ℕ → ℕ → List Request → Type 0
+abbrev pub AreRead : Option (List ℕ) → Option (List ℕ) → ℕ → ℕ → List LineRequest → Type 0
 AreRead before left failures failures' requests =
     IfSome before (λ text. length text < 2 ^ 64 - 1 → IsWhatWasRead text left failures failures' requests)
 
@@ -32,7 +32,7 @@ pub begins : (before : Option (List ℕ)) → IsReading before before 0 [] (held
 begins None = tt
 begins (Some text) = record { given = []; left = text; left_is = refl; whole = refl; taken = none_taken; count = omega arith }
 
-pub goes_on : (before now after : Option (List ℕ)) (reads n : ℕ) (filled piece : List ℕ) (requests requests' : List Request) (line line' : HeldLine)
+pub goes_on : (before now after : Option (List ℕ)) (reads n : ℕ) (filled piece : List ℕ) (requests requests' : List LineRequest) (line line' : HeldLine)
     → IsReading before now reads requests line → Read now after n filled → 0 < n → piece ≡ take n filled
     → ((text : List ℕ) → IsTakenIn text requests line → IsTakenIn (text ++ piece) requests' line')
     → IsReading before after (reads + 1) requests' line'
@@ -54,7 +54,7 @@ goes_on (Some text) now after reads n filled piece requests requests' line line'
     }
 
 -- the feed ends
-pub at_end : (before now after : Option (List ℕ)) (reads n failures failures' : ℕ) (filled : List ℕ) (requests requests' : List Request) (line : HeldLine)
+pub at_end : (before now after : Option (List ℕ)) (reads n failures failures' : ℕ) (filled : List ℕ) (requests requests' : List LineRequest) (line : HeldLine)
     → IsReading before now reads requests line → Read now after n filled → n ≡ 0 → 0 < length filled → failures' ≡ failures
     → ((text : List ℕ) → IsTakenIn text requests line → AreOfText text requests')
     → AreRead before after failures failures' requests'
@@ -70,7 +70,7 @@ still_left left None keeps = absurd keeps
 still_left left (Some rest) keeps = ap (λ (t : List ℕ). Some t) keeps
 
 -- a read fails
-pub at_failure : (before now after : Option (List ℕ)) (reads failures failures' : ℕ) (requests : List Request) (line : HeldLine)
+pub at_failure : (before now after : Option (List ℕ)) (reads failures failures' : ℕ) (requests : List LineRequest) (line : HeldLine)
     → IsReading before now reads requests line → Keeps now after → length requests < MOST_LINES → failures' ≡ one_more failures
     → AreRead before after failures failures' requests
 at_failure None now after reads failures failures' requests line reading keeps fewer risen = tt
@@ -79,7 +79,7 @@ at_failure (Some text) now after reads failures failures' requests line reading 
     λ _. inr (risen, (reading.left, still_left reading.left after told, ends_early text reading.given reading.left requests line reading.taken fewer reading.whole))
 
 -- there are as many lines as are read
-pub at_most : (before now : Option (List ℕ)) (reads failures failures' : ℕ) (requests : List Request) (line : HeldLine)
+pub at_most : (before now : Option (List ℕ)) (reads failures failures' : ℕ) (requests : List LineRequest) (line : HeldLine)
     → IsReading before now reads requests line → length requests ≡ MOST_LINES → failures' ≡ failures
     → AreRead before now failures failures' requests
 at_most None now reads failures failures' requests line reading full kept = tt

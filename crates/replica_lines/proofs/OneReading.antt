@@ -4,11 +4,15 @@ use Rattle.std.proofs.lemmas.Fmt.{decimal_injective}
 use Rattle.std.proofs.lemmas.List.{append_cancel_left, length-append}
 use Rattle.std.proofs.lemmas.List.Elements.{All-head, All-tail, Contains-append_right}
 use Rattle.hex.specs.Hex.{decode_of}
+use Rattle.replica_answers.specs.Requests.{IsOfBlock}
+use Rattle.replica_answers.specs.declared.request.Request.{Request}
+use Rattle.replica_answers.specs.declared.request.Request.TheVariants.{Block, Timeout, RefusedHeader, RefusedCertificate}
+use Rattle.replica_answers.proofs.OneReading.{one_block}
 use Rattle.replica_lines.specs.LineReading.{ATextHasOneReading, AreLinesOf, AreRequestsOf, IsLine, ended}
-use Rattle.replica_lines.specs.Requests.{AsksFor, IsOfBlock, IsRequestOf, SpellsBlock, SpellsTimeout}
+use Rattle.replica_lines.specs.Requests.{AsksFor, IsRequestOf, SpellsBlock, SpellsTimeout}
 use Rattle.replica_lines.specs.declared.reading.TheConstants.{MOST_LINES}
-use Rattle.replica_lines.specs.declared.request.Request.{Request}
-use Rattle.replica_lines.specs.declared.request.Request.TheVariants.{Block, Timeout, RefusedHeader, RefusedCertificate, BadLine}
+use Rattle.replica_lines.specs.declared.request.LineRequest.{LineRequest}
+use Rattle.replica_lines.specs.declared.request.LineRequest.TheVariants.{Asked, BadLine}
 use Rattle.replica_lines.proofs.Asking.{no_timeout}
 
 -- ---- a text has one list of lines
@@ -120,43 +124,25 @@ same_view line v w (fits, is) (fits', is') = decimal_injective v w fits fits' (a
 not_both : (line bytes : List ℕ) (view : ℕ) → SpellsBlock line bytes → SpellsTimeout line view → ⊥
 not_both line bytes view (digits, is, decoded) timeout = no_timeout line digits view is timeout
 
-same_of_block : (bytes : List ℕ) (r s : Request) → IsOfBlock bytes r → IsOfBlock bytes s → r ≡ s
-same_of_block bytes (Block h c) (Block h' c') (a, b) (a', b') = cc (sym a ∙ a', sym b ∙ b')
-same_of_block bytes (Block h c) (RefusedHeader e) (a, b) a' = absurd (cc (sym a ∙ a'))
-same_of_block bytes (Block h c) (RefusedCertificate e) (a, b) (h', a', b') = absurd (cc (sym b ∙ b'))
-same_of_block bytes (RefusedHeader e) (Block h c) a (a', b') = absurd (cc (sym a ∙ a'))
-same_of_block bytes (RefusedHeader e) (RefusedHeader e') a a' = cc (sym a ∙ a')
-same_of_block bytes (RefusedHeader e) (RefusedCertificate e') a (h', a', b') = absurd (cc (sym a ∙ a'))
-same_of_block bytes (RefusedCertificate e) (Block h c) (h', a, b) (a', b') = absurd (cc (sym b ∙ b'))
-same_of_block bytes (RefusedCertificate e) (RefusedHeader e') (h', a, b) a' = absurd (cc (sym a ∙ a'))
-same_of_block bytes (RefusedCertificate e) (RefusedCertificate e') (h, a, b) (h', a', b') = cc (sym b ∙ b')
-same_of_block bytes (Block h c) (Timeout w) a b = absurd b
-same_of_block bytes (RefusedHeader e) (Timeout w) a b = absurd b
-same_of_block bytes (RefusedCertificate e) (Timeout w) a b = absurd b
-same_of_block bytes (Block h c) BadLine a b = absurd b
-same_of_block bytes (RefusedHeader e) BadLine a b = absurd b
-same_of_block bytes (RefusedCertificate e) BadLine a b = absurd b
-same_of_block bytes (Timeout v) s a b = absurd a
-same_of_block bytes BadLine s a b = absurd a
-
 -- a block, a timeout, or neither
-abbrev IsKind : List ℕ → Request → Type 0
+abbrev IsKind : List ℕ → LineRequest → Type 0
 IsKind line r =
-    ((bytes : List ℕ) × SpellsBlock line bytes × IsOfBlock bytes r)
-    ⊎ (((view : ℕ) × SpellsTimeout line view × (r ≡ Timeout view))
+    ((bytes : List ℕ) × SpellsBlock line bytes × ((request : Request) × (r ≡ Asked request) × IsOfBlock bytes request))
+    ⊎ (((view : ℕ) × SpellsTimeout line view × (r ≡ Asked (Timeout view)))
     ⊎ ((r ≡ BadLine) × ((bytes : List ℕ) → SpellsBlock line bytes → ⊥) × ((view : ℕ) → SpellsTimeout line view → ⊥)))
 
-kind_of : (line : List ℕ) (r : Request) → AsksFor line r → IsKind line r
-kind_of line (Block h c) asks = inl asks
-kind_of line (RefusedHeader e) asks = inl asks
-kind_of line (RefusedCertificate e) asks = inl asks
-kind_of line (Timeout v) asks = inr (inl (v, asks, refl))
+kind_of : (line : List ℕ) (r : LineRequest) → AsksFor line r → IsKind line r
+kind_of line (Asked (Block h c)) (bytes, spelled, what) = inl (bytes, spelled, (Block h c, refl, what))
+kind_of line (Asked (RefusedHeader e)) (bytes, spelled, what) = inl (bytes, spelled, (RefusedHeader e, refl, what))
+kind_of line (Asked (RefusedCertificate e)) (bytes, spelled, what) = inl (bytes, spelled, (RefusedCertificate e, refl, what))
+kind_of line (Asked (Timeout v)) asks = inr (inl (v, asks, refl))
 kind_of line BadLine asks = inr (inr (refl, asks.0, asks.1))
 
-one_thing : (line : List ℕ) (r s : Request) → IsKind line r → IsKind line s → r ≡ s
-one_thing line r s (inl (bytes, spelled, what)) (inl (bytes', spelled', what')) =
+one_thing : (line : List ℕ) (r s : LineRequest) → IsKind line r → IsKind line s → r ≡ s
+one_thing line r s (inl (bytes, spelled, (q, is, what))) (inl (bytes', spelled', (q', is', what'))) =
     let same = same_block line bytes bytes' spelled spelled' in
-    same_of_block bytes r s what (subst (λ (b : List ℕ). IsOfBlock b s) (sym same) what')
+    let one = one_block bytes q q' what (subst (λ (b : List ℕ). IsOfBlock b q') (sym same) what') in
+    is ∙ ap (λ (request : Request). Asked request) one ∙ sym is'
 one_thing line r s (inl (bytes, spelled, what)) (inr (inl (view, timeout, is))) = absurd (not_both line bytes view spelled timeout)
 one_thing line r s (inl (bytes, spelled, what)) (inr (inr (is, no_block, no_view))) = absurd (no_block bytes spelled)
 one_thing line r s (inr (inl (view, timeout, is))) (inl (bytes, spelled, what)) = absurd (not_both line bytes view spelled timeout)
@@ -168,13 +154,13 @@ one_thing line r s (inr (inr (is, no_block, no_view))) (inl (bytes, spelled, wha
 one_thing line r s (inr (inr (is, no_block, no_view))) (inr (inl (view, timeout, is'))) = absurd (no_view view timeout)
 one_thing line r s (inr (inr (is, no_block, no_view))) (inr (inr (is', no_block', no_view'))) = is ∙ sym is'
 
-one_request : (line : List ℕ) (r s : Request) → IsRequestOf line r → IsRequestOf line s → r ≡ s
+one_request : (line : List ℕ) (r s : LineRequest) → IsRequestOf line r → IsRequestOf line s → r ≡ s
 one_request line r s (inl (short, asks)) (inl (short', asks')) = one_thing line r s (kind_of line r asks) (kind_of line s asks')
 one_request line r s (inl (short, asks)) (inr (long, is)) = absurd (omega (arith, short, long))
 one_request line r s (inr (long, is)) (inl (short, asks)) = absurd (omega (arith, short, long))
 one_request line r s (inr (long, is)) (inr (long', is')) = is ∙ sym is'
 
-one_list : (lines : List (List ℕ)) (a b : List Request) → AreRequestsOf lines a → AreRequestsOf lines b → a ≡ b
+one_list : (lines : List (List ℕ)) (a b : List LineRequest) → AreRequestsOf lines a → AreRequestsOf lines b → a ≡ b
 one_list [] [] [] of_a of_b = refl
 one_list [] [] (s ∷ ss) of_a of_b = absurd of_b
 one_list [] (r ∷ rs) b of_a of_b = absurd of_a

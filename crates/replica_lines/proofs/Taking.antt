@@ -10,7 +10,7 @@ use Rattle.replica_lines.specs.Intakes.{AddsRequestOf, HeldLine, IsTakenIn, held
 use Rattle.replica_lines.specs.LineReading.{AreLinesOf, AreOfEndedLines, AreOfText, AreRequestsOf, IsLine, LacksLastLineFeed, ended}
 use Rattle.replica_lines.specs.Requests.{IsRequestOf}
 use Rattle.replica_lines.specs.declared.reading.TheConstants.{MOST_LINES}
-use Rattle.replica_lines.specs.declared.request.Request.{Request}
+use Rattle.replica_lines.specs.declared.request.LineRequest.{LineRequest}
 
 -- ---- lines
 
@@ -103,16 +103,16 @@ lines_exist (b ∷ rest) =
 pub none_taken : IsTakenIn [] [] (held [])
 none_taken = record { lines = []; part = []; spelled = refl; each = All-nil IsLine; requests_are = tt; unended = inr (no_feed, refl) }
 
-many : (text : List ℕ) (requests : List Request) (line : HeldLine) (taken : IsTakenIn text requests line) → length taken.lines ≡ length requests
+many : (text : List ℕ) (requests : List LineRequest) (line : HeldLine) (taken : IsTakenIn text requests line) → length taken.lines ≡ length requests
 many text requests line taken = sym (AllZip-long IsRequestOf taken.lines requests taken.requests_are)
 
 -- the part that has not ended
-part_is : (text : List ℕ) (requests : List Request) (line : HeldLine) (taken : IsTakenIn text requests line) → length requests < MOST_LINES
+part_is : (text : List ℕ) (requests : List LineRequest) (line : HeldLine) (taken : IsTakenIn text requests line) → length requests < MOST_LINES
     → IsLine taken.part × (line ≡ held taken.part)
 part_is text requests line taken fewer = elim taken.unended [ inl full ↦ absurd (omega (arith, full, fewer)) | inr part ↦ part ]
 
 -- a line feed ends a line
-pub next_line : (text front : List ℕ) (requests requests' : List Request) (line line' last : HeldLine) → IsTakenIn text requests line → length requests < MOST_LINES
+pub next_line : (text front : List ℕ) (requests requests' : List LineRequest) (line line' last : HeldLine) → IsTakenIn text requests line → length requests < MOST_LINES
     → IsLine front → ((l : List ℕ) → line ≡ held l → line' ≡ held (l ++ front))
     → ((l : List ℕ) → line' ≡ held l → AddsRequestOf l requests requests') → last ≡ held []
     → IsTakenIn (text ++ (front ++ 10 ∷ [])) requests' last
@@ -126,13 +126,13 @@ next_line text front requests requests' line line' last taken fewer no_feeds lon
       part = [];
       spelled = ap (λ (t : List ℕ). t ++ (front ++ 10 ∷ [])) taken.spelled ∙ regroup ∙ sym (ended_more taken.lines whole) ∙ sym (append-nil (ended (taken.lines ++ whole ∷ [])));
       each = All-push IsLine taken.lines whole taken.each (line_append taken.part front part.0 no_feeds);
-      requests_are = subst (λ (rs : List Request). AreRequestsOf (taken.lines ++ whole ∷ []) rs) (sym added)
+      requests_are = subst (λ (rs : List LineRequest). AreRequestsOf (taken.lines ++ whole ∷ []) rs) (sym added)
           (all_zipped_more IsRequestOf taken.lines requests whole request taken.requests_are is);
       unended = inr (no_feed, next);
     }
 
 -- a part of a line
-pub next_part : (text rest : List ℕ) (requests : List Request) (line line' : HeldLine) → IsTakenIn text requests line → length requests < MOST_LINES
+pub next_part : (text rest : List ℕ) (requests : List LineRequest) (line line' : HeldLine) → IsTakenIn text requests line → length requests < MOST_LINES
     → IsLine rest → ((l : List ℕ) → line ≡ held l → line' ≡ held (l ++ rest)) → IsTakenIn (text ++ rest) requests line'
 next_part text rest requests line line' taken fewer no_feeds longer =
     let part = part_is text requests line taken fewer in
@@ -146,7 +146,7 @@ next_part text rest requests line line' taken fewer no_feeds longer =
     }
 
 -- behind the last line that is read nothing counts
-pub full_already : (text more : List ℕ) (requests : List Request) (line : HeldLine) → IsTakenIn text requests line → length requests ≡ MOST_LINES
+pub full_already : (text more : List ℕ) (requests : List LineRequest) (line : HeldLine) → IsTakenIn text requests line → length requests ≡ MOST_LINES
     → IsTakenIn (text ++ more) requests line
 full_already text more requests line taken full = record {
   lines = taken.lines;
@@ -160,7 +160,7 @@ full_already text more requests line taken full = record {
 -- ---- the end
 
 -- the text ends behind a line feed
-pub ends_there : (text : List ℕ) (requests : List Request) (line : HeldLine) → IsTakenIn text requests line → length requests < MOST_LINES
+pub ends_there : (text : List ℕ) (requests : List LineRequest) (line : HeldLine) → IsTakenIn text requests line → length requests < MOST_LINES
     → ((l : List ℕ) → line ≡ held l → l ≡ []) → AreOfText text requests
 ends_there text requests line taken fewer empty =
     let part = part_is text requests line taken fewer in
@@ -172,14 +172,14 @@ ends_there text requests line taken fewer empty =
     )
 
 -- the last line has no line feed
-pub ends_inside : (text : List ℕ) (requests requests' : List Request) (line : HeldLine) → IsTakenIn text requests line → length requests < MOST_LINES
+pub ends_inside : (text : List ℕ) (requests requests' : List LineRequest) (line : HeldLine) → IsTakenIn text requests line → length requests < MOST_LINES
     → ((l : List ℕ) → line ≡ held l → l ≢ []) → ((l : List ℕ) → line ≡ held l → AddsRequestOf l requests requests') → AreOfText text requests'
 ends_inside text requests requests' line taken fewer some asked =
     let part = part_is text requests line taken fewer in
     let (request, is, added) = asked taken.part part.1 in
     let lines = taken.lines ++ taken.part ∷ [] in
     let few : length lines ≤ MOST_LINES = omega (arith, many text requests line taken, fewer, length-append taken.lines (taken.part ∷ [])) in
-    let all : AreRequestsOf lines requests' = subst (λ (rs : List Request). AreRequestsOf lines rs) (sym added)
+    let all : AreRequestsOf lines requests' = subst (λ (rs : List LineRequest). AreRequestsOf lines rs) (sym added)
     (all_zipped_more IsRequestOf taken.lines requests taken.part request taken.requests_are is) in (
       lines,
       record { each = All-push IsLine taken.lines taken.part taken.each part.0; spelled = inr (taken.lines, taken.part, refl, some taken.part part.1, taken.spelled) },
@@ -187,7 +187,7 @@ ends_inside text requests requests' line taken fewer some asked =
     )
 
 -- there are as many lines as are read
-pub ends_full : (text given left : List ℕ) (requests : List Request) (line : HeldLine) → IsTakenIn given requests line → length requests ≡ MOST_LINES
+pub ends_full : (text given left : List ℕ) (requests : List LineRequest) (line : HeldLine) → IsTakenIn given requests line → length requests ≡ MOST_LINES
     → text ≡ given ++ left → AreOfText text requests
 ends_full text given left requests line taken full is =
     let (more, are) = lines_exist (taken.part ++ left) in
@@ -199,7 +199,7 @@ ends_full text given left requests line taken full is =
     )
 
 -- a read fails
-pub ends_early : (text given left : List ℕ) (requests : List Request) (line : HeldLine) → IsTakenIn given requests line → length requests < MOST_LINES
+pub ends_early : (text given left : List ℕ) (requests : List LineRequest) (line : HeldLine) → IsTakenIn given requests line → length requests < MOST_LINES
     → text ≡ given ++ left → AreOfEndedLines text left requests
 ends_early text given left requests line taken fewer is =
     let part = part_is given requests line taken fewer in

@@ -4,7 +4,7 @@ use Rattle.std.specs.List.{All, AllZip, Contains, flat_map}
 use Rattle.streams.specs.Counting.{one_more}
 use Rattle.replica_lines.specs.Requests.{IsRequestOf}
 use Rattle.replica_lines.specs.declared.reading.TheConstants.{MOST_LINES}
-use Rattle.replica_lines.specs.declared.request.Request.{Request}
+use Rattle.replica_lines.specs.declared.request.LineRequest.{LineRequest}
 
 -- ---- lines
 
@@ -29,16 +29,16 @@ pub record AreLinesOf (text : List ℕ) (lines : List (List ℕ)) : Type 0 where
 -- ---- requests
 
 -- one for each line, in order
-abbrev pub AreRequestsOf : List (List ℕ) → List Request → Type 0
+abbrev pub AreRequestsOf : List (List ℕ) → List LineRequest → Type 0
 AreRequestsOf lines requests = AllZip IsRequestOf lines requests
 
 -- those of the first 65,536 lines of the text
-abbrev pub AreOfText : List ℕ → List Request → Type 0
+abbrev pub AreOfText : List ℕ → List LineRequest → Type 0
 AreOfText text requests = (lines : List (List ℕ)) × AreLinesOf text lines × AreRequestsOf (take MOST_LINES lines) requests
 
 -- those of the lines that had ended where a read failed: behind them stand a first part of a line, which is dropped,
 -- and what the feed has left
-pub record AreOfEndedLines (text left : List ℕ) (requests : List Request) : Type 0 where
+pub record AreOfEndedLines (text left : List ℕ) (requests : List LineRequest) : Type 0 where
   pub lines : List (List ℕ)
   pub part : List ℕ
   pub spelled : text ≡ ended lines ++ (part ++ left)
@@ -48,7 +48,7 @@ pub record AreOfEndedLines (text left : List ℕ) (requests : List Request) : Ty
   pub requests_are : AreRequestsOf lines requests
 
 -- what is read of a text: all, or a read fails, and then the lines before it
-abbrev pub IsWhatWasRead : List ℕ → Option (List ℕ) → ℕ → ℕ → List Request → Type 0
+abbrev pub IsWhatWasRead : List ℕ → Option (List ℕ) → ℕ → ℕ → List LineRequest → Type 0
 IsWhatWasRead text left failures failures' requests =
     ((failures' ≡ failures) × AreOfText text requests)
     ⊎ ((failures' ≡ one_more failures) × ((rest : List ℕ) × (left ≡ Some rest) × AreOfEndedLines text rest requests))
@@ -57,4 +57,4 @@ IsWhatWasRead text left failures failures' requests =
 
 -- two lists of requests of one text are the same
 abbrev pub ATextHasOneReading : Type 0
-ATextHasOneReading = (text : List ℕ) (a b : List Request) → AreOfText text a → AreOfText text b → a ≡ b
+ATextHasOneReading = (text : List ℕ) (a b : List LineRequest) → AreOfText text a → AreOfText text b → a ≡ b

@@ -1,4 +1,4 @@
--- The line that answers an outcome, ended by a line feed.
+-- The line that tells an outcome, ended by a line feed.
 use Rattle.std.specs.Prelude.{ℕ, List, [], ◌++◌, Option, Some, None, codes, decimal}
 use Rattle.hex.specs.Hex.{encode_lower}
 use Rattle.blocks.specs.HeaderReading.{header_refusal_number}
@@ -11,8 +11,10 @@ use Rattle.vote_desk.specs.declared.desk_error.DeskError.{DeskError}
 use Rattle.vote_desk.specs.declared.desk_error.DeskError.TheVariants as desk
 use Rattle.vote_desk.specs.declared.reply.Answer.{Answer}
 use Rattle.vote_desk.specs.declared.reply.Answer.TheVariants.{Voted, Raised, Held}
-use Rattle.replica_lines.specs.declared.outcome.Outcome.{Outcome}
-use Rattle.replica_lines.specs.declared.outcome.Outcome.TheVariants.{Replied, TimedOut, RefusedHeader, RefusedCertificate, RefusedBlock, RefusedByDesk, BadLine}
+use Rattle.replica_answers.specs.declared.outcome.Outcome.{Outcome}
+use Rattle.replica_answers.specs.declared.outcome.Outcome.TheVariants.{Replied, TimedOut, RefusedHeader, RefusedCertificate, RefusedBlock, RefusedByDesk}
+use Rattle.replica_lines.specs.declared.outcome.LineOutcome.{LineOutcome}
+use Rattle.replica_lines.specs.declared.outcome.LineOutcome.TheVariants.{Came, BadLine}
 
 -- words and a number
 abbrev pub numbered_line : List ℕ → ℕ → List ℕ
@@ -34,6 +36,7 @@ abbrev pub desk_line : DeskError → List ℕ
 desk_line (desk.Core refusal) = numbered_line (codes "refused core ") (core_refusal_number refusal)
 desk_line refusal = numbered_line (codes "desk ") (desk_error_number refusal)
 
+-- of a request
 abbrev pub outcome_line : Outcome → List ℕ
 outcome_line (Replied reply) = answer_text reply.act ++ commit_text reply.committed ++ codes "\n"
 outcome_line (TimedOut view) = numbered_line (codes "timeout ") view
@@ -41,4 +44,8 @@ outcome_line (RefusedHeader refusal) = numbered_line (codes "refused header ") (
 outcome_line (RefusedCertificate refusal) = numbered_line (codes "refused certificate ") (certificate_refusal_number refusal)
 outcome_line (RefusedBlock refusal) = numbered_line (codes "refused block ") (block_refusal_number refusal)
 outcome_line (RefusedByDesk refusal) = desk_line refusal
-outcome_line BadLine = codes "bad line\n"
+
+-- of a line
+abbrev pub answer_line : LineOutcome → List ℕ
+answer_line (Came outcome) = outcome_line outcome
+answer_line BadLine = codes "bad line\n"

@@ -7,6 +7,6 @@ mod reading;
 mod request;
 
 pub use laws::a_text_has_one_reading;
-pub use outcome::{Outcome, write_outcome};
+pub use outcome::{LineOutcome, write_outcome};
 pub use reading::{LONGEST_LINE, MOST_LINES, read_requests};
-pub use request::{Request, block_in};
+pub use request::LineRequest;

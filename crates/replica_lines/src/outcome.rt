@@ -6,37 +6,40 @@ ghost use Rattle.streams.specs.Counting.{Counts};
 ghost use Rattle.streams.specs.Streams.{Wrote, WrotePart};
 ghost use Rattle.certificates.specs.Votes.{vote_text};
 ghost use Rattle.vote_desk.specs.declared.reply.Answer.TheVariants.{Voted};
-ghost use Rattle.replica_lines.specs.OutcomeLines.{answer_text, commit_text, desk_line, outcome_line};
+ghost use Rattle.replica_lines.specs.OutcomeLines.{answer_line, answer_text, commit_text, desk_line, outcome_line};
 
-use blocks::{HeaderRefusal, Id};
-use certificates::{BlockRefusal, CertificateRefusal, SignedVote, VOTE_LEN};
+use blocks::Id;
+use certificates::{SignedVote, VOTE_LEN};
 use itoa::{Buffer, Integer};
 use printed_lines::{Line, id_digits};
+use replica_answers::Outcome;
 use streams::{Fault, Sink, write_all};
 use vote_desk::{Answer, DeskError, Receipt, Reply};
 
 /// What came of a line.
 #[derive(Clone, Copy, Debug, PartialEq, Eq)]
-pub enum Outcome {
-    /// The desk took the block in.
-    Replied(Reply),
-    /// The desk gave up on all views up to this one.
-    TimedOut(u64),
-    /// The line's bytes do not begin with a header.
-    RefusedHeader(HeaderRefusal),
-    /// What stands behind the header is no certificate.
-    RefusedCertificate(CertificateRefusal),
-    /// The certificate is not a good one of the block's parent.
-    RefusedBlock(BlockRefusal),
-    /// The desk refused.
-    RefusedByDesk(DeskError),
-    /// The line asks for nothing.
+pub enum LineOutcome {
+    /// This of what it asks for.
+    Came(Outcome),
+    /// Nothing: it asks for nothing.
     BadLine,
 }
 
 /// Writes the line that says what came of a line of input. It takes no heap memory. After a fault a first part of the
 /// line was written.
-pub fn write_outcome<W: Sink>(out: &mut W, outcome: &Outcome) -> Result<(), Fault>
+pub fn write_outcome<W: Sink>(out: &mut W, outcome: &LineOutcome) -> Result<(), Fault>
+    ensures ok { OnOk result (Wrote (W.text out.old) (W.text out.new) (answer_line outcome.now)) }
+    ensures err { OnErr result (WrotePart (W.text out.old) (W.text out.new)
+        (answer_line outcome.now)) }
+    ensures counted { Counts (W.failed out.old) (W.failed out.new) result }
+{
+    match outcome {
+        LineOutcome::Came(outcome) => write_came(out, outcome),
+        LineOutcome::BadLine => write_all(out, b"bad line\n"),
+    }
+}
+
+fn write_came<W: Sink>(out: &mut W, outcome: &Outcome) -> Result<(), Fault>
     ensures ok { OnOk result (Wrote (W.text out.old) (W.text out.new) (outcome_line outcome.now)) }
     ensures err { OnErr result (WrotePart (W.text out.old) (W.text out.new)
         (outcome_line outcome.now)) }
@@ -55,7 +58,6 @@ pub fn write_outcome<W: Sink>(out: &mut W, outcome: &Outcome) -> Result<(), Faul
             write_numbered(out, b"refused block ", refusal.number())
         }
         Outcome::RefusedByDesk(error) => write_desk_error(out, *error),
-        Outcome::BadLine => write_all(out, b"bad line\n"),
     }
 }
 

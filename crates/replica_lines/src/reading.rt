@@ -7,7 +7,7 @@ ghost use Rattle.replica_lines.specs.Intakes.{AddsRequestOf, IsTakenIn, held};
 ghost use Rattle.replica_lines.specs.LineReading.{AreOfText, IsLine, IsWhatWasRead};
 ghost use Rattle.replica_lines.specs.Requests.{IsRequestOf};
 
-use crate::request::{Request, request_of};
+use crate::request::{LineRequest, request_of};
 use printed_lines::cut;
 use std::alloc::{AllocError, Global};
 use std::marker::Model;
@@ -26,7 +26,7 @@ const PIECE_LEN: usize = 4096;
 /// an empty rest behind the last line feed is no line. A line longer than 131,072 bytes is skipped, without being held
 /// whole, and is a bad line. A failed read ends the lines: those before it that have their line feed count, and a line
 /// that has none is dropped, since the failure may have cut it. An error is want of memory.
-pub fn read_requests<R: Feed>(alloc: Global, lines: &mut R) -> Result<Vec<Request>, AllocError>
+pub fn read_requests<R: Feed>(alloc: Global, lines: &mut R) -> Result<Vec<LineRequest>, AllocError>
     // Of a feed that tells what it has left, if that is not more than can be counted.
     ensures ok { IfOk result (λ requests.
         IfSome (R.rest lines.old) (λ text. length text < 2 ^ 64 - 1
@@ -59,7 +59,7 @@ pub fn read_requests<R: Feed>(alloc: Global, lines: &mut R) -> Result<Vec<Reques
 // The requests of the lines that have ended, and the line that has not.
 #[derive(Drop)]
 struct Intake {
-    requests: Vec<Request>,
+    requests: Vec<LineRequest>,
     line: OpenLine,
 }
 
@@ -101,7 +101,7 @@ impl Intake {
     }
 
     // The requests of the whole text, of which the last line may lack its line feed.
-    fn finish(self, alloc: Global) -> Result<Vec<Request>, AllocError>
+    fn finish(self, alloc: Global) -> Result<Vec<LineRequest>, AllocError>
         requires { length self.requests.items < MOST_LINES }
         ensures ok { IfOk result (λ requests. (text : List ℕ)
             → IsTakenIn text self.requests.items self.line → AreOfText text requests.items) }
@@ -179,12 +179,12 @@ impl OpenLine {
         Ok(())
     }
 
-    fn request(&self, alloc: Global) -> Result<Request, AllocError>
+    fn request(&self, alloc: Global) -> Result<LineRequest, AllocError>
         ensures { IfOk result (λ request. (line : List ℕ) → self.now ≡ held line
             → IsRequestOf line request) }
     {
         if self.is_too_long {
-            return Ok(Request::BadLine);
+            return Ok(LineRequest::BadLine);
         }
         request_of(alloc, &self.bytes)
     }

@@ -1,2 +1,3 @@
 pub mod Unvoted
 mod Looked
+mod BlockTold

@@ -1,23 +1,28 @@
 -- What may come of a request where some blocks are not voted for, and a log that was put back is found out.
-use Rattle.std.specs.Prelude.{◌≢◌, ◌⊎◌, ℕ, List}
+use Rattle.std.specs.Prelude.{◌≡◌, ◌≢◌, ◌⊎◌, ℕ, List}
 use Rattle.blocks.specs.Headers.{Header}
 use Rattle.blocks.specs.Replica.{Stored}
 use Rattle.certificates.specs.BlockChecks.{IsBlockRefusal, IsChecked}
 use Rattle.certificates.specs.Certificates.{Certificate}
 use Rattle.replica_core.specs.declared.plan.Act.TheVariants.{Vote}
 use Rattle.stable_log.specs.declared.disk.Disk.{Ghosts}
+use Rattle.vote_log.specs.declared.log_error.LogError.{LogError}
 use Rattle.vote_desk.specs.Deliveries.{IsGoodReply, act_of}
+use Rattle.vote_desk.specs.DeskRefusals.{from_log}
 use Rattle.vote_desk.specs.Desks.{DeskView}
 use Rattle.vote_desk.specs.SomeDesk.{IsDeskOf, Refuses, RefusesUnvoted, Replies, RepliesUnvoted, SomeDeskMoves}
 use Rattle.vote_desk.specs.declared.desk_error.DeskError.{DeskError}
+use Rattle.vote_desk.specs.declared.reply.Answer.{Answer}
+use Rattle.vote_desk.specs.declared.reply.Answer.TheVariants.{Held}
+use Rattle.vote_desk.specs.declared.reply.Receipt.{Receipt}
 use Rattle.vote_desk.specs.declared.reply.Reply.{Reply}
-use Rattle.replica_lines.specs.declared.outcome.Outcome.{Outcome}
-use Rattle.replica_lines.specs.declared.outcome.Outcome.TheVariants as came
-use Rattle.replica_lines.specs.declared.request.Request.{Request}
-use Rattle.replica_lines.specs.declared.request.Request.TheVariants as asks
+use Rattle.replica_answers.specs.declared.outcome.Outcome.{Outcome}
+use Rattle.replica_answers.specs.declared.outcome.Outcome.TheVariants as came
+use Rattle.replica_answers.specs.declared.request.Request.{Request}
+use Rattle.replica_answers.specs.declared.request.Request.TheVariants as asks
 use Rattle.replica_answers.specs.Answers.{IsAnswerTo, block_of}
 use Rattle.signer_answers.specs.Approvals.{IsApproved, IsWithheld, Telling}
-use Rattle.signer_answers.specs.Guards.{IsPutBack, IsRemembered, IsUnread}
+use Rattle.signer_answers.specs.Guards.{IsNotVotedBefore, IsPutBack, IsRemembered, IsUnread, IsUnreadable, IsVotedBefore}
 use Rattle.signer_answers.specs.declared.told.Told.{Told}
 use Rattle.signer_answers.specs.declared.told.Told.TheVariants as told
 
@@ -43,37 +48,57 @@ module _ {D : Type 0} (disk : Ghosts D) (committee : List ℕ) (replica : ℕ) (
       ⊎ (IsWithheld tells header × SomeMove (RefusesUnvoted disk header refusal))
 
   -- the certificate is good and remembered, and the desk replies so
-  pub record IsReplyWithin (tells : Telling) (header : Header) (certificate : Certificate) (reply : Reply) : Type 0 where
+  pub record IsReplyWithin (tells : Telling) (receipts : List Receipt) (header : Header) (certificate : Certificate) (reply : Reply) : Type 0 where
     pub checked : IsChecked committee header certificate
-    pub remembered : IsRemembered disk committee replica opening certificate
+    pub remembered : IsRemembered disk committee replica opening receipts certificate
     pub good : IsGoodReply committee replica header reply
     pub event : IsReplied tells header certificate reply
 
+  -- a block is told as held only where the log has no vote for it, as far as it can be read
+  abbrev pub IsToldPlainly : List Receipt → Header → Answer → Type 0
+  IsToldPlainly receipts header Held = IsNotVotedBefore disk committee replica opening receipts header
+  IsToldPlainly receipts header _ = Unit {0}
+
   -- the certificate is good and remembered, and the desk refuses the block so
-  pub record IsRefusalWithin (tells : Telling) (header : Header) (certificate : Certificate) (refusal : DeskError) : Type 0 where
+  pub record IsRefusalWithin (tells : Telling) (receipts : List Receipt) (header : Header) (certificate : Certificate) (refusal : DeskError) : Type 0 where
     pub checked : IsChecked committee header certificate
-    pub remembered : IsRemembered disk committee replica opening certificate
+    pub remembered : IsRemembered disk committee replica opening receipts certificate
     pub refused : IsRefused tells header refusal
 
   -- the certificate is good, and what the log has in its view can't be read: nothing is delivered
-  pub record IsUnreadWithin (header : Header) (certificate : Certificate) (refusal : DeskError) : Type 0 where
+  pub record IsUnreadWithin (receipts : List Receipt) (header : Header) (certificate : Certificate) (e : LogError) : Type 0 where
     pub checked : IsChecked committee header certificate
-    pub unread : IsUnread disk committee replica opening certificate refusal
+    pub unread : IsUnread disk committee replica opening receipts certificate.view e
+
+  -- .. for want of memory, or since the log is stopped
+  abbrev pub IsUnreadFor : List Receipt → Header → Certificate → DeskError → Type 0
+  IsUnreadFor receipts header certificate refusal =
+      (e : LogError) × IsUnreadWithin receipts header certificate e × (IsUnreadable e → ⊥) × (refusal ≡ from_log e)
 
   -- what may come of a block: its certificate is judged, and if it is good and remembered, the block goes to the desk
-  abbrev pub IsBlockAnswer : Telling → Header → Certificate → Outcome → Type 0
-  IsBlockAnswer tells header certificate (came.Replied reply) = IsReplyWithin tells header certificate reply
-  IsBlockAnswer tells header certificate (came.RefusedBlock refusal) = IsBlockRefusal refusal committee header certificate
-  IsBlockAnswer tells header certificate (came.RefusedByDesk refusal) =
-      IsRefusalWithin tells header certificate refusal ⊎ IsUnreadWithin header certificate refusal
-  IsBlockAnswer tells header certificate _ = ⊥
+  abbrev pub IsBlockAnswer : Telling → List Receipt → Header → Certificate → Outcome → Type 0
+  IsBlockAnswer tells receipts header certificate (came.Replied reply) =
+      IsReplyWithin tells receipts header certificate reply × IsToldPlainly receipts header reply.act
+  IsBlockAnswer tells receipts header certificate (came.RefusedBlock refusal) = IsBlockRefusal refusal committee header certificate
+  IsBlockAnswer tells receipts header certificate (came.RefusedByDesk refusal) =
+      IsRefusalWithin tells receipts header certificate refusal ⊎ IsUnreadFor receipts header certificate refusal
+  IsBlockAnswer tells receipts header certificate _ = ⊥
+
+  -- what may be told of a block beside: that the desk holds it, and the log's vote for it; or that the log can't be read
+  abbrev pub IsBlockTold : Telling → List Receipt → Header → Certificate → Told → Type 0
+  IsBlockTold tells receipts header certificate (told.Came outcome) = IsBlockAnswer tells receipts header certificate outcome
+  IsBlockTold tells receipts header certificate (told.Again receipt committed) =
+      IsReplyWithin tells receipts header certificate (record { act = Held; committed = committed })
+      × IsVotedBefore disk committee replica opening receipts header receipt
+  IsBlockTold tells receipts header certificate (told.Unread e) = IsUnreadWithin receipts header certificate e × IsUnreadable e
+  IsBlockTold tells receipts header certificate _ = ⊥
 
   -- ---- a request
 
-  -- what may come of a request: but for a block it is what comes of it at any replica; or the log was put back, and nothing is
-  -- delivered. Whether others are asked first is not looked at here
-  abbrev pub IsSignerAnswer : Telling → Request → Told → Type 0
-  IsSignerAnswer tells asked (told.PutBack ballot) = IsPutBack disk committee replica opening ballot
-  IsSignerAnswer tells asked told.Asking = ⊥
-  IsSignerAnswer tells (asks.Block header certificate) (told.Came outcome) = IsBlockAnswer tells header certificate outcome
-  IsSignerAnswer tells asked (told.Came outcome) = IsAnswerTo disk committee replica opening asked outcome
+  -- what may come of a request of a caller who has these receipts: but for a block it is what comes of it at any replica; of a
+  -- block also that the log was put back, and nothing is delivered. Whether others are asked first is not looked at here
+  abbrev pub IsSignerAnswer : Telling → List Receipt → Request → Told → Type 0
+  IsSignerAnswer tells receipts (asks.Block header certificate) (told.PutBack ballot) = IsPutBack disk committee replica opening receipts ballot
+  IsSignerAnswer tells receipts (asks.Block header certificate) it = IsBlockTold tells receipts header certificate it
+  IsSignerAnswer tells receipts asked (told.Came outcome) = IsAnswerTo disk committee replica opening asked outcome
+  IsSignerAnswer tells receipts asked _ = ⊥

@@ -1,4 +1,5 @@
 pub mod Approvals
+pub mod Showings
 pub mod Guards
 pub mod BlockAnswers
 pub mod Tellings

@@ -1,5 +1,5 @@
 -- What another log shows a replica of its own votes.
-use Rattle.std.specs.Prelude.{◌≡◌, ◌⊎◌, ◌<◌, ◌≤◌, ℕ, List, [], Option, Some, None, length, slice_index_or}
+use Rattle.std.specs.Prelude.{◌≡◌, ◌⊎◌, ◌<◌, ◌≤◌, ℕ, List, [], Option, length, slice_index_or}
 use Rattle.std.specs.List.{All}
 use Rattle.blocks.specs.Replica.{Stored}
 use Rattle.blocks.specs.declared.ballot.Ballot.{Ballot}
@@ -9,30 +9,26 @@ use Rattle.certificates.specs.declared.vote.SignedVote.{SignedVote}
 use Rattle.log_format.specs.EntryText.{Entry, IsEntryOf}
 use Rattle.stable_log.specs.declared.disk.Disk.{Ghosts}
 use Rattle.vote_log.specs.declared.log_error.LogError.{LogError}
-use Rattle.vote_desk.specs.DeskRefusals.{from_log}
-use Rattle.vote_desk.specs.SomeDesk.{IsDeskOf, SomeDeskMoves}
-use Rattle.vote_desk.specs.Votes.{RefusesVoteIn}
-use Rattle.vote_desk.specs.declared.desk_error.DeskError.{DeskError}
-use Rattle.vote_desk.specs.declared.desk_error.DeskError.TheVariants.{Memory}
+use Rattle.vote_log.specs.declared.log_error.LogError.TheVariants.{Memory}
 use Rattle.vote_desk.specs.declared.reply.Receipt.{Receipt}
 use Rattle.own_votes.specs.Forgotten.{IsFirstForgotten, IsForgottenVote}
 use Rattle.own_votes.specs.OwnVotes.{ShowsForeignVote}
-use Rattle.signer_answers.specs.Guards.{IsFound, votes_found}
+use Rattle.signer_answers.specs.Guards.{IsFoundIn, IsUnread, votes_found}
 
 module _ {D : Type 0} (disk : Ghosts D) (committee : List ℕ) (replica : ℕ) (opening : List Stored) where
   -- ---- a certificate, which need not be good
 
-  -- the first of its votes that is a good one of this replica and that some desk's log lacks
+  -- the first of its votes that is a good one of this replica and is not the one in the log
   pub record ShowsForgotten (c : Certificate) (v : SignedVote) : Type 0 where
     pub found : Option Receipt
-    pub read : IsFound disk committee replica opening c found
+    pub read : IsFoundIn disk committee replica opening [] c.view found
     pub first : IsFirstForgotten committee replica (votes_found found) c v
 
-  -- it has no vote of this replica, or none that is good and that some desk's log lacks
+  -- it has no vote of this replica, or none that is good and is not the one in the log
   abbrev pub ShowsNone : Certificate → Type 0
   ShowsNone c =
       (ShowsForeignVote replica [] c → ⊥)
-      ⊎ ((found : Option Receipt) × IsFound disk committee replica opening c found
+      ⊎ ((found : Option Receipt) × IsFoundIn disk committee replica opening [] c.view found
       × All (λ d. IsForgottenVote committee replica (votes_found found) (vote_of c d) → ⊥) c.entries)
 
   -- ---- a frame
@@ -62,13 +58,6 @@ module _ {D : Type 0} (disk : Ghosts D) (committee : List ℕ) (replica : ℕ) (
     pub on : ballot ≡ ballot_of vote
     pub before : ShowNone frames from place
 
-  -- what is found in them
-  abbrev pub IsLookedThrough : List (List ℕ) → ℕ → Option Ballot → Type 0
-  IsLookedThrough frames from (Some ballot) = IsFirstShown frames from ballot
-  IsLookedThrough frames from None = ShowNone frames from (length frames)
-
   -- memory was refused, or some desk's log can't be read in some view
-  abbrev pub IsLookingRefusal : DeskError → Type 0
-  IsLookingRefusal e =
-      (e ≡ Memory)
-      ⊎ ((view : ℕ) × (f : LogError) × SomeDeskMoves (IsDeskOf disk committee replica opening) (RefusesVoteIn disk view f) × (e ≡ from_log f))
+  abbrev pub IsLookingRefusal : LogError → Type 0
+  IsLookingRefusal e = (e ≡ Memory) ⊎ ((view : ℕ) × IsUnread disk committee replica opening [] view e)

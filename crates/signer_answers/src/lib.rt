@@ -6,17 +6,29 @@
 
 mod answering;
 mod approver;
+mod caller;
+mod found;
 mod gate;
+mod giving_up;
 mod guard;
 mod keeper;
+mod laws;
 mod looking;
+mod office;
+mod opened;
 mod put_back;
+mod shown;
 mod told;
 
 pub use answering::answer;
 pub use approver::{Approver, NoSuccessor};
+pub use caller::Caller;
 pub use gate::Gate;
 pub use keeper::Keeper;
+pub use laws::a_forgotten_vote_is_not_the_callers;
 pub use looking::look_through;
+pub use office::Office;
+pub use opened::Opened;
 pub use put_back::PutBack;
+pub use shown::Shown;
 pub use told::Told;

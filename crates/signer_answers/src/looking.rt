@@ -1,17 +1,19 @@
 //! What logs of others show a replica of its own votes.
 
-ghost use Rattle.std.specs.Prelude.{◌≡◌, IfErr, IfOk, MatchOption};
+ghost use Rattle.std.specs.Prelude.{◌≡◌, IfErr, IfOk, IfSome, MatchOption, [], length};
 ghost use Rattle.std.specs.List.{All};
 ghost use Rattle.certificates.specs.Certificates.{vote_of};
 ghost use Rattle.certificates.specs.Votes.{ballot_of};
-ghost use Rattle.vote_desk.specs.SomeDesk.{IsDeskOf, SomeDeskMoves};
-ghost use Rattle.vote_desk.specs.Votes.{RefusesVoteIn};
 ghost use Rattle.own_votes.specs.Forgotten.{IsFirstForgotten, IsForgottenVote};
-ghost use Rattle.signer_answers.specs.Guards.{IsForgottenOn, votes_found};
-ghost use Rattle.signer_answers.specs.Lookings.{FrameShows, FrameShowsNone, IsLookedThrough, IsLookingRefusal, ShowsForgotten, ShowsNone};
+ghost use Rattle.signer_answers.specs.Guards.{IsForgottenOn, IsUnread, votes_found};
+ghost use Rattle.signer_answers.specs.Lookings.{FrameShows, FrameShowsNone, IsFirstShown, IsLookingRefusal, ShowNone, ShowsForgotten, ShowsNone};
+ghost use Rattle.signer_answers.specs.Showings.{IsOfCertificate};
 
+use crate::approver::Approver;
+use crate::guard::read;
 use crate::keeper::Keeper;
-use crate::put_back::PutBack;
+use crate::office::Office;
+use crate::shown::Shown;
 use blocks::{Ballot, CommitteeView};
 use certificates::{Certificate, SignedVote};
 use log_format::{Entry, EntryRefusal, Frames};
@@ -19,12 +21,12 @@ use own_votes::{first_forgotten_vote, has_foreign_vote};
 use stable_log::Disk;
 use std::alloc::Global;
 use std::sync::Wait;
-use vote_desk::{Desk, DeskError, DeskNaming, Receipt};
+use vote_desk::{DeskNaming, Receipt};
 use vote_log::LogError;
 
 // An entry of another log, and the vote in its certificate that this log lacks.
 #[derive(Drop)]
-struct Shown {
+struct Found {
     entry: Entry,
     vote: SignedVote,
 }
@@ -49,107 +51,100 @@ fn first_other(
 
 // The first good vote of this replica in a certificate that the log lacks. The log is read only where the certificate has a
 // vote of this replica at all.
-fn forgotten_in<N: DeskNaming, T: Wait, D: Disk>(
+fn forgotten_in<N: DeskNaming, T: Wait, D: Disk, K: Approver + Keeper>(
     rt: &T,
-    desk: &Desk<N, D>,
-    committee: &CommitteeView,
-    replica: u16,
+    office: &Office<'_, N, D, K>,
     certificate: &Certificate,
 ) -> Result<Option<SignedVote>, LogError>
-    requires committee { committee.now ≡ N.committee }
-    requires replica { replica ≡ N.replica }
     ensures shown { IfOk result (λ vote. MatchOption vote
         (ShowsNone D.Disk N.committee N.replica N.opening certificate.now)
         (ShowsForgotten D.Disk N.committee N.replica N.opening certificate.now)) }
-    ensures refused { IfErr result (λ e.
-        SomeDeskMoves (IsDeskOf D.Disk N.committee N.replica N.opening)
-        (RefusesVoteIn D.Disk certificate.now.view e)) }
+    ensures refused { IfErr result (IsUnread D.Disk N.committee N.replica N.opening
+        [] certificate.now.view) }
 {
-    if !has_foreign_vote(replica, &[], certificate) {
+    if !has_foreign_vote(office.replica, &[], certificate) {
         return Ok(None);
     }
-    match desk.vote_in(rt, certificate.view()) {
-        Ok(found) => Ok(first_other(committee, replica, &found, certificate)),
+    match read(rt, office, &[], certificate.view()) {
+        Ok(found) => Ok(first_other(office.committee, office.replica, &found, certificate)),
         Err(error) => Err(error),
     }
 }
 
-// Whether a frame shows a vote that the log lacks.
-fn shown_by<N: DeskNaming, T: Wait, D: Disk>(
+// What a frame shows of a vote that the log lacks.
+fn found_in<N: DeskNaming, T: Wait, D: Disk, K: Approver + Keeper>(
     rt: &T,
     alloc: Global,
-    desk: &Desk<N, D>,
-    committee: &CommitteeView,
-    replica: u16,
+    office: &Office<'_, N, D, K>,
     frame: &[u8],
-) -> Result<Option<Shown>, DeskError>
-    requires committee { committee.now ≡ N.committee }
-    requires replica { replica ≡ N.replica }
+) -> Result<Option<Found>, LogError>
     ensures shown { IfOk result (λ shown. MatchOption shown
         (FrameShowsNone D.Disk N.committee N.replica N.opening frame.now)
         (λ s. FrameShows D.Disk N.committee N.replica N.opening frame.now s.vote)) }
+    ensures entry { IfOk result (λ shown. IfSome shown (λ s.
+        IsOfCertificate s.entry.certificate (ballot_of s.vote))) }
     ensures refused { IfErr result (IsLookingRefusal D.Disk N.committee N.replica N.opening) }
 {
     let entry = match Entry::read(alloc, frame) {
         Ok(entry) => entry,
-        Err(EntryRefusal::Memory) => return Err(DeskError::Memory),
+        Err(EntryRefusal::Memory) => return Err(LogError::Memory),
         Err(_) => return Ok(None),
     };
-    match forgotten_in(rt, desk, committee, replica, entry.certificate()) {
-        Ok(Some(vote)) => Ok(Some(Shown { entry, vote })),
+    match forgotten_in(rt, office, entry.certificate()) {
+        Ok(Some(vote)) => Ok(Some(Found { entry, vote })),
         Ok(None) => Ok(None),
-        Err(error) => Err(DeskError::from(error)),
+        Err(error) => Err(error),
     }
 }
 
-// The log was put back: has it put down where that is not done yet, and stops all callers. Answers what the vote is on.
-fn stop_for<N: DeskNaming, T: Wait, D: Disk, K: Keeper>(
+// The log was put back: has it put down where that is not done yet, and stops all callers. Answers what the vote is on, and what
+// shows it.
+fn stop_for<'a, N: DeskNaming, T: Wait, D: Disk, K: Approver + Keeper>(
     rt: &T,
-    desk: &Desk<N, D>,
-    put_back: &PutBack<N, D>,
-    keeper: &K,
-    shown: &Shown,
-) -> Ballot
-    requires { IsForgottenOn D.Disk N.committee N.replica N.opening (ballot_of shown.now.vote) }
-    ensures { result ≡ ballot_of shown.now.vote }
+    office: &Office<'a, N, D, K>,
+    found: &Found,
+) -> (Ballot, Shown<'a, N, D, K>)
+    requires forgotten { IsForgottenOn D.Disk N.committee N.replica N.opening
+        (ballot_of found.now.vote) }
+    requires entry { IsOfCertificate found.now.entry.certificate (ballot_of found.now.vote) }
+    ensures ballot { result.0 ≡ ballot_of found.now.vote }
+    ensures shown { result.1.of ≡ office.now.put_back.now.cell.id }
 {
-    let ballot = shown.vote.ballot();
-    let entries = desk.status(rt).entries;
-    put_back.find(
+    let ballot = found.vote.ballot();
+    let entries = office.desk.status(rt).entries;
+    let shown = office.put_back.find(
         rt,
-        keeper,
+        office.keeper,
         ballot,
-        shown.entry.block(),
-        shown.entry.certificate(),
+        found.entry.block(),
+        found.entry.certificate(),
         entries,
     );
-    ballot
+    (ballot, shown)
 }
 
 /// Looks through frames of another log, from `from` on, counted from 0, for the first entry whose certificate has a good vote of
 /// this replica that its own log lacks, compared whole. The certificate need not be good, and only such a vote is checked. Where
-/// there is one, the callers of the desk are stopped, as by `answer`: what the vote is on is answered, behind what the keeper
-/// does where it is the first that shows it. `Memory` where an entry could not be read; else the log could not be read.
-pub fn look_through<N: DeskNaming, T: Wait, D: Disk, K: Keeper>(
+/// there is one, the callers of the desk are stopped, as by `answer`: what the vote is on is answered, and what shows it, behind
+/// what the keeper does where it is the first that shows it. `Memory` where an entry could not be read; else the log could not be
+/// read.
+pub fn look_through<'a, N: DeskNaming, T: Wait, D: Disk, K: Approver + Keeper>(
     rt: &T,
     alloc: Global,
-    desk: &Desk<N, D>,
-    committee: &CommitteeView,
-    put_back: &PutBack<N, D>,
-    keeper: &K,
-    replica: u16,
+    office: &Office<'a, N, D, K>,
     frames: &Frames,
     from: usize,
-) -> Result<Option<Ballot>, DeskError>
-    requires committee { committee.now ≡ N.committee }
-    requires replica { replica ≡ N.replica }
-    ensures found { IfOk result
-        (IsLookedThrough D.Disk N.committee N.replica N.opening frames.now.frames from) }
+) -> Result<Option<(Ballot, Shown<'a, N, D, K>)>, LogError>
+    ensures found { IfOk result (λ found. MatchOption found
+        (ShowNone D.Disk N.committee N.replica N.opening frames.now.frames from (length frames.now.frames))
+        (λ it. IsFirstShown D.Disk N.committee N.replica N.opening frames.now.frames from it.0)) }
+    ensures shown { IfOk result (λ found. IfSome found (λ it.
+        it.1.of ≡ office.now.put_back.now.cell.id)) }
     ensures refused { IfErr result (IsLookingRefusal D.Disk N.committee N.replica N.opening) }
 {
     for k in from..frames.len() {
-        match shown_by(rt, alloc, desk, committee, replica, frames.payload(k)) {
-            Ok(Some(shown)) => return Ok(Some(stop_for(rt, desk, put_back, keeper, &shown))),
+        match found_in(rt, alloc, office, frames.payload(k)) {
+            Ok(Some(found)) => return Ok(Some(stop_for(rt, office, &found))),
             Ok(None) => {}
             Err(error) => return Err(error),
         }

@@ -1,43 +1,51 @@
 //! Whether a log was found to be put back.
 
-ghost use Rattle.std.specs.Prelude.{◌≡◌, IfSome, None, Some};
+ghost use Rattle.std.specs.Prelude.{◌≡◌, IfSome, IsSome};
 ghost use Rattle.signer_answers.specs.Guards.{WasPutBack};
+ghost use Rattle.signer_answers.specs.Showings.{IsOfCertificate};
 
+use crate::found::Found;
 use crate::keeper::Keeper;
+use crate::shown::Shown;
 use blocks::{Ballot, Header};
 use certificates::Certificate;
 use stable_log::Disk;
-use std::marker::{Model, PhantomData};
-use std::sync::{Mutex, Wait};
+use std::sync::{Mutex, OnceLock, Wait};
 use vote_desk::DeskNaming;
 
 /// Whether the log of a desk was found to be put back, since the start: one value for all its callers.
 #[derive(Drop)]
-pub struct PutBack<N: DeskNaming, D: Disk> {
-    stop: Mutex<Stop<N, D>>,
+pub struct PutBack<N: DeskNaming, D: Disk, K: Keeper> {
+    turn: Mutex<()>,
+    cell: OnceLock<Found<N, D, K>>,
 }
 
-impl<N: DeskNaming, D: Disk> PutBack<N, D> {
+impl<N: DeskNaming, D: Disk, K: Keeper> PutBack<N, D, K> {
     /// Not yet.
-    pub fn new() -> PutBack<N, D> {
+    pub fn new() -> PutBack<N, D, K> {
         PutBack {
-            stop: Mutex::new(Stop::new()),
+            turn: Mutex::new(()),
+            cell: OnceLock::new(),
         }
     }
 
-    /// What the certificate or the vote was on that showed it first, if one did.
-    pub fn found<R: Wait>(&self, rt: &R) -> Option<Ballot>
-        ensures { IfSome result (WasPutBack D.Disk N.committee N.replica N.opening) }
+    /// What the certificate or the vote was on that showed it first, if one did. Who hands in what shows it is always told.
+    pub fn found<R: Wait>(&self, rt: &R, shown: &Option<Shown<'_, N, D, K>>) -> Option<Ballot>
+        ensures found { IfSome result (WasPutBack D.Disk N.committee N.replica N.opening) }
+        ensures shown { IsSome shown.now → IsSome result }
     {
-        let stop = self.stop.lock(rt);
-        let stop = &*stop;
-        stop.ballot()
+        if let Some(shown) = shown {
+            return Some(shown.ballot());
+        }
+        let _turn = self.turn.lock(rt);
+        let found = self.cell.get()?;
+        Some(found.ballot())
     }
 
     // It was found, by this certificate, which came with the block of this header. Where it is for the first time the keeper
     // puts it down, and only then it is told: the lock is held meanwhile, so whoever asks waits for that, and no caller is let
-    // past.
-    pub(crate) fn find<R: Wait, K: Keeper>(
+    // past. Answers what shows it.
+    pub(crate) fn find<R: Wait>(
         &self,
         rt: &R,
         keeper: &K,
@@ -45,60 +53,19 @@ impl<N: DeskNaming, D: Disk> PutBack<N, D> {
         header: &Header,
         certificate: &Certificate,
         entries: usize,
-    )
-        requires { WasPutBack D.Disk N.committee N.replica N.opening ballot }
+    ) -> Shown<'_, N, D, K>
+        requires found { WasPutBack D.Disk N.committee N.replica N.opening ballot }
+        requires certificate { IsOfCertificate certificate.now ballot }
+        ensures { result.of ≡ self.now.cell.id }
     {
-        let mut stop = self.stop.lock(rt);
-        let stop = &mut *stop;
-        if stop.ballot().is_none() {
-            keeper.keep(header, certificate, entries);
-            stop.set(ballot);
+        let _turn = self.turn.lock(rt);
+        if let Some(token) = self.cell.witness() {
+            return Shown::new(&self.cell, token);
         }
-    }
-}
-
-// What the certificate or the vote was on that showed it first, if one did.
-#[derive(Drop)]
-struct Stop<N: DeskNaming, D: Disk> {
-    ballot: Option<Ballot>,
-    named: PhantomData<N>,
-    stored: PhantomData<D>,
-}
-
-impl<N: DeskNaming, D: Disk> Model for Stop<N, D> {
-    ghost use Rattle.std.specs.Prelude.{Option, IfSome};
-    ghost use Rattle.blocks.specs.declared.ballot.Ballot.{Ballot};
-    ghost use Rattle.signer_answers.specs.Guards.{WasPutBack};
-
-    ghost Value = { Option Ballot };
-
-    ghost view = { λ s. s.ballot };
-
-    ghost invariant = { λ s. IfSome s.ballot (WasPutBack D.Disk N.committee N.replica N.opening) };
-}
-
-impl<N: DeskNaming, D: Disk> Stop<N, D> {
-    fn new() -> Stop<N, D>
-        ensures { result ≡ None }
-    {
-        Stop {
-            ballot: None,
-            named: PhantomData,
-            stored: PhantomData,
+        let found = Found::new(keeper, ballot, header, certificate, entries);
+        match self.cell.try_insert(rt, found) {
+            Ok(token) => Shown::new(&self.cell, token),
+            Err((token, _)) => Shown::new(&self.cell, token),
         }
-    }
-
-    fn ballot(&self) -> Option<Ballot>
-        ensures value { result ≡ self.now }
-        ensures found { IfSome result (WasPutBack D.Disk N.committee N.replica N.opening) }
-    {
-        self.ballot
-    }
-
-    fn set(&mut self, ballot: Ballot)
-        requires { WasPutBack D.Disk N.committee N.replica N.opening ballot }
-        ensures { self.new ≡ Some ballot }
-    {
-        self.ballot = Some(ballot);
     }
 }

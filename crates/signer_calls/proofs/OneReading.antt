@@ -12,9 +12,9 @@ use Rattle.wire.proofs.Numbers.{behind, front, number_again}
 use Rattle.certificates.specs.Votes.{vote_text}
 use Rattle.certificates.specs.declared.vote.SignedVote.{SignedVote}
 use Rattle.certificates.specs.declared.vote.TheConstants.{VOTE_LEN}
-use Rattle.replica_lines.specs.Requests.{IsOfBlock}
-use Rattle.replica_lines.specs.declared.request.Request.{Request as Asked}
-use Rattle.replica_lines.specs.declared.request.Request.TheVariants as asks
+use Rattle.replica_answers.specs.Requests.{IsOfBlock}
+use Rattle.replica_answers.specs.declared.request.Request.{Request as Asked}
+use Rattle.replica_answers.specs.declared.request.Request.TheVariants as asks
 use Rattle.signer_calls.specs.Asking.{ARequestHasOneReading, HasContentType, HasGoodTarget, HasNoOrigin, HasRightMethod, IsAdmitted, IsAskedAt, IsRefusedAt, IsThere, LogAsked, NamesHost, PassesDoor, TimeoutAsked, VoteAsked, query_in}
 use Rattle.signer_calls.specs.LogParts.{IsOneParameter, IsPart, IsTwoParameters, part_of_one, part_of_two}
 use Rattle.signer_calls.specs.Places.{HasNoArgument, HasNoName, IsIdOf, IsNamedPlace, IsNumberOf, IsPlace, methods_of}
@@ -158,11 +158,7 @@ one_block bytes (asks.RefusedCertificate e) (asks.RefusedCertificate e') (h, a, 
 one_block bytes (asks.Block h c) (asks.Timeout w) a b = absurd b
 one_block bytes (asks.RefusedHeader e) (asks.Timeout w) a b = absurd b
 one_block bytes (asks.RefusedCertificate e) (asks.Timeout w) a b = absurd b
-one_block bytes (asks.Block h c) asks.BadLine a b = absurd b
-one_block bytes (asks.RefusedHeader e) asks.BadLine a b = absurd b
-one_block bytes (asks.RefusedCertificate e) asks.BadLine a b = absurd b
 one_block bytes (asks.Timeout v) s a b = absurd a
-one_block bytes asks.BadLine s a b = absurd a
 
 -- ---- a body spells one vote
 

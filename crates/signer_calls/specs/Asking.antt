@@ -5,9 +5,9 @@ use Rattle.http.specs.declared.request.Request.{Request}
 use Rattle.http.specs.Request.{body_of, head_of}
 use Rattle.http_header.specs.HeaderMap.{ContainsKey}
 use Rattle.http_uri.specs.Uri.{uri_authority, uri_path, uri_query, uri_scheme}
-use Rattle.replica_lines.specs.Requests.{IsOfBlock}
-use Rattle.replica_lines.specs.declared.request.Request.{Request as Asked}
-use Rattle.replica_lines.specs.declared.request.Request.TheVariants as asks
+use Rattle.replica_answers.specs.Requests.{IsOfBlock}
+use Rattle.replica_answers.specs.declared.request.Request.{Request as Asked}
+use Rattle.replica_answers.specs.declared.request.Request.TheVariants as asks
 use Rattle.host_rule.specs.HostRules.{HasGoodHost}
 use Rattle.signer_calls.specs.Doors.{HasBytesType}
 use Rattle.signer_calls.specs.LogParts.{IsPart}

@@ -13,7 +13,7 @@ use crate::vote_reading::vote_in;
 use bytes::Bytes;
 use host_rule::has_good_host;
 use http::Request;
-use replica_lines::{Request as Asked, block_in};
+use replica_answers::{Request as Asked, block_in};
 use std::alloc::{AllocError, Global};
 
 /// What a request asks for, or the first thing that is wrong with it: `AllocError` where memory was refused.

@@ -8,7 +8,7 @@ use crate::place::Methods;
 use blocks::Id;
 use certificates::SignedVote;
 use http::StatusCode;
-use replica_lines::Request;
+use replica_answers::Request;
 
 /// What a call asks for.
 #[derive(Drop)]

@@ -9,7 +9,7 @@ use Rattle.signer_command.specs.Ends.{Fault, IsGivenUp, IsPart}
 use Rattle.signer_command.specs.Lines.{IsAnnounced, Places, closed_line, listening_text}
 use Rattle.signer_command.specs.declared.announcing.Announced.{Announced}
 use Rattle.signer_command.specs.declared.announcing.Announced.TheVariants.{NotBegun, Unsaid, Over}
-use Rattle.signer_command.specs.declared.fault.SignerFault.TheVariants.{FileIn, Store, Receipts, Socket, Listen, Threads}
+use Rattle.signer_command.specs.declared.fault.SignerFault.TheVariants.{DiskFailed, FileIn, Store, Receipts, Socket, Listen, Threads}
 
 -- a part of where calls are taken
 pub part_printed : (before after : Option (List ℕ)) (places : Places) → WrotePart before after (listening_text places) → IsPart before after
@@ -48,6 +48,7 @@ nothing_given_up program.Output before = nothing_printed before
 nothing_given_up (program.Own (FileIn folder file)) before = refl
 nothing_given_up (program.Own (Store number)) before = refl
 nothing_given_up (program.Own Receipts) before = nothing_printed before
+nothing_given_up (program.Own (DiskFailed socket)) before = refl
 nothing_given_up (program.Own (Socket folder)) before = refl
 nothing_given_up (program.Own Listen) before = refl
 nothing_given_up (program.Own Threads) before = refl

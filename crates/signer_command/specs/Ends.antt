@@ -4,12 +4,12 @@ use Rattle.stable_log.specs.declared.disk.Disk.{Ghosts}
 use Rattle.streams.specs.Streams.{Wrote, WrotePart}
 use Rattle.program_parts.specs.declared.program_fault.ProgramFault.{ProgramFault}
 use Rattle.program_parts.specs.declared.program_fault.ProgramFault.TheVariants as program
-use Rattle.replica_command.specs.declared.fault.ReplicaFile.TheVariants.{PutBack}
+use Rattle.replica_command.specs.declared.fault.ReplicaFile.TheVariants.{DiskFailed as FailedInFolder, PutBack}
 use Rattle.vote_desk.specs.Receipts.{AreReceipts}
 use Rattle.vote_desk.specs.declared.parts.Closed.{Closed}
 use Rattle.signer_command.specs.Lines.{Places, closed_line, listening_text}
 use Rattle.signer_command.specs.declared.fault.SignerFault.{SignerFault}
-use Rattle.signer_command.specs.declared.fault.SignerFault.TheVariants.{FileIn, Receipts}
+use Rattle.signer_command.specs.declared.fault.SignerFault.TheVariants.{DiskFailed, FileIn, Receipts}
 use Rattle.signer_command.specs.declared.program.Ended.{Ended}
 use Rattle.signer_command.specs.declared.program.Ended.TheVariants.{Done, Stopped}
 
@@ -31,9 +31,11 @@ IsGivenUp program.Output before after = IsPart before after
 IsGivenUp (program.Own Receipts) before after = IsPart before after
 IsGivenUp fault before after = after ≡ before
 
--- the exit status: 4 where the log was put back, and that is written down in the folder
+-- the exit status: 4 where it is written down that the log was put back, or that a disk failed
 abbrev pub fault_status : Fault → ℕ
 fault_status (program.Own (FileIn folder PutBack)) = 4
+fault_status (program.Own (FileIn folder FailedInFolder)) = 4
+fault_status (program.Own (DiskFailed socket)) = 4
 fault_status fault = 2
 
 -- ---- ends in order

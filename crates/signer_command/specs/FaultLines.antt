@@ -1,19 +1,29 @@
 -- The line of each fault.
 use Rattle.std.specs.Prelude.{ℕ, List, ◌++◌, codes, decimal}
 use Rattle.std.specs.Borrow.{Bor}
-use Rattle.printed_lines.specs.Printed.{file_line}
+use Rattle.printed_lines.specs.Printed.{file_line, printed}
 use Rattle.program_parts.specs.declared.program_fault.ProgramFault.{ProgramFault}
 use Rattle.program_parts.specs.declared.program_fault.ProgramFault.TheVariants as program
 use Rattle.replica_command.specs.Folders.{name_in_folder}
 use Rattle.replica_command.specs.declared.fault.ReplicaFile.{ReplicaFile}
+use Rattle.replica_command.specs.declared.fault.ReplicaFile.TheVariants as file
 use Rattle.replica_command.specs.declared.fault.ReplicaFault.{ReplicaFault}
 use Rattle.replica_command.specs.declared.fault.ReplicaFault.TheVariants as replica
 use Rattle.signer_command.specs.declared.fault.SignerFault.{SignerFault}
-use Rattle.signer_command.specs.declared.fault.SignerFault.TheVariants.{FileIn, Store, Receipts, Socket, Listen, Threads}
+use Rattle.signer_command.specs.declared.fault.SignerFault.TheVariants.{FileIn, Store, Receipts, DiskFailed, Socket, Listen, Threads}
 
 -- a file behind its folder
 abbrev pub name_behind : ReplicaFile → List ℕ
 name_behind file = codes "/" ++ name_in_folder file
+
+-- "fault disk PATH", with what stands behind the path and the line feed
+abbrev pub disk_line : (path behind : List ℕ) → List ℕ
+disk_line path behind = codes "fault disk " ++ (printed path ++ behind)
+
+-- of the file that says that a disk failed its own line, of all others "fault file PATH"
+abbrev pub file_in_folder_line : List ℕ → ReplicaFile → List ℕ
+file_in_folder_line folder file.DiskFailed = disk_line folder (codes "/disk-failed\n")
+file_in_folder_line folder it = file_line folder (name_behind it)
 
 -- "fault store N"
 abbrev pub store_fault_line : ℕ → List ℕ
@@ -21,9 +31,10 @@ store_fault_line number = codes "fault store " ++ decimal number ++ codes "\n"
 
 -- of those that this program alone has
 abbrev pub own_line : SignerFault → List ℕ
-own_line (FileIn folder file) = file_line folder.now (name_behind file)
+own_line (FileIn folder it) = file_in_folder_line folder.now it
 own_line (Store number) = store_fault_line number
 own_line Receipts = codes "fault receipts\n"
+own_line (DiskFailed socket) = disk_line socket.now (codes ".disk-failed\n")
 own_line (Socket folder) = file_line folder.now (codes "/signer.sock")
 own_line Listen = codes "fault listen\n"
 own_line Threads = codes "fault threads\n"
@@ -31,7 +42,7 @@ own_line Threads = codes "fault threads\n"
 -- of a replica on the folder at this path
 abbrev pub fault_in_folder : Bor (List ℕ) → ReplicaFault → ProgramFault SignerFault
 fault_in_folder path replica.Memory = program.Memory
-fault_in_folder path (replica.File file) = program.Own (FileIn path file)
+fault_in_folder path (replica.File it) = program.Own (FileIn path it)
 fault_in_folder path (replica.Store number) = program.Own (Store number)
 fault_in_folder path replica.Receipts = program.Own Receipts
 fault_in_folder path replica.Output = program.Output

@@ -4,3 +4,4 @@ pub mod Notes
 pub mod Sockets
 pub mod Approved
 pub mod Ends
+pub mod Ruled

@@ -8,8 +8,9 @@ ghost use Rattle.signer_command.specs.Sockets.{places_of};
 
 use crate::listening::Place;
 use crate::pool::Start;
-use crate::stay::Sockets;
+use crate::stay::{Room, Sockets};
 use std::alloc::{AllocError, Global};
+use std::sync::Wait;
 use std::time::Clock;
 use streams::{Feed, Sink, write_all};
 
@@ -26,12 +27,11 @@ pub enum Announced {
 
 /// Says where calls are taken once all threads have begun, and ends them when the input has ended, or where nothing can be
 /// said.
-pub(crate) fn announce<T: Clock, R: Feed, W: Sink>(
+pub(crate) fn announce<T: Wait + Clock, S: Sink, R: Feed, W: Sink>(
     rt: &T,
+    room: &Room<'_, T, S>,
     start: &Start,
-    sockets: &Sockets,
     text: &[u8],
-    while_input: bool,
     input: &mut R,
     out: &mut W,
 ) -> Announced
@@ -43,13 +43,13 @@ pub(crate) fn announce<T: Clock, R: Feed, W: Sink>(
     }
     let said = write_all(out, text);
     if said.is_ok() {
-        if !while_input {
+        if !room.words.while_input {
             return Announced::Over;
         }
         read_to_its_end(input);
     }
     start.end();
-    close_all(sockets);
+    close_all(room.sockets);
     match said {
         Ok(()) => Announced::Over,
         Err(_) => Announced::Unsaid,

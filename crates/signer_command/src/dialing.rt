@@ -15,11 +15,38 @@ const MOST_TICKS: u32 = 40;
 /// How many of a host's addresses are tried.
 const MOST_ADDRESSES: usize = 4;
 
-/// Opens streams to the first address of a server's name that answers. The name is looked up each time.
+/// The first addresses of a server's name.
+#[derive(Clone, Copy, Debug)]
+pub(crate) struct Addresses {
+    found: [SocketAddr; MOST_ADDRESSES],
+    count: usize,
+}
+
+impl Addresses {
+    /// Those that the name has now. An error where it can't be looked up, or has none.
+    pub fn of<N: Net>(net: &N, name: &str) -> io::Result<Addresses> {
+        let mut found = [SocketAddr::from(([0, 0, 0, 0], 0)); MOST_ADDRESSES];
+        let mut count: usize = 0;
+        for (at, address) in found.iter_mut().zip(name.to_socket_addrs(net)?) {
+            *at = address;
+            count = count.saturating_add(1);
+        }
+        if count == 0 {
+            return Err(io::Error::from(io::ErrorKind::NotFound));
+        }
+        Ok(Addresses { found, count })
+    }
+
+    fn as_slice(&self) -> &[SocketAddr] {
+        self.found.get(..self.count).unwrap_or(&[])
+    }
+}
+
+/// Opens streams to the first of these addresses that answers.
 #[derive(Drop)]
 pub(crate) struct Dialer<'a, N> {
     pub net: &'a N,
-    pub name: &'a str,
+    pub addresses: Addresses,
     pub ending: &'a AtomicBool,
 }
 
@@ -30,16 +57,7 @@ impl<'a, N: Net<Stream = TcpStream>> Dial for Dialer<'a, N> {
 
     fn dial(&self) -> io::Result<PatientStream<'a>> {
         let timeout = Duration::from_secs(CONNECT_SECONDS);
-        let mut addresses = [SocketAddr::from(([0, 0, 0, 0], 0)); MOST_ADDRESSES];
-        let mut count: usize = 0;
-        for (at, address) in addresses
-            .iter_mut()
-            .zip(self.name.to_socket_addrs(self.net)?)
-        {
-            *at = address;
-            count = count.saturating_add(1);
-        }
-        let found = addresses.get(..count).unwrap_or(&[]);
-        dial(self.net, found, timeout, MOST_TICKS, self.ending)
+        let addresses = self.addresses.as_slice();
+        dial(self.net, addresses, timeout, MOST_TICKS, self.ending)
     }
 }

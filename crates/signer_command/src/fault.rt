@@ -1,15 +1,18 @@
 //! Why a signer gives up, and the line that it prints then.
 
 ghost use Rattle.std.specs.Prelude.{◌≡◌, ◌↔◌};
-ghost use Rattle.signer_command.specs.FaultLines.{fault_in_folder, name_behind, own_line, store_fault_line};
+ghost use Rattle.std.specs.Prelude.{OnErr, OnOk};
+ghost use Rattle.streams.specs.Counting.{Counts};
+ghost use Rattle.streams.specs.Streams.{Wrote, WrotePart};
+ghost use Rattle.signer_command.specs.FaultLines.{disk_line, fault_in_folder, file_in_folder_line, name_behind, own_line, store_fault_line};
 
 use itoa::Buffer;
-use printed_lines::{Line, write_file_fault};
+use printed_lines::{Line, write_file_fault, write_printed};
 use program_parts::{FaultLine, ProgramFault};
 use replica_command::{ReplicaFault, ReplicaFile};
 use streams::{Sink, write_all};
 
-/// Why the signer gives up. Each has exit status 2.
+/// Why the signer gives up. Each has exit status 2, but for those files of a folder after which no start is of use: those have 4.
 pub type Fault<'a> = ProgramFault<'a, SignerFault<'a>>;
 
 /// What this program alone gives up for.
@@ -21,6 +24,8 @@ pub enum SignerFault<'a> {
     Store(u8),
     /// The receipts of the desk are not those of its log.
     Receipts,
+    /// Beside the socket of this path there is a file that says that a disk failed.
+    DiskFailed(&'a str),
     /// In the folder at this path there is something else under the socket's name, or somebody listens there.
     Socket(&'a str),
     /// A place can't be listened at.
@@ -34,16 +39,46 @@ impl FaultLine for SignerFault<'_> {
 
     fn write_line<W: Sink>(&self, out: &mut W) -> Result<(), streams::Fault> {
         match self {
-            SignerFault::FileIn(folder, file) => {
-                write_file_fault(out, folder, behind(*file).as_bytes())
-            }
+            SignerFault::FileIn(folder, file) => write_file_in_folder(out, folder, *file),
             SignerFault::Store(number) => write_all(out, store_fault(*number).as_bytes()),
             SignerFault::Receipts => write_all(out, b"fault receipts\n"),
+            SignerFault::DiskFailed(socket) => write_disk_fault(out, socket, b".disk-failed\n"),
             SignerFault::Socket(folder) => write_file_fault(out, folder, b"/signer.sock"),
             SignerFault::Listen => write_all(out, b"fault listen\n"),
             SignerFault::Threads => write_all(out, b"fault threads\n"),
         }
     }
+}
+
+// Of the file that says that a disk failed its own line, of all others that of a file.
+fn write_file_in_folder<W: Sink>(
+    out: &mut W,
+    folder: &str,
+    file: ReplicaFile,
+) -> Result<(), streams::Fault>
+    ensures ok { OnOk result (Wrote (W.text out.old) (W.text out.new)
+        (file_in_folder_line folder.now file)) }
+    ensures err { OnErr result (WrotePart (W.text out.old) (W.text out.new)
+        (file_in_folder_line folder.now file)) }
+    ensures counted { Counts (W.failed out.old) (W.failed out.new) result }
+{
+    match file {
+        ReplicaFile::DiskFailed => write_disk_fault(out, folder, b"/disk-failed\n"),
+        _ => write_file_fault(out, folder, behind(file).as_bytes()),
+    }
+}
+
+// "fault disk PATH", with what stands behind the path and the line feed.
+fn write_disk_fault<W: Sink>(out: &mut W, path: &str, behind: &[u8]) -> Result<(), streams::Fault>
+    ensures ok { OnOk result (Wrote (W.text out.old) (W.text out.new)
+        (disk_line path.now behind.now)) }
+    ensures err { OnErr result (WrotePart (W.text out.old) (W.text out.new)
+        (disk_line path.now behind.now)) }
+    ensures counted { Counts (W.failed out.old) (W.failed out.new) result }
+{
+    write_all(out, b"fault disk ")?;
+    write_printed(out, path.as_bytes())?;
+    write_all(out, behind)
 }
 
 // A file's name behind its folder's path.

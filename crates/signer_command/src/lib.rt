@@ -8,9 +8,11 @@ mod asking;
 mod dialing;
 mod fault;
 mod handing_out;
+mod heard;
 mod home;
 mod link;
 mod listening;
+mod marks;
 mod notes;
 mod pace;
 mod pool;
@@ -22,4 +24,4 @@ mod successor;
 mod words;
 
 pub use fault::{Fault, SignerFault};
-pub use program::{DONE, Host, PUT_BACK, run_signer};
+pub use program::{DONE, Host, REFUSED, run_signer};

@@ -28,13 +28,36 @@ pub(crate) struct Link<'a, C: Clock> {
     pub ending: &'a AtomicBool,
 }
 
-impl<C: Clock> Hold for Link<'_, C> {
-    // Fails where the caller has taken too long or the signer ends.
-    fn look(&self) -> io::Result<()> {
-        if self.ending.load(Ordering::SeqCst) || self.pace.get().is_over(self.clock)? {
+impl<C: Clock> Link<'_, C> {
+    // Fails where the caller has taken too long.
+    fn see_pace(&self) -> io::Result<()> {
+        if self.pace.get().is_over(self.clock)? {
             return Err(io::Error::from(ErrorKind::TimedOut));
         }
         Ok(())
+    }
+}
+
+// While a call is awaited: until the caller has taken too long, or the signer ends.
+#[derive(Drop)]
+struct UntilCalled<'a, 'b, C: Clock>(&'a Link<'b, C>);
+
+impl<C: Clock> Hold for UntilCalled<'_, '_, C> {
+    fn look(&self) -> io::Result<()> {
+        if self.0.ending.load(Ordering::SeqCst) {
+            return Err(io::Error::from(ErrorKind::TimedOut));
+        }
+        self.0.see_pace()
+    }
+}
+
+// While an answer is taken: a signer that ends still tells what it did.
+#[derive(Drop)]
+struct UntilTaken<'a, 'b, C: Clock>(&'a Link<'b, C>);
+
+impl<C: Clock> Hold for UntilTaken<'_, '_, C> {
+    fn look(&self) -> io::Result<()> {
+        self.0.see_pace()
     }
 }
 
@@ -64,7 +87,12 @@ impl<C: Clock> Read for Asking<'_, C> {
         let mut pace = self.link.pace.get();
         pace.begin_to_read(self.link.clock)?;
         self.link.pace.set(pace);
-        let count = read_held(self.link.stream, self.link, MOST_TICKS, buffer)?;
+        let count = read_held(
+            self.link.stream,
+            &UntilCalled(self.link),
+            MOST_TICKS,
+            buffer,
+        )?;
         self.follow(buffer.get(..count).unwrap_or(&[]))?;
         Ok(count)
     }
@@ -84,7 +112,7 @@ impl<C: Clock> Write for Answering<'_, C> {
         if bytes.starts_with(FORBIDDEN) {
             self.link.is_refused.set(true);
         }
-        write_held(self.link.stream, self.link, MOST_TICKS, bytes)
+        write_held(self.link.stream, &UntilTaken(self.link), MOST_TICKS, bytes)
     }
 
     fn flush(&mut self) -> io::Result<()> {

@@ -1,7 +1,11 @@
 //! Where callers connect.
 
+ghost use Rattle.std.specs.Prelude.{◌≡◌, IfOk, true};
+ghost use Rattle.signer_command.specs.Ruled.{is_heard_over_tcp};
+
 use patient_sockets::{bind, bind_at_home, set_ticks};
 use std::alloc::Global;
+use std::fs::File;
 use std::io;
 use std::net::{Net, Shutdown, TcpListener, TcpStream};
 use std::os::fd::OwnedFd;
@@ -11,7 +15,8 @@ use std::os::unix::net::UnixListener;
 #[derive(Drop)]
 pub(crate) enum Listener {
     Tcp(TcpListener),
-    Unix(UnixListener),
+    /// .. and the file whose lock is held for as long as it listens.
+    Unix(UnixListener, File),
 }
 
 impl Listener {
@@ -30,7 +35,7 @@ impl Listener {
                 stream.set_nodelay(true)?;
                 Ok(stream)
             }
-            Listener::Unix(listener) => {
+            Listener::Unix(listener, _) => {
                 let (stream, _) = listener.accept()?;
                 Ok(TcpStream::from(OwnedFd::from(stream)))
             }
@@ -41,13 +46,15 @@ impl Listener {
     pub fn close(&self) -> io::Result<()> {
         let socket = match self {
             Listener::Tcp(listener) => OwnedFd::from(listener.try_clone()?),
-            Listener::Unix(listener) => OwnedFd::from(listener.try_clone()?),
+            Listener::Unix(listener, _) => OwnedFd::from(listener.try_clone()?),
         };
         TcpStream::from(socket).shutdown(Shutdown::Both)
     }
 
     /// Whether any program of this machine, and so a page in a browser, may connect.
-    pub fn is_tcp(&self) -> bool {
+    pub fn is_tcp(&self) -> bool
+        ensures { result ≡ is_heard_over_tcp self.now }
+    {
         matches!(self, Listener::Tcp(_))
     }
 }
@@ -76,13 +83,17 @@ pub(crate) fn listen_at_home<R: Net<Listener = TcpListener, Stream = TcpStream>>
     alloc: Global,
     words: &str,
     address: &str,
-) -> io::Result<Place> {
+) -> io::Result<Place>
+    ensures { IfOk result (λ place. is_heard_over_tcp place.listener ≡ true) }
+{
     let listener = bind_at_home(rt, address)?;
     listener.set_nonblocking(false)?;
     place_of(alloc, words, listener)
 }
 
-fn place_of(alloc: Global, words: &str, listener: TcpListener) -> io::Result<Place> {
+fn place_of(alloc: Global, words: &str, listener: TcpListener) -> io::Result<Place>
+    ensures { IfOk result (λ place. is_heard_over_tcp place.listener ≡ true) }
+{
     let got = listener.local_addr()?;
     let name = format!(in alloc; "{words}{got}")?;
     Ok(Place {

@@ -1,22 +1,25 @@
 //! What is told on standard error while calls are answered.
 
-ghost use Rattle.std.specs.Prelude.{◌≡◌, ◌↔◌, IfOk, IsTrue};
-ghost use Rattle.signer_command.specs.Notes.{IsCallLine, IsShortLine, IsStop};
+ghost use Rattle.std.specs.Prelude.{◌≡◌, ◌↔◌, ◌++◌, IfOk, IsTrue, codes};
+ghost use Rattle.printed_lines.specs.Printed.{printed};
+ghost use Rattle.signer_command.specs.Notes.{IsCallLine, IsShortLine, asking_line, unwritten_line};
 
+use crate::heard::Word;
+use crate::marks::DiskFailedPlaces;
+use blocks::Ballot;
 use itoa::Buffer;
-use signing_service::{Seen, Witness};
+use printed_lines::write_printed;
+use signing_service::{Event, Seen, Witness, put_back_line};
 use std::alloc::{AllocError, Global};
+use std::fs::{File, Files};
 use std::sync::atomic::{AtomicBool, Ordering};
 use std::sync::{Mutex, Wait};
-use streams::{Sink, write_all};
+use streams::{MemorySink, Sink, write_all};
 
 /// How long a body may be that is told itself.
 const LONGEST_BODY: usize = 80;
 
-/// With what the answer begins that tells that the log was put back. No other answer to a call does.
-const PUT_BACK: &[u8] = b"stopped vote view ";
-
-/// Tells of calls, and once that a disk stopped the desk or the log was put back. What the sink does not take is lost.
+/// Tells of calls, of sources, and once that a disk stopped the desk or the log was put back. What the sink does not take is lost.
 #[derive(Drop)]
 pub(crate) struct Notes<'a, T: Wait, S: Sink> {
     rt: &'a T,
@@ -24,26 +27,27 @@ pub(crate) struct Notes<'a, T: Wait, S: Sink> {
     sink: Mutex<S>,
     /// Whether each call gets a line.
     verbose: bool,
+    places: DiskFailedPlaces<'a>,
     has_stopped: AtomicBool,
     was_put_back: AtomicBool,
 }
 
 impl<'a, T: Wait, S: Sink> Notes<'a, T, S> {
-    pub fn new(rt: &'a T, alloc: Global, sink: S, verbose: bool) -> Notes<'a, T, S> {
+    pub fn new(
+        rt: &'a T,
+        alloc: Global,
+        sink: S,
+        verbose: bool,
+        places: DiskFailedPlaces<'a>,
+    ) -> Notes<'a, T, S> {
         Notes {
             rt,
             alloc,
             sink: Mutex::new(sink),
             verbose,
+            places,
             has_stopped: AtomicBool::new(false),
             was_put_back: AtomicBool::new(false),
-        }
-    }
-
-    /// Tells once that the log was put back.
-    pub fn tell_put_back(&self, line: &[u8]) {
-        if !self.was_put_back.swap(true, Ordering::SeqCst) {
-            self.tell(line);
         }
     }
 
@@ -54,29 +58,61 @@ impl<'a, T: Wait, S: Sink> Notes<'a, T, S> {
             // Nothing is left to tell it by.
         }
     }
-}
 
-impl<T: Wait, S: Sink> Witness for Notes<'_, T, S> {
-    fn saw(&self, call: &Seen<'_>) {
-        if self.verbose
-            && let Ok(line) = line_of(self.alloc, call)
-        {
+    // Tells a line that was made, if memory was there.
+    fn tell_made(&self, line: Result<Vec<u8>, AllocError>) {
+        if let Ok(line) = line {
             self.tell(&line);
         }
-        if stops(call) && !self.has_stopped.swap(true, Ordering::SeqCst) {
-            self.tell(b"stopped desk 5\n");
+    }
+
+    /// Tells once that the log was put back.
+    pub fn tell_put_back(&self, ballot: &Ballot) {
+        if !self.was_put_back.swap(true, Ordering::SeqCst) {
+            self.tell(&put_back_line(ballot));
         }
-        if call.body.starts_with(PUT_BACK) {
-            self.tell_put_back(call.body);
+    }
+
+    /// Whether it was told that the log was put back.
+    pub fn has_told_put_back(&self) -> bool {
+        self.was_put_back.load(Ordering::SeqCst)
+    }
+
+    /// Tells that `put-back` could not be written in this folder.
+    pub fn tell_unwritten(&self, folder: &str) {
+        self.tell_made(unwritten_line(self.alloc, folder));
+    }
+
+    /// Tells what the source of this number gave, while others are asked before blocks are taken.
+    pub fn tell_asking(&self, number: usize, word: Word) {
+        self.tell_made(asking_line(self.alloc, number, word.name()));
+    }
+}
+
+impl<T: Wait + Files<File = File>, S: Sink> Notes<'_, T, S> {
+    // Tells once that a disk stopped the desk, and writes it down.
+    fn tell_stopped(&self) {
+        if self.has_stopped.swap(true, Ordering::SeqCst) {
+            return;
+        }
+        self.tell(b"stopped desk 5\n");
+        if !self.places.put_down(self.rt, self.alloc) {
+            self.tell(b"disk-failed not written\n");
         }
     }
 }
 
-// Whether a block was answered that a disk failed: no other call stops the desk.
-fn stops(call: &Seen<'_>) -> bool
-    ensures { IsTrue result ↔ IsStop call.now }
-{
-    call.method == b"POST".as_slice() && call.body == b"desk 5 Device\n".as_slice()
+impl<T: Wait + Files<File = File>, S: Sink> Witness for Notes<'_, T, S> {
+    fn saw(&self, call: &Seen<'_>) {
+        if self.verbose {
+            self.tell_made(line_of(self.alloc, call));
+        }
+        match &call.event {
+            Event::Nothing => {}
+            Event::DiskFailed => self.tell_stopped(),
+            Event::PutBack(ballot) => self.tell_put_back(ballot),
+        }
+    }
 }
 
 // "METHOD TARGET STATUS BODY", or behind the status how many bytes the body has, where it is no short line.
@@ -107,4 +143,32 @@ fn is_short(call: &Seen<'_>) -> bool
         return false;
     };
     call.length == call.body.len() && call.length <= LONGEST_BODY && *last == b'\n'
+}
+
+// "asking source I WORD"
+fn asking_line(alloc: Global, number: usize, word: &str) -> Result<Vec<u8>, AllocError>
+    ensures { IfOk result (λ line. line.items ≡ asking_line number word.now) }
+{
+    let mut line = Vec::new(alloc);
+    line.extend_from_slice(b"asking source ")?;
+    line.extend_from_slice(Buffer::new().format(number).as_bytes())?;
+    line.extend_from_slice(b" ")?;
+    line.extend_from_slice(word.as_bytes())?;
+    line.extend_from_slice(b"\n")?;
+    Ok(line)
+}
+
+// "put-back not written DIR/put-back", with DIR as the path of a fault is printed.
+fn unwritten_line(alloc: Global, folder: &str) -> Result<Vec<u8>, AllocError>
+    ensures { IfOk result (λ line. line.items ≡ unwritten_line folder.now) }
+{
+    let mut path = MemorySink::new(alloc);
+    if write_printed(&mut path, folder.as_bytes()).is_err() {
+        return Err(AllocError);
+    }
+    let mut line = Vec::new(alloc);
+    line.extend_from_slice(b"put-back not written ")?;
+    line.extend_from_slice(path.bytes())?;
+    line.extend_from_slice(b"/put-back\n")?;
+    Ok(line)
 }

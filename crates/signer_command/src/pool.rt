@@ -2,23 +2,22 @@
 
 ghost use Rattle.std.specs.Prelude.{◌≡◌};
 
-use crate::asking::{Hearing, ask_on};
+use crate::asking::ask_on;
 use crate::handing_out::LogTalk;
-use crate::home::Home;
+use crate::heard::Hearing;
 use crate::link::{Answering, Asking, Link};
 use crate::listening::{Listener, Place};
-use crate::notes::Notes;
 use crate::pace::{Pace, tick};
 use crate::reading::{MOST_OF_A_CALL, Reader, config};
-use crate::stay::{Sockets, THREADS_BESIDE};
+use crate::stay::{Room, THREADS_BESIDE};
 use crate::{handing_out, reading};
-use blocks::CommitteeView;
-use good_votes::{GoodVotes, SideBySide};
+use good_votes::SideBySide;
 use http_server::Connection;
 use patient_calls::{CallTalk, CallsRead};
 use patient_sockets::{Rules as CrowdRules, Talk, connections_at, most_open_files, talk_to_all};
-use program_parts::SourceWord;
-use signing_service::{Commits, Gate, PutBack, Rules, Signer, Tallies, serve_calls};
+use signing_service::{
+    Approver, Gate, Keeper, Office, Reception, Signer, Sources, Witness, serve_calls,
+};
 use stable_log::Disk;
 use std::alloc::{AllocError, Global};
 use std::cell::Cell;
@@ -30,7 +29,7 @@ use std::thread::Threads;
 use std::time::{Clock, Duration};
 use std::{io, thread};
 use streams::Sink;
-use vote_desk::{Desk, DeskNaming, Session};
+use vote_desk::{DeskNaming, Session};
 
 /// How long the threads of a pool are waited for to start, in looks a hundredth of a second apart.
 const MOST_LOOKS: u32 = 1_000;
@@ -52,25 +51,28 @@ pub(crate) enum Job<N: DeskNaming> {
 
 /// What the threads share.
 #[derive(Drop)]
-pub(crate) struct Shop<'a, N: DeskNaming, T: Wait, S: Sink, D: Disk> {
+pub(crate) struct Shop<
+    'a,
+    'h,
+    N: DeskNaming,
+    T: Threads + Wait,
+    S: Sink,
+    D: Disk,
+    K: Approver + Keeper,
+    W: Witness,
+> {
     pub rt: &'a T,
     pub alloc: Global,
-    pub desk: &'a Desk<N, D>,
-    pub committee: &'a CommitteeView<'a>,
-    pub replica: u16,
-    pub commits: &'a Commits<N>,
-    pub tallies: &'a Tallies,
-    pub good: &'a GoodVotes,
-    pub put_back: &'a PutBack<N, D>,
+    pub room: &'a Room<'h, T, S>,
+    pub office: Office<'a, N, D, K>,
+    pub checker: &'a SideBySide<'a, T>,
+    /// Where those who call are received, and those who only read.
+    pub calls: Reception<'a, N, D, W>,
+    pub reads: Reception<'a, N, D, W>,
     pub gate: &'a Gate<N, D>,
-    pub sources: &'a [SourceWord<'a>],
+    pub sources: &'a Sources,
     pub hearing: &'a Hearing,
-    pub home: &'a Home<'a, T, S>,
-    pub sockets: &'a Sockets,
-    pub notes: &'a Notes<'a, T, S>,
     pub start: &'a Start,
-    pub ghost committee_is: { committee.now ≡ N.committee },
-    pub ghost replica_is: { replica ≡ N.replica },
 }
 
 /// Whether all threads have begun, and whether they are to end.
@@ -126,9 +128,11 @@ pub(crate) fn work_all<
         + Net<Listener = TcpListener, Stream = TcpStream>
         + Sync,
     S: Sink + Send,
-    D: Disk + Send,
+    D: Disk + Send + Sync,
+    K: Approver + Keeper + Send + Sync,
+    W: Witness + Sync,
 >(
-    shop: &Shop<'_, N, T, S, D>,
+    shop: &Shop<'_, '_, N, T, S, D, K, W>,
     jobs: Option<Vec<Job<N>>>,
 ) -> Result<Vec<Option<Session<N>>>, AllocError>
 where
@@ -154,25 +158,20 @@ fn work<
         + Net<Listener = TcpListener, Stream = TcpStream>,
     S: Sink,
     D: Disk,
->(shop: &Shop<'_, N, T, S, D>, job: Job<N>) -> Option<Session<N>> {
+    K: Approver + Keeper,
+    W: Witness,
+>(shop: &Shop<'_, '_, N, T, S, D, K, W>, job: Job<N>) -> Option<Session<N>> {
     let _before = shop.start.begun.fetch_add(1, Ordering::SeqCst);
     let all_begun = shop.start.wait_for_all(shop.rt);
     match job {
-        Job::Calls(session) if all_begun => {
-            let place = &shop.sockets.calls;
-            let rules = &shop.sockets.call_rules;
-            Some(take_calls(shop, place, rules, Callers::All, session))
-        }
-        Job::Reads(session) if all_begun => match &shop.sockets.reads {
-            Some(place) => {
-                let rules = &shop.sockets.read_rules;
-                Some(take_calls(shop, place, rules, Callers::Readers, session))
-            }
+        Job::Calls(session) if all_begun => Some(take_calls(shop, session)),
+        Job::Reads(session) if all_begun => match &shop.room.sockets.reads {
+            Some(place) => Some(take_reads(shop, place, session)),
             None => Some(session),
         },
         Job::Calls(session) | Job::Reads(session) => Some(session),
         Job::HandsOut => {
-            if let Some(place) = &shop.sockets.log
+            if let Some(place) = &shop.room.sockets.log
                 && all_begun
             {
                 hand_out(shop, place);
@@ -188,89 +187,41 @@ fn work<
     }
 }
 
-// Which calls a thread takes.
-#[derive(Clone, Copy, Debug, PartialEq, Eq)]
-enum Callers {
-    /// All calls, of one caller at a time.
-    All,
-    /// Calls that only read, of many at once.
-    Readers,
-}
-
-// Takes calls until the signer ends.
+// Takes calls of one caller after the other, until the signer ends.
 fn take_calls<
-    'x,
-    N: DeskNaming,
-    T: Threads
-        + Wait
-        + Clock
-        + Files<File = File>
-        + Net<Listener = TcpListener, Stream = TcpStream>,
-    S: Sink,
-    D: Disk,
->(
-    shop: &'x Shop<'x, N, T, S, D>,
-    place: &Place,
-    rules: &'x Rules,
-    callers: Callers,
-    session: Session<N>,
-) -> Session<N> {
-    let checker = SideBySide::new(shop.rt, shop.good);
-    let mut signer = Signer::new(
-        shop.rt,
-        shop.alloc,
-        shop.desk,
-        shop.committee,
-        shop.replica,
-        &checker,
-        shop.home,
-        rules,
-        shop.commits,
-        shop.put_back,
-        shop.gate,
-        shop.tallies,
-        shop.notes,
-        session,
-    );
-    match callers {
-        Callers::All => {
-            answer_streams(shop, &mut signer, place);
-            signer.into_session()
-        }
-        Callers::Readers => answer_readers(shop, signer, place),
-    }
-}
-
-// Answers one stream after the other.
-fn answer_streams<
-    'a,
     'x,
     N: DeskNaming,
     T: Threads + Wait + Clock + Files<File = File>,
     S: Sink,
     D: Disk,
->(
-    shop: &Shop<'_, N, T, S, D>,
-    signer: &mut Signer<'a, N, T, D, SideBySide<'x, T>, Home<'x, T, S>, Notes<'x, T, S>>,
-    place: &Place,
-) {
+    K: Approver + Keeper,
+    W: Witness,
+>(shop: &'x Shop<'x, '_, N, T, S, D, K, W>, session: Session<N>) -> Session<N> {
+    let mut signer = Signer::new(
+        shop.rt,
+        shop.alloc,
+        &shop.office,
+        shop.checker,
+        &shop.calls,
+        session,
+    );
     for _ in shop.rt.forever() {
         if shop.start.is_ending() {
             break;
         }
-        match place.listener.accept() {
+        match shop.room.sockets.calls.listener.accept() {
             Ok(stream) => {
                 // Where it breaks off, the caller knows.
-                let _ = answer_stream(shop, signer, &stream);
+                let _ = answer_stream(shop, &mut signer, &stream);
             }
             Err(_) => thread::sleep(shop.rt, tick()),
         }
     }
+    signer.into_session()
 }
 
-// Answers many streams at once.
-fn answer_readers<
-    'a,
+// Takes calls that only read, of many at once, until the signer ends.
+fn take_reads<
     'x,
     N: DeskNaming,
     T: Threads
@@ -280,18 +231,23 @@ fn answer_readers<
         + Net<Listener = TcpListener, Stream = TcpStream>,
     S: Sink,
     D: Disk,
->(
-    shop: &Shop<'_, N, T, S, D>,
-    signer: Signer<'a, N, T, D, SideBySide<'x, T>, Home<'x, T, S>, Notes<'x, T, S>>,
-    place: &Place,
-) -> Session<N> {
+    K: Approver + Keeper,
+    W: Witness,
+>(shop: &'x Shop<'x, '_, N, T, S, D, K, W>, place: &Place, session: Session<N>) -> Session<N> {
     let rules = reading::rules(connections(shop));
     let mut talk = CallTalk {
         alloc: shop.alloc,
         answerer: Reader {
             alloc: shop.alloc,
-            keys: shop.sockets.keys,
-            signer,
+            keys: shop.room.sockets.keys,
+            signer: Signer::new(
+                shop.rt,
+                shop.alloc,
+                &shop.office,
+                shop.checker,
+                &shop.reads,
+                session,
+            ),
         },
         most: MOST_OF_A_CALL,
     };
@@ -304,15 +260,21 @@ fn answer_readers<
 // Hands out the log to many at once.
 fn hand_out<
     N: DeskNaming,
-    T: Wait + Clock + Files<File = File> + Net<Listener = TcpListener, Stream = TcpStream>,
+    T: Threads
+        + Wait
+        + Clock
+        + Files<File = File>
+        + Net<Listener = TcpListener, Stream = TcpStream>,
     S: Sink,
     D: Disk,
->(shop: &Shop<'_, N, T, S, D>, place: &Place) {
+    K: Approver + Keeper,
+    W: Witness,
+>(shop: &Shop<'_, '_, N, T, S, D, K, W>, place: &Place) {
     let rules = handing_out::rules(connections(shop));
     let mut talk = LogTalk {
         rt: shop.rt,
         alloc: shop.alloc,
-        desk: shop.desk,
+        desk: shop.office.desk,
     };
     talk_at(shop, place, &rules, &mut talk);
 }
@@ -320,11 +282,13 @@ fn hand_out<
 // Talks over the connections of a place until the signer ends.
 fn talk_at<
     N: DeskNaming,
-    T: Wait + Clock + Net<Listener = TcpListener, Stream = TcpStream>,
+    T: Threads + Wait + Clock + Net<Listener = TcpListener, Stream = TcpStream>,
     S: Sink,
     D: Disk,
-    K: Talk,
->(shop: &Shop<'_, N, T, S, D>, place: &Place, rules: &CrowdRules, talk: &mut K) {
+    K: Approver + Keeper,
+    W: Witness,
+    L: Talk,
+>(shop: &Shop<'_, '_, N, T, S, D, K, W>, place: &Place, rules: &CrowdRules, talk: &mut L) {
     if let Listener::Tcp(listener) = &place.listener {
         talk_to_all(
             shop.rt,
@@ -338,11 +302,17 @@ fn talk_at<
 }
 
 // How many connections one thread of a socket beside that for calls keeps. Each other thread may have a stream of its own.
-fn connections<N: DeskNaming, T: Wait + Files<File = File>, S: Sink, D: Disk>(
-    shop: &Shop<'_, N, T, S, D>,
-) -> usize {
+fn connections<
+    N: DeskNaming,
+    T: Threads + Wait + Files<File = File>,
+    S: Sink,
+    D: Disk,
+    K: Approver + Keeper,
+    W: Witness,
+>(shop: &Shop<'_, '_, N, T, S, D, K, W>) -> usize {
     let files = most_open_files(shop.rt, shop.alloc);
-    let sockets = u64::from(shop.sockets.reads.is_some()) + u64::from(shop.sockets.log.is_some());
+    let beside = &shop.room.sockets;
+    let sockets = u64::from(beside.reads.is_some()) + u64::from(beside.log.is_some());
     let all = connections_at(files, u64::from(shop.start.wanted), sockets);
     usize::try_from(all / u64::from(THREADS_BESIDE))
         .unwrap_or(0)
@@ -352,14 +322,15 @@ fn connections<N: DeskNaming, T: Wait + Files<File = File>, S: Sink, D: Disk>(
 // Answers the calls of one stream.
 fn answer_stream<
     'a,
-    'x,
     N: DeskNaming,
     T: Threads + Wait + Clock + Files<File = File>,
     S: Sink,
     D: Disk,
+    K: Approver + Keeper,
+    W: Witness,
 >(
-    shop: &Shop<'_, N, T, S, D>,
-    signer: &mut Signer<'a, N, T, D, SideBySide<'x, T>, Home<'x, T, S>, Notes<'x, T, S>>,
+    shop: &Shop<'_, '_, N, T, S, D, K, W>,
+    signer: &mut Signer<'a, N, T, D, SideBySide<'a, T>, K, W>,
     stream: &TcpStream,
 ) -> io::Result<()> {
     let link = Link {
@@ -374,6 +345,6 @@ fn answer_stream<
         calls: CallsRead::new(shop.alloc),
     };
     let mut answering = Answering { link: &link };
-    let mut connection = Connection::new(shop.alloc, shop.sockets.keys, config());
+    let mut connection = Connection::new(shop.alloc, shop.room.sockets.keys, config());
     serve_calls(signer, &mut connection, &mut asking, &mut answering)
 }

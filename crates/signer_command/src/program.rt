@@ -1,6 +1,6 @@
 //! A signer from its words to its end.
 
-ghost use Rattle.std.specs.Prelude.{◌≡◌, ◌≢◌, ◌≤◌, ◌⊎◌, ◌++◌, IfErr, IfOk, OnErr, OnOk, codes, length, string_bytes};
+ghost use Rattle.std.specs.Prelude.{◌≡◌, ◌≢◌, ◌≤◌, ◌⊎◌, ◌++◌, ◌∷◌, [], IfErr, IfOk, OnErr, OnOk, codes, false, length, string_bytes, true};
 ghost use Rattle.streams.specs.Streams.{Wrote, WrotePart};
 ghost use Rattle.printed_lines.specs.Printed.{Told};
 ghost use Rattle.program_parts.specs.FaultLines.{fault_line};
@@ -8,10 +8,12 @@ ghost use Rattle.program_parts.specs.Writes.{CountsOutput, CountsWrites};
 ghost use Rattle.signer_command.specs.Ends.{Fault as FaultValue, IsGivenUp, IsRun, IsStay, ended_of, fault_status, status_of};
 ghost use Rattle.signer_command.specs.FaultLines.{own_line};
 ghost use Rattle.signer_command.specs.Lines.{closed_line};
+ghost use Rattle.signer_command.specs.Ruled.{AreRuled, AreRulesOf, is_asked_over_tcp, is_heard_over_tcp, names_of};
 ghost use Rattle.signer_command.specs.declared.program.Ended.TheVariants.{Done, Stopped};
 
 use crate::fault::{Fault, SignerFault, in_folder};
 use crate::listening::{Place, listen, listen_at_home};
+use crate::marks::DiskFailedPlaces;
 use crate::notes::Notes;
 use crate::socket_file::{Callers, SocketFault, listen_at};
 use crate::stay::{Room, Sockets, THREADS_BESIDE, stay_once};
@@ -40,8 +42,9 @@ use vote_desk::{Closed, Parts};
 /// The input ended, and no disk had failed.
 pub const DONE: u8 = 0;
 
-/// The replica's log was put back to a backup, which an earlier run wrote down in its folder: no start is of use any more.
-pub const PUT_BACK: u8 = 4;
+/// An earlier run wrote down that the replica's log was put back to a backup, after which no start is of use, or that a disk failed,
+/// after which none is before an operator saw to it.
+pub const REFUSED: u8 = 4;
 
 /// The bits of a folder's mode by which others than its owner write in it.
 const OTHERS_WRITE: u32 = 0o022;
@@ -86,7 +89,7 @@ impl Ended {
 
 /// Runs a signer as the words say, until its input ends where they say so, and else until it is killed. Answers the exit
 /// status: 0 where the input ended, 2 where a disk had stopped the desk by then, or at a fault, whose line then goes to `faults`,
-/// 4 where that fault is that the log was put back.
+/// 4 where that fault is that the log was put back, or that a disk failed in an earlier run.
 /// What is told of calls, and of a disk that stops the desk, goes to `notes`.
 pub fn run_signer<
     T: Files<File = File>
@@ -130,7 +133,10 @@ fn fault_status(fault: &Fault<'_>) -> u8
     ensures known { (result ≡ 2) ⊎ (result ≡ 4) }
 {
     match fault {
-        ProgramFault::Own(SignerFault::FileIn(_, ReplicaFile::PutBack)) => PUT_BACK,
+        ProgramFault::Own(
+            SignerFault::FileIn(_, ReplicaFile::PutBack | ReplicaFile::DiskFailed)
+            | SignerFault::DiskFailed(_),
+        ) => REFUSED,
         _ => FAULT,
     }
 }
@@ -168,7 +174,8 @@ where
         Ok(committee) => committee,
         Err(fault) => return Err(fault),
     };
-    let notes = Notes::new(host.rt, host.alloc, notes, words.verbose);
+    let places = places_of_failure(&words);
+    let notes = Notes::new(host.rt, host.alloc, notes, words.verbose, places);
     match stand_by(host, &words, &committee, &notes, input, out) {
         Ok(closed) => end_of(&closed, out),
         Err(fault) => Err(fault),
@@ -291,15 +298,13 @@ where
     let room = Room {
         rt: host.rt,
         alloc: host.alloc,
+        words,
+        committee,
         sessions: sessions_of(words),
-        while_input: words.while_input,
-        successor: words.successor,
-        sources: &words.sources,
-        folder: words.folder,
         sockets: &sockets,
         notes,
     };
-    let closed = stay_once(&room, committee, words.replica, parts, input, out);
+    let closed = stay_once(&room, parts, input, out);
     drop(lock);
     closed
 }
@@ -317,7 +322,8 @@ fn opened<
     words: &Words<'a>,
     committee: &CommitteeView<'_>,
 ) -> Result<(File, Parts<FileDisk>, Sockets), Fault<'a>>
-    ensures { IfErr result (λ fault. fault ≢ ProgramFault.Output) }
+    ensures ruled { IfOk result (λ opened. AreRuled words.now opened.2) }
+    ensures refused { IfErr result (λ fault. fault ≢ ProgramFault.Output) }
 {
     let path = words.folder;
     if is_open_to_others(host.rt, path) {
@@ -329,9 +335,41 @@ fn opened<
         path,
     };
     let lock = locked(&folder, path)?;
+    see_no_failure_beside(host, words)?;
     let parts = parts_of(host.rt, &folder, path, committee, words.replica)?;
     let sockets = sockets_of(host, words)?;
     Ok((lock, parts, sockets))
+}
+
+// Where it is written down that a disk failed: in the folder, and beside a socket that has a path of its own.
+fn places_of_failure<'a>(words: &Words<'a>) -> DiskFailedPlaces<'a> {
+    DiskFailedPlaces {
+        folder: words.folder,
+        socket: socket_named(words),
+    }
+}
+
+fn socket_named<'a>(words: &Words<'a>) -> Option<&'a str> {
+    match words.listen {
+        Where::Unix(path) => Some(path),
+        _ => None,
+    }
+}
+
+// Whether nothing beside the socket says that a disk failed. What stands in the folder is seen with its lock.
+fn see_no_failure_beside<'a, T: Files<File = File>>(
+    host: &Host<'_, T>,
+    words: &Words<'a>,
+) -> Result<(), Fault<'a>>
+    ensures { IfErr result (λ fault. fault ≢ ProgramFault.Output) }
+{
+    let Some(socket) = socket_named(words) else {
+        return Ok(());
+    };
+    match places_of_failure(words).is_nothing_beside(host.rt, host.alloc) {
+        Ok(true) => Ok(()),
+        _ => Err(Fault::Own(SignerFault::DiskFailed(socket))),
+    }
 }
 
 // The lock of the folder.
@@ -387,7 +425,8 @@ fn sockets_of<
     'a,
     T: Files<File = File> + Net<Listener = TcpListener, Stream = TcpStream> + RandomSource,
 >(host: &Host<'_, T>, words: &Words<'a>) -> Result<Sockets, Fault<'a>>
-    ensures { IfErr result (λ fault. fault ≢ ProgramFault.Output) }
+    ensures ruled { IfOk result (AreRuled words.now) }
+    ensures refused { IfErr result (λ fault. fault ≢ ProgramFault.Output) }
 {
     let calls = calls_at(host, words)?;
     let reads = place_if(host, words.read)?;
@@ -412,28 +451,47 @@ fn rules_of(
     words: &Words<'_>,
     over_tcp: bool,
     reads_only: bool,
-) -> Result<Rules, AllocError> {
-    let mut hosts = Vec::new(alloc);
-    for host in &words.hosts {
-        hosts.push(host.clone()?)?;
-    }
+) -> Result<Rules, AllocError>
+    ensures { IfOk result (AreRulesOf words.now over_tcp reads_only) }
+{
     Ok(Rules {
         over_tcp,
-        hosts,
+        hosts: copy_of(alloc, &words.hosts)?,
         reads_only,
         furthest: words.furthest,
     })
+}
+
+// The same names once more.
+fn copy_of(alloc: Global, names: &[String]) -> Result<Vec<String>, AllocError>
+    ensures { IfOk result (λ copy. names_of copy.items ≡ names_of names.now) }
+{
+    let mut copy = Vec::new(alloc);
+    for name in names {
+        add(&mut copy, name)?;
+    }
+    Ok(copy)
+}
+
+fn add(names: &mut Vec<String>, name: &String) -> Result<(), AllocError>
+    ensures { OnOk result (names_of names.new.items
+        ≡ names_of names.old.items ++ string_bytes name.now ∷ []) }
+{
+    names.push(name.clone()?)?;
+    Ok(())
 }
 
 fn calls_at<'a, T: Files<File = File> + Net<Listener = TcpListener, Stream = TcpStream>>(
     host: &Host<'_, T>,
     words: &Words<'a>,
 ) -> Result<Place, Fault<'a>>
-    ensures { IfErr result (λ fault. fault ≢ ProgramFault.Output) }
+    ensures kind { IfOk result (λ place.
+        is_heard_over_tcp place.listener ≡ is_asked_over_tcp words.now.listen) }
+    ensures refused { IfErr result (λ fault. fault ≢ ProgramFault.Output) }
 {
     let folder = words.folder;
     match words.listen {
-        Where::Tcp(address) => heard(listen_at_home(host.rt, host.alloc, "tcp:", address)),
+        Where::Tcp(address) => heard_at_home(host, address),
         Where::Unix(path) => {
             let path = path.to_string(host.alloc)?;
             socket_at(host, words, path)
@@ -453,6 +511,7 @@ fn socket_at<'a, T: Files<File = File> + Net<Listener = TcpListener, Stream = Tc
 ) -> Result<Place, Fault<'a>>
     ensures name { IfOk result (λ place. string_bytes place.name
         ≡ codes "unix:" ++ string_bytes path) }
+    ensures kind { IfOk result (λ place. is_heard_over_tcp place.listener ≡ false) }
     ensures refused { IfErr result (λ fault. fault ≢ ProgramFault.Output) }
 {
     let callers = if words.group {
@@ -488,6 +547,20 @@ fn place_if<'a, T: Net<Listener = TcpListener, Stream = TcpStream>>(
     match address {
         Some(address) => Ok(Some(heard(listen(host.rt, host.alloc, "", address))?)),
         None => Ok(None),
+    }
+}
+
+// Listens where only this machine reaches.
+fn heard_at_home<'a, T: Net<Listener = TcpListener, Stream = TcpStream>>(
+    host: &Host<'_, T>,
+    address: &'a str,
+) -> Result<Place, Fault<'a>>
+    ensures kind { IfOk result (λ place. is_heard_over_tcp place.listener ≡ true) }
+    ensures refused { IfErr result (λ fault. fault ≢ ProgramFault.Output) }
+{
+    match listen_at_home(host.rt, host.alloc, "tcp:", address) {
+        Ok(place) => Ok(place),
+        Err(error) => Err(Fault::unless_memory(&error, Fault::Own(SignerFault::Listen))),
     }
 }
 

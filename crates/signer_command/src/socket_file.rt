@@ -1,17 +1,23 @@
 //! A Unix socket at a path that callers know.
 
+ghost use Rattle.std.specs.Prelude.{◌≡◌, IfOk, false};
+ghost use Rattle.signer_command.specs.Ruled.{is_heard_over_tcp};
+
 use crate::listening::Listener;
 use mio::net::UnixStream;
 use std::alloc::{AllocError, Global};
-use std::fs::{DirBuilder, File, Files, Permissions};
+use std::fs::{DirBuilder, File, Files, OpenOptions, Permissions};
 use std::io::ErrorKind;
 use std::net::Net;
-use std::os::unix::fs::{DirBuilderExt, FileTypeExt, PermissionsExt};
+use std::os::unix::fs::{DirBuilderExt, FileTypeExt, OpenOptionsExt, PermissionsExt};
 use std::os::unix::net::UnixListener;
 use std::{fs, io};
 
 /// The longest path that a Unix socket can be bound or found at, in bytes.
 const LONGEST_PATH: usize = 107;
+
+/// The mode of a file that its owner alone may read and write.
+const OWNER_ALONE: u32 = 0o600;
 
 /// Who may connect: the signer's own user, or his group too.
 #[derive(Clone, Copy, Debug)]
@@ -48,11 +54,13 @@ impl From<AllocError> for SocketFault {
     }
 }
 
-// Where a socket is made, before it has its name and its mode: in a folder that nobody else enters.
+// Where a socket is made, before it has its name and its mode: in a folder that nobody else enters. And the file of which a signer
+// that listens at the path holds the lock.
 #[derive(Drop)]
 struct Workshop {
     folder: String,
     socket: String,
+    lock: String,
 }
 
 impl Workshop {
@@ -60,29 +68,47 @@ impl Workshop {
         Ok(Workshop {
             folder: format!(in alloc; "{path}.new")?,
             socket: format!(in alloc; "{path}.new/s")?,
+            lock: format!(in alloc; "{path}.lock")?,
         })
     }
 }
 
 /// Listens at a socket that has its mode before it has its name: what stands at the path is replaced only if it is a socket
-/// that nobody answers at. A folder that a kill left beside it is used again.
+/// that nobody answers at. A folder that a kill left beside it is used again. Of two signers that start at once on one path one
+/// gets the lock of `PATH.lock`, which it holds for as long as it listens.
 pub(crate) fn listen_at<F: Files<File = File> + Net>(
     files: &F,
     alloc: Global,
     path: &str,
     callers: Callers,
-) -> Result<Listener, SocketFault> {
+) -> Result<Listener, SocketFault>
+    ensures { IfOk result (λ listener. is_heard_over_tcp listener ≡ false) }
+{
     let shop = Workshop::beside(alloc, path)?;
     if shop.socket.len() > LONGEST_PATH {
         return Err(SocketFault::TooLong);
     }
+    let Ok(lock) = locked(files, &shop.lock) else {
+        return Err(SocketFault::Taken);
+    };
     if !is_free(files, path) {
         return Err(SocketFault::Taken);
     }
     match bind(files, &shop, path, callers) {
-        Ok(listener) => Ok(Listener::Unix(listener)),
+        Ok(listener) => Ok(Listener::Unix(listener, lock)),
         Err(error) if error.kind() == ErrorKind::OutOfMemory => Err(SocketFault::Memory),
         Err(_) => Err(SocketFault::Taken),
+    }
+}
+
+// The lock of a file, which is made where it is not there.
+fn locked<F: Files<File = File>>(files: &F, path: &str) -> io::Result<File> {
+    let mut how = OpenOptions::new();
+    how.read(true).write(true).create(true).mode(OWNER_ALONE);
+    let file = how.open(files, path)?;
+    match file.try_lock() {
+        Ok(()) => Ok(file),
+        Err(_) => Err(io::Error::from(ErrorKind::AddrInUse)),
     }
 }
 
@@ -121,14 +147,20 @@ fn make_folder<F: Files<File = File>>(files: &F, shop: &Workshop) -> io::Result<
     builder.mode(0o700);
     match builder.create(files, &shop.folder) {
         Err(error) if error.kind() == ErrorKind::AlreadyExists => {
-            if let Err(error) = fs::remove_file(files, &shop.socket)
-                && error.kind() != ErrorKind::NotFound
-            {
-                return Err(error);
-            }
-            fs::remove_dir(files, &shop.folder)?;
+            remove_folder(files, shop)?;
             builder.create(files, &shop.folder)
         }
         outcome => outcome,
+    }
+}
+
+// Removes the folder that a kill left, with its socket. A link is no such folder, and what it leads to stays as it is.
+fn remove_folder<F: Files<File = File>>(files: &F, shop: &Workshop) -> io::Result<()> {
+    if !fs::symlink_metadata(files, &shop.folder)?.is_dir() {
+        return Err(io::Error::from(ErrorKind::AlreadyExists));
+    }
+    match fs::remove_file(files, &shop.socket) {
+        Err(error) if error.kind() != ErrorKind::NotFound => Err(error),
+        _ => fs::remove_dir(files, &shop.folder),
     }
 }

@@ -6,20 +6,24 @@ ghost use Rattle.program_parts.specs.Writes.{CountsWrites};
 ghost use Rattle.vote_desk.specs.Receipts.{AreReceipts};
 ghost use Rattle.signer_command.specs.Ends.{IsGivenUp};
 ghost use Rattle.signer_command.specs.Lines.{IsAnnounced, listening_text};
+ghost use Rattle.signer_command.specs.Ruled.{AreRuled, asks_of};
 ghost use Rattle.signer_command.specs.Sockets.{places_of};
 
 use crate::announcing::{Announced, announce, text_of};
-use crate::asking::Hearing;
 use crate::fault::{Fault, SignerFault};
+use crate::heard::Hearing;
 use crate::home::Home;
 use crate::listening::Place;
 use crate::notes::Notes;
 use crate::pool::{Job, Shop, Start, work_all};
 use crate::successor::Successor;
+use crate::words::Words;
 use blocks::CommitteeView;
-use good_votes::GoodVotes;
+use good_votes::{GoodVotes, SideBySide};
 use program_parts::{ProgramFault, SourceWord};
-use signing_service::{Commits, Gate, PutBack, Rules, Tallies};
+use signing_service::{
+    Approver, Commits, Gate, Keeper, Office, PutBack, Reception, Rules, Sources, Tallies, Witness,
+};
 use stable_log::{Disk, FileDisk};
 use std::alloc::{AllocError, Global};
 use std::fs::{File, Files};
@@ -53,19 +57,113 @@ pub(crate) const THREADS_BESIDE: u8 = 2;
 pub(crate) struct Room<'a, T: Wait, S: Sink> {
     pub rt: &'a T,
     pub alloc: Global,
+    /// What its words ask for.
+    pub words: &'a Words<'a>,
+    pub committee: &'a CommitteeView<'a>,
     pub sessions: u8,
-    /// Whether the end of the input ends the stay.
-    pub while_input: bool,
-    /// Where the file of the committee that may come next is.
-    pub successor: Option<&'a str>,
-    /// Where logs of others come from.
-    pub sources: &'a [SourceWord<'a>],
-    /// Where the replica's folder is.
-    pub folder: &'a str,
     pub sockets: &'a Sockets,
     pub notes: &'a Notes<'a, T, S>,
     pub ghost least: { 1 ≤ sessions },
     pub ghost most: { sessions ≤ 64 },
+}
+
+// What all threads of a stay share, beside the desk.
+#[derive(Drop)]
+struct Shared<'a, N: DeskNaming, T: Wait + Files<File = File>, S: Sink, D: Disk> {
+    commits: Commits<N>,
+    tallies: Tallies,
+    good: GoodVotes,
+    home: Home<'a, T, S>,
+    put_back: PutBack<N, D, Home<'a, T, S>>,
+    gate: Gate<N, D>,
+    sources: Sources,
+    hearing: Hearing,
+    start: Start,
+}
+
+impl<'a, N: DeskNaming, T: Wait + Clock + Files<File = File>, S: Sink, D: Disk> Shared<
+    'a,
+    N,
+    T,
+    S,
+    D,
+> {
+    // For so many threads: who calls waits for others where the words name sources, and who says which committee may come next is
+    // the file that they name.
+    fn new(room: &Room<'a, T, S>, threads: usize) -> Result<Shared<'a, N, T, S, D>, AllocError>
+        ensures asks { IfOk result (λ shared.
+            shared.gate.asks ≡ asks_of room.now.words.now.sources.items) }
+        ensures path { IfOk result (λ shared.
+            shared.home.successor.path ≡ room.now.words.now.successor) }
+        ensures committee { IfOk result (λ shared.
+            shared.home.successor.committee.now ≡ room.now.committee.now) }
+    {
+        Ok(Shared {
+            commits: Commits::new(),
+            tallies: Tallies::new(seconds_now(room.rt)),
+            good: GoodVotes::new(room.alloc),
+            home: Home {
+                successor: Successor::new(room),
+                folder: room.words.folder,
+            },
+            put_back: PutBack::new(),
+            gate: Gate::new(asks(&room.words.sources)),
+            sources: Sources::new(room.alloc, room.words.sources.len())?,
+            hearing: Hearing::new(room.alloc, room.committee.n())?,
+            start: Start::of(u32::try_from(threads).unwrap_or(u32::MAX)),
+        })
+    }
+}
+
+// What the threads share, of what a stay has.
+fn shop_of<'x, 'h, N: DeskNaming, T: Threads + Wait + Clock + Files<File = File>, S: Sink, D: Disk>(
+    room: &'x Room<'h, T, S>,
+    desk: &'x Desk<N, D>,
+    shared: &'x Shared<'h, N, T, S, D>,
+    checker: &'x SideBySide<'x, T>,
+) -> Shop<'x, 'h, N, T, S, D, Home<'h, T, S>, Notes<'h, T, S>>
+    requires committee { room.now.committee.now ≡ N.committee }
+    requires replica { room.now.words.now.replica ≡ N.replica }
+{
+    Shop {
+        rt: room.rt,
+        alloc: room.alloc,
+        room,
+        office: Office {
+            desk,
+            committee: room.committee,
+            replica: room.words.replica,
+            keeper: &shared.home,
+            put_back: &shared.put_back,
+        },
+        checker,
+        calls: Reception {
+            gate: &shared.gate,
+            rules: &room.sockets.call_rules,
+            commits: &shared.commits,
+            tallies: &shared.tallies,
+            sources: &shared.sources,
+            witness: room.notes,
+        },
+        reads: Reception {
+            gate: &shared.gate,
+            rules: &room.sockets.read_rules,
+            commits: &shared.commits,
+            tallies: &shared.tallies,
+            sources: &shared.sources,
+            witness: room.notes,
+        },
+        gate: &shared.gate,
+        sources: &shared.sources,
+        hearing: &shared.hearing,
+        start: &shared.start,
+    }
+}
+
+fn asks(sources: &[SourceWord<'_>]) -> bool
+    ensures { result ≡ asks_of sources.now }
+{
+    !sources.is_empty()
 }
 
 /// One stay at a desk of its own. Where calls are taken is said once they are.
@@ -82,14 +180,13 @@ pub(crate) fn stay_once<
     W: Sink,
 >(
     room: &Room<'_, T, S>,
-    committee: &CommitteeView<'_>,
-    replica: u16,
     parts: Parts<FileDisk>,
     input: &mut R,
     out: &mut W,
 ) -> Result<Closed<FileDisk>, Fault<'a>>
 where
     T::Dir: Send,
+    requires ruled { AreRuled room.now.words.now room.now.sockets.now }
     ensures receipts { IfOk result (λ closed.
         AreReceipts (length parts.log.steps) closed.parts.log.steps closed.receipts.items) }
     ensures said { OnOk result (Wrote (W.text out.old) (W.text out.new)
@@ -100,8 +197,6 @@ where
     stay::<Brand, T, S, FileDisk, R, W>(
         room,
         Blank::new(u64::from(room.sessions)),
-        &*committee,
-        replica,
         parts,
         input,
         out,
@@ -119,24 +214,23 @@ fn stay<
         + Net<Listener = TcpListener, Stream = TcpStream>
         + Sync,
     S: Sink + Send,
-    D: Disk + Send,
+    D: Disk + Send + Sync,
     R: Feed,
     W: Sink,
 >(
     room: &Room<'_, T, S>,
     blank: Blank,
-    committee: &CommitteeView<'_>,
-    replica: u16,
     parts: Parts<D>,
     input: &mut R,
     out: &mut W,
 ) -> Result<Closed<D>, Fault<'a>>
 where
     T::Dir: Send,
+    requires ruled { AreRuled room.now.words.now room.now.sockets.now }
     requires name { blank.name ≡ N.name }
     requires ledger { (blank.parts ≡ N.parts) × (N.parts ≡ room.now.sessions) }
-    requires committee { committee.now ≡ N.committee }
-    requires replica { replica ≡ N.replica }
+    requires committee { room.now.committee.now ≡ N.committee }
+    requires replica { room.now.words.now.replica ≡ N.replica }
     requires opening { parts.log.steps ≡ N.opening }
     ensures receipts { IfOk result (λ closed.
         AreReceipts (length N.opening) closed.parts.log.steps closed.receipts.items) }
@@ -145,11 +239,11 @@ where
     ensures given_up { IfErr result (λ fault. IsGivenUp fault (W.text out.old) (W.text out.new)) }
     ensures counted { CountsWrites result (W.failed out.old) (W.failed out.new) }
 {
-    let (desk, sessions) = match open::<N, T, S, D>(room, blank, committee, replica, parts) {
+    let (desk, sessions) = match open::<N, T, S, D>(room, blank, parts) {
         Ok(opened) => opened,
         Err(fault) => return Err(fault),
     };
-    match answer_all(room, &desk, committee, replica, sessions, input, out) {
+    match answer_all(&*room, &desk, sessions, input, out) {
         Ok(left) => match close(room.alloc, desk, left) {
             Ok(closed) => Ok(closed),
             Err(fault) => Err(fault),
@@ -168,61 +262,35 @@ fn answer_all<
         + Net<Listener = TcpListener, Stream = TcpStream>
         + Sync,
     S: Sink + Send,
-    D: Disk + Send,
+    D: Disk + Send + Sync,
     R: Feed,
     W: Sink,
 >(
     room: &Room<'_, T, S>,
     desk: &Desk<N, D>,
-    committee: &CommitteeView<'_>,
-    replica: u16,
     sessions: Vec<Session<N>>,
     input: &mut R,
     out: &mut W,
 ) -> Result<Vec<Option<Session<N>>>, Fault<'static>>
 where
     T::Dir: Send,
-    requires committee { committee.now ≡ N.committee }
-    requires replica { replica ≡ N.replica }
+    requires ruled { AreRuled room.now.words.now room.now.sockets.now }
+    requires committee { room.now.committee.now ≡ N.committee }
+    requires replica { room.now.words.now.replica ≡ N.replica }
     ensures said { OnOk result (Wrote (W.text out.old) (W.text out.new)
         (listening_text (places_of room.now.sockets.now))) }
     ensures given_up { IfErr result (λ fault. IsGivenUp fault (W.text out.old) (W.text out.new)) }
     ensures counted { CountsWrites result (W.failed out.old) (W.failed out.new) }
 {
-    let (Ok((jobs, text)), Ok(hearing)) = (
-        prepared(room, sessions),
-        Hearing::new(room.alloc, committee.n()),
-    ) else {
+    let Ok((jobs, text)) = prepared(room, sessions) else {
         return Err(Fault::Memory);
     };
-    let (commits, tallies) = (Commits::new(), Tallies::new(seconds_now(room.rt)));
-    let good = GoodVotes::new(room.alloc);
-    let (put_back, gate) = (PutBack::new(), Gate::new(!room.sources.is_empty()));
-    let successor = Successor::new(room.rt, room.alloc, committee, room.successor, room.notes);
-    let home = Home {
-        successor,
-        folder: room.folder,
+    let Ok(shared) = Shared::new(room, jobs.len()) else {
+        return Err(Fault::Memory);
     };
-    let start = Start::of(u32::try_from(jobs.len()).unwrap_or(u32::MAX));
-    let shop = Shop {
-        rt: room.rt,
-        alloc: room.alloc,
-        desk,
-        committee,
-        replica,
-        commits: &commits,
-        tallies: &tallies,
-        good: &good,
-        put_back: &put_back,
-        gate: &gate,
-        sources: room.sources,
-        hearing: &hearing,
-        home: &home,
-        sockets: room.sockets,
-        notes: room.notes,
-        start: &start,
-    };
-    match work_and_announce(&shop, jobs, &text, room.while_input, input, out) {
+    let checker = SideBySide::new(room.rt, &shared.good);
+    let shop = shop_of(&*room, &*desk, &shared, &checker);
+    match work_and_announce(&shop, jobs, &text, input, out) {
         (Announced::Unsaid, _) => Err(Fault::Output),
         (_, Err(_)) => Err(Fault::Memory),
         (Announced::NotBegun, Ok(_)) => Err(Fault::Own(SignerFault::Threads)),
@@ -238,25 +306,31 @@ fn prepared<N: DeskNaming, T: Wait, S: Sink>(
     ensures { IfOk result (λ r.
         r.1.items ≡ listening_text (places_of room.now.sockets.now)) }
 {
-    let jobs = jobs_of(room.alloc, sessions, room.sockets, room.sources.len())?;
+    let jobs = jobs_of(room.alloc, sessions, room.sockets, room.words.sources.len())?;
     Ok((jobs, text_of(room.alloc, room.sockets)?))
 }
 
 fn open<N: DeskNaming, T: Wait, S: Sink, D: Disk>(
     room: &Room<'_, T, S>,
     blank: Blank,
-    committee: &CommitteeView<'_>,
-    replica: u16,
     parts: Parts<D>,
 ) -> Result<(Desk<N, D>, Vec<Session<N>>), Fault<'static>>
     requires name { blank.name ≡ N.name }
     requires ledger { (blank.parts ≡ N.parts) × (N.parts ≡ room.now.sessions) }
-    requires committee { committee.now ≡ N.committee }
-    requires replica { replica ≡ N.replica }
+    requires committee { room.now.committee.now ≡ N.committee }
+    requires replica { room.now.words.now.replica ≡ N.replica }
     requires opening { parts.log.steps ≡ N.opening }
     ensures refused { IfErr result (λ fault. (fault ≡ ProgramFault.Memory) ⊎ ((number : ℕ) × (fault ≡ ProgramFault.Own (SignerFault.Store number)))) }
 {
-    match Desk::<N, D>::start(room.alloc, blank, committee, replica, parts, room.sessions) {
+    let replica = room.words.replica;
+    match Desk::<N, D>::start(
+        room.alloc,
+        blank,
+        room.committee,
+        replica,
+        parts,
+        room.sessions,
+    ) {
         Ok(opened) => Ok(opened),
         Err((StartError::Memory, _)) => Err(Fault::Memory),
         Err((refusal, _)) => Err(Fault::Own(SignerFault::Store(refusal.number()))),
@@ -273,14 +347,15 @@ fn work_and_announce<
         + Net<Listener = TcpListener, Stream = TcpStream>
         + Sync,
     S: Sink + Send,
-    D: Disk + Send,
+    D: Disk + Send + Sync,
+    K: Approver + Keeper + Send + Sync,
+    V: Witness + Sync,
     R: Feed,
     W: Sink,
 >(
-    shop: &Shop<'_, N, T, S, D>,
+    shop: &Shop<'_, '_, N, T, S, D, K, V>,
     jobs: Vec<Job<N>>,
     text: &[u8],
-    while_input: bool,
     input: &mut R,
     out: &mut W,
 ) -> (Announced, Result<Vec<Option<Session<N>>>, AllocError>)
@@ -293,15 +368,7 @@ where
     let (left, announced) = thread::join_mut(
         shop.rt,
         &mut || work_all(shop, jobs.take()),
-        &mut || announce(
-            shop.rt,
-            shop.start,
-            shop.sockets,
-            text,
-            while_input,
-            &mut *input,
-            &mut *out,
-        ),
+        &mut || announce(shop.rt, shop.room, shop.start, text, &mut *input, &mut *out),
     );
     (announced, left)
 }
@@ -324,7 +391,8 @@ fn close<N: DeskNaming, D: Disk>(
     }
 }
 
-// A job for each session, those of the first two where callers only read, two that hand out the log, and one for each source.
+// A job for each session, where the first two are of those who only read, if they may, two that hand out the log, and one for each
+// source.
 fn jobs_of<N: DeskNaming>(
     alloc: Global,
     sessions: Vec<Session<N>>,

@@ -5,6 +5,7 @@ ghost use Rattle.signer_command.specs.Approved.{IsApprovable};
 ghost use Rattle.successor_files.specs.Successors.{IsSuccessorPayload};
 
 use crate::notes::Notes;
+use crate::stay::Room;
 use blocks::CommitteeView;
 use program_parts::{MOST_OF_A_SHORT_FILE, read_at_most};
 use std::alloc::Global;
@@ -21,25 +22,23 @@ pub(crate) struct Successor<'a, T: Wait, S: Sink> {
     pub alloc: Global,
     pub committee: &'a CommitteeView<'a>,
     pub path: Option<&'a str>,
-    notes: &'a Notes<'a, T, S>,
+    pub notes: &'a Notes<'a, T, S>,
     /// Why the file was as if it were not there, as it was told last.
     told: Mutex<Option<SuccessorRefusal>>,
 }
 
 impl<'a, T: Wait + Files<File = File>, S: Sink> Successor<'a, T, S> {
-    pub fn new(
-        rt: &'a T,
-        alloc: Global,
-        committee: &'a CommitteeView<'a>,
-        path: Option<&'a str>,
-        notes: &'a Notes<'a, T, S>,
-    ) -> Successor<'a, T, S> {
+    /// What the words of a signer name.
+    pub fn new(room: &Room<'a, T, S>) -> Successor<'a, T, S>
+        ensures path { result.path ≡ room.now.words.now.successor }
+        ensures committee { result.committee.now ≡ room.now.committee.now }
+    {
         Successor {
-            rt,
-            alloc,
-            committee,
-            path,
-            notes,
+            rt: room.rt,
+            alloc: room.alloc,
+            committee: room.committee,
+            path: room.words.successor,
+            notes: room.notes,
             told: Mutex::new(None),
         }
     }

@@ -1,15 +1,17 @@
 -- What is counted, is counted once.
-use Rattle.std.proofs.Common.{◌≡◌, ◌≢◌, ◌<◌, ◌+◌, ◌-◌, ◌^◌, ℕ, arith, refl}
+use Rattle.std.proofs.Common.{◌≡◌, ◌<◌, ◌+◌, ◌-◌, ◌^◌, ℕ, arith, refl}
 use Rattle.streams.specs.Counting.{one_more}
 use Rattle.vote_desk.specs.declared.desk_error.DeskError.{DeskError}
 use Rattle.vote_desk.specs.declared.desk_error.DeskError.TheVariants as desk
 use Rattle.vote_desk.specs.declared.reply.Answer.{Answer}
 use Rattle.vote_desk.specs.declared.reply.Answer.TheVariants.{Voted, Raised, Held}
-use Rattle.replica_lines.specs.declared.outcome.Outcome.{Outcome}
-use Rattle.replica_lines.specs.declared.outcome.Outcome.TheVariants as came
+use Rattle.replica_answers.specs.declared.outcome.Outcome.{Outcome}
+use Rattle.replica_answers.specs.declared.outcome.Outcome.TheVariants as came
+use Rattle.signer_answers.specs.declared.told.Told.{Told}
+use Rattle.signer_answers.specs.declared.told.Told.TheVariants as tell
 use Rattle.signer_calls.specs.declared.call.CallRefusal.{CallRefusal}
 use Rattle.signer_calls.specs.declared.call.CallRefusal.TheVariants as refused
-use Rattle.signing_service.specs.Tallies.{CountsAnswer, CountsRefusal, EachIsCountedOnce, after_answer, after_outcome, after_refusal, answers_of, refusals_of}
+use Rattle.signing_service.specs.Tallies.{CountsAnswer, CountsRefusal, EachIsCountedOnce, after_answer, after_outcome, after_refusal, after_told, answers_of, refusals_of}
 use Rattle.signing_service.specs.declared.tallies.Numbers.{Numbers}
 
 one : (x : ℕ) → x < 2 ^ 64 - 1 → one_more x ≡ x + 1
@@ -42,14 +44,20 @@ desk_once n desk.Device low = (omega (arith, low, one n.refused_by_desk (omega (
 desk_once n desk.Stopped low = (omega (arith, low, one n.refused_by_desk (omega (arith, low))), refl)
 desk_once n desk.ReceiptMismatch low = (omega (arith, low, one n.refused_by_desk (omega (arith, low))), refl)
 
-outcome_once : (n : Numbers) (o : Outcome) → answers_of n < 2 ^ 64 - 1 → o ≢ came.BadLine → CountsAnswer n (after_outcome n o)
-outcome_once n (came.Replied reply) low some = answer_once n reply.act low
-outcome_once n (came.TimedOut view) low some = (omega (arith, low, one n.timeouts (omega (arith, low))), refl)
-outcome_once n (came.RefusedHeader refusal) low some = (omega (arith, low, one n.refused_headers (omega (arith, low))), refl)
-outcome_once n (came.RefusedCertificate refusal) low some = (omega (arith, low, one n.refused_certificates (omega (arith, low))), refl)
-outcome_once n (came.RefusedBlock refusal) low some = (omega (arith, low, one n.refused_blocks (omega (arith, low))), refl)
-outcome_once n (came.RefusedByDesk e) low some = desk_once n e low
-outcome_once n came.BadLine low some = absurd (some refl)
+outcome_once : (n : Numbers) (o : Outcome) → answers_of n < 2 ^ 64 - 1 → CountsAnswer n (after_outcome n o)
+outcome_once n (came.Replied reply) low = answer_once n reply.act low
+outcome_once n (came.TimedOut view) low = (omega (arith, low, one n.timeouts (omega (arith, low))), refl)
+outcome_once n (came.RefusedHeader refusal) low = (omega (arith, low, one n.refused_headers (omega (arith, low))), refl)
+outcome_once n (came.RefusedCertificate refusal) low = (omega (arith, low, one n.refused_certificates (omega (arith, low))), refl)
+outcome_once n (came.RefusedBlock refusal) low = (omega (arith, low, one n.refused_blocks (omega (arith, low))), refl)
+outcome_once n (came.RefusedByDesk e) low = desk_once n e low
+
+told_once : (n : Numbers) (t : Told) → answers_of n < 2 ^ 64 - 1 → CountsAnswer n (after_told n t)
+told_once n (tell.Came outcome) low = outcome_once n outcome low
+told_once n (tell.Again receipt committed) low = answer_once n Held low
+told_once n (tell.Unread e) low = (omega (arith, low, one n.refused_by_desk (omega (arith, low))), refl)
+told_once n (tell.PutBack ballot) low = (omega (arith, low, one n.refused_by_desk (omega (arith, low))), refl)
+told_once n tell.Asking low = (omega (arith, low, one n.refused_by_desk (omega (arith, low))), refl)
 
 pub counted_once : EachIsCountedOnce
-counted_once n low low' = (λ r. refusal_once n r low', λ o. outcome_once n o low)
+counted_once n low low' = (λ r. refusal_once n r low', λ t. told_once n t low)

@@ -1,5 +1,5 @@
 -- What is answered to a call.
-use Rattle.std.specs.Prelude.{◌≡◌, ◌⊎◌, ◌<◌, ◌≤◌, ◌+◌, ◌++◌, [], ℕ, List, Bool, true, Option, Some, None, IfSome, MatchOption, codes, min}
+use Rattle.std.specs.Prelude.{◌≡◌, ◌⊎◌, ◌<◌, ◌≤◌, ◌+◌, ◌++◌, [], ℕ, List, Bool, true, false, Option, Some, None, IfSome, IsSome, MatchOption, codes, min}
 use Rattle.blocks.specs.Replica.{Stored}
 use Rattle.blocks.specs.declared.ballot.Ballot.{Ballot}
 use Rattle.certificates.specs.declared.vote.SignedVote.{SignedVote}
@@ -11,7 +11,7 @@ use Rattle.stable_log.specs.declared.disk.Disk.{Ghosts}
 use Rattle.vote_log.specs.declared.export_error.ExportError.{ExportError}
 use Rattle.vote_log.specs.declared.export_error.ExportError.TheVariants as export
 use Rattle.vote_log.specs.declared.log_error.LogError.{LogError}
-use Rattle.vote_desk.specs.DeskRefusals.{from_log}
+use Rattle.vote_log.specs.declared.log_error.LogError.TheVariants as log
 use Rattle.vote_desk.specs.Desks.{DeskView, HoldsId, status_of}
 use Rattle.vote_desk.specs.Exports.{IsOut, RefusesExport}
 use Rattle.vote_desk.specs.SomeDesk.{IsDeskOf, SomeDesk, SomeDeskMoves}
@@ -22,14 +22,17 @@ use Rattle.vote_desk.specs.declared.desk_error.DeskError.TheVariants as desk
 use Rattle.vote_desk.specs.declared.parts.DeskStatus.{DeskStatus}
 use Rattle.vote_desk.specs.declared.reply.Answer.TheVariants.{Voted}
 use Rattle.vote_desk.specs.declared.reply.Receipt.{Receipt}
+use Rattle.replica_answers.specs.SessionReceipts.{ReceiptsGrow}
+use Rattle.replica_answers.specs.declared.outcome.Outcome.{Outcome}
+use Rattle.replica_answers.specs.declared.outcome.Outcome.TheVariants as came
+use Rattle.replica_answers.specs.declared.request.Request.{Request as Asked}
+use Rattle.replica_answers.specs.declared.request.Request.TheVariants as asks
 use Rattle.replica_lines.specs.OutcomeLines.{answer_text}
-use Rattle.replica_lines.specs.declared.outcome.Outcome.TheVariants as came
-use Rattle.replica_lines.specs.declared.request.Request.{Request as Asked}
-use Rattle.replica_lines.specs.declared.request.Request.TheVariants as asks
 use Rattle.signer_answers.specs.Approvals.{Telling}
 use Rattle.signer_answers.specs.BlockAnswers.{IsSignerAnswer}
 use Rattle.signer_answers.specs.Guards.{WasPutBack}
 use Rattle.signer_answers.specs.Hearings.{HasHeard}
+use Rattle.signer_answers.specs.Showings.{Showing}
 use Rattle.signer_answers.specs.Tellings.{HasItsReceipt, receipts_behind}
 use Rattle.signer_answers.specs.declared.told.Told.{Told}
 use Rattle.signer_answers.specs.declared.told.Told.TheVariants as tell
@@ -39,9 +42,9 @@ use Rattle.signing_service.specs.Healths.{IsHealthTold}
 use Rattle.signing_service.specs.Judging.{IsJudgementTold}
 use Rattle.signing_service.specs.Metrics.{IsMetricsTold}
 use Rattle.signing_service.specs.Refusals.{IsRefusalTold}
-use Rattle.signing_service.specs.Responses.{IsLine, fields_of_kind}
+use Rattle.signing_service.specs.Responses.{IsLine, IsPassing, fields_of_kind}
 use Rattle.signing_service.specs.Statuses.{IsStatusTold}
-use Rattle.signing_service.specs.ToldLines.{asking_line, desk_status, named_desk_line, outcome_status, put_back_line, told_line}
+use Rattle.signing_service.specs.ToldLines.{asking_line, block_asked, desk_status, named_desk_line, outcome_status, put_back_line, reply_line, told_line, unread_line}
 use Rattle.signer_calls.specs.declared.call.Call.{Call}
 use Rattle.signer_calls.specs.declared.call.Call.TheVariants as call
 use Rattle.signer_calls.specs.declared.call.CallRefusal.TheVariants as refused
@@ -49,34 +52,73 @@ use Rattle.signer_calls.specs.declared.log_part.LogPart.{LogPart}
 use Rattle.signer_calls.specs.declared.rules.Rules.{Rules}
 use Rattle.signing_service.specs.declared.halt.Halt.{Halt}
 use Rattle.signing_service.specs.declared.halt.Halt.TheVariants as halt
-use Rattle.signing_service.specs.declared.tallies.Numbers.{Numbers}
+use Rattle.signing_service.specs.declared.metrics.Measured.{Measured}
 use Rattle.signing_service.specs.declared.writing.Kind.TheVariants.{Octets}
 
 -- ---- lines
 
--- the response tells this refusal of the desk
+-- the response tells this refusal of the desk: memory may be there again soon, and all others stay as they are
 abbrev pub IsDeskTold : DeskError → Response → Type 0
+IsDeskTold desk.Memory response = IsPassing (named_desk_line desk.Memory) response
 IsDeskTold refusal response = IsLine (desk_status refusal) (named_desk_line refusal) response
 
--- the response tells that the log was put back
+-- the response tells that what the log has can't be read
+abbrev pub IsUnreadTold : LogError → Response → Type 0
+IsUnreadTold e response = IsLine 503 (unread_line e) response
+
+-- the response tells why the log was not read: for want of memory, since it is stopped, or since it can't be
+abbrev pub IsLogTold : LogError → Response → Type 0
+IsLogTold log.Memory response = IsDeskTold desk.Memory response
+IsLogTold log.Stopped response = IsDeskTold desk.Stopped response
+IsLogTold e response = IsUnreadTold e response
+
+-- the response tells that the log was put back: this process takes no more blocks
 abbrev pub IsPutBackTold : Ballot → Response → Type 0
-IsPutBackTold ballot response = IsLine 503 (put_back_line ballot) response
+IsPutBackTold ballot response = IsLine 500 (put_back_line ballot) response
 
 -- the response tells that others are still asked
 abbrev pub IsAskingTold : Response → Type 0
-IsAskingTold response = IsLine 503 asking_line response
+IsAskingTold response = IsPassing asking_line response
 
 -- the response tells why no block or timeout is taken
 abbrev pub IsHaltTold : Halt → Response → Type 0
 IsHaltTold (halt.PutBack ballot) response = IsPutBackTold ballot response
 IsHaltTold halt.Asking response = IsAskingTold response
 
--- the response tells an outcome, or that the log was put back, that others are still asked, or that the view lies too far ahead
-abbrev pub IsOutcomeTold : Option Told → Response → Type 0
-IsOutcomeTold (Some (tell.Came outcome)) response = IsLine (outcome_status outcome) (told_line outcome) response
-IsOutcomeTold (Some (tell.PutBack ballot)) response = IsPutBackTold ballot response
-IsOutcomeTold (Some tell.Asking) response = IsAskingTold response
-IsOutcomeTold None response = IsRefusalTold refused.Far response
+-- that the log was put back keeps them from being taken
+abbrev pub IsStop : Option Halt → Type 0
+IsStop (Some (halt.PutBack ballot)) = Unit {0}
+IsStop _ = ⊥
+
+-- .. and is what is told of one
+abbrev pub IsStopTo : Option Told → Type 0
+IsStopTo (Some (tell.PutBack ballot)) = Unit {0}
+IsStopTo _ = ⊥
+
+-- .. of each block and timeout
+abbrev pub IsStopped : Call → Option Told → Type 0
+IsStopped (call.Replica asked) told = IsStopTo told
+IsStopped asked told = Unit {0}
+
+-- why none is taken, in a line
+abbrev pub halt_line : Halt → List ℕ
+halt_line (halt.PutBack ballot) = put_back_line ballot
+halt_line halt.Asking = asking_line
+
+-- the response tells what came of a call of this block, or of none
+abbrev pub IsCameTold : Option Ballot → Outcome → Response → Type 0
+IsCameTold block (came.RefusedByDesk refusal) response = IsDeskTold refusal response
+IsCameTold block outcome response = IsLine (outcome_status outcome) (told_line block outcome) response
+
+-- .. or the vote that the log has for it, that this can't be read, that the log was put back, that others are still asked, or that
+-- the view lies too far ahead
+abbrev pub IsOutcomeTold : Option Ballot → Option Told → Response → Type 0
+IsOutcomeTold block (Some (tell.Came outcome)) response = IsCameTold block outcome response
+IsOutcomeTold block (Some (tell.Again receipt committed)) response = IsLine 200 (reply_line block (Voted receipt) committed) response
+IsOutcomeTold block (Some (tell.Unread e)) response = IsUnreadTold e response
+IsOutcomeTold block (Some (tell.PutBack ballot)) response = IsPutBackTold ballot response
+IsOutcomeTold block (Some tell.Asking) response = IsAskingTold response
+IsOutcomeTold block None response = IsRefusalTold refused.Far response
 
 -- the response tells a vote of the log
 abbrev pub IsReceiptTold : Receipt → Response → Type 0
@@ -90,13 +132,14 @@ parent_view_of _ = 0
 -- the block that is committed by what was told
 abbrev pub committed_by : Told → Option (List ℕ)
 committed_by (tell.Came (came.Replied reply)) = reply.committed
+committed_by (tell.Again receipt committed) = committed
 committed_by _ = None
 
--- what a refused export means to a caller
-abbrev pub from_export : ExportError → DeskError
-from_export export.Stopped = desk.Stopped
-from_export export.Device = desk.Device
-from_export _ = desk.Memory
+-- what a refused export is of the log: the sink is memory
+abbrev pub from_export : ExportError → LogError
+from_export export.Stopped = log.Stopped
+from_export export.Device = log.Device
+from_export _ = log.Memory
 
 -- the receipts of a session after what it was told
 abbrev pub receipts_told : List Receipt → Option Told → List Receipt
@@ -130,26 +173,31 @@ module _ {D : Type 0} (disk : Ghosts D) (committee : List ℕ) (replica : ℕ) (
   abbrev pub IsPast : Bool → Type 0
   IsPast asks = asks ≡ true → HasHeard disk committee replica opening
 
+  -- .. or they are still asked
+  abbrev pub IsShut : (asks asking : Bool) → Type 0
+  IsShut asks true = asks ≡ true
+  IsShut asks false = IsPast asks
+
   -- why no block or timeout is taken: the log was put back, or others are asked first
   abbrev pub IsHalt : Bool → Halt → Type 0
   IsHalt asks (halt.PutBack ballot) = WasPutBack disk committee replica opening ballot
   IsHalt asks halt.Asking = asks ≡ true
 
-  -- what comes of a block or a timeout: that the log was put back, that others are asked first, or its answer, once enough were
-  -- heard; none where its view lies too far, and then nothing is delivered
-  abbrev pub IsOutcomeOf : ℕ → Bool → Telling → Asked → Option Told → Type 0
-  IsOutcomeOf furthest asks tells asked (Some (tell.PutBack ballot)) = WasPutBack disk committee replica opening ballot
-  IsOutcomeOf furthest asks tells asked (Some tell.Asking) = asks ≡ true
-  IsOutcomeOf furthest asks tells asked (Some (tell.Came outcome)) =
-      IsPast asks × IsNear furthest asked × IsSignerAnswer disk committee replica opening tells asked (tell.Came outcome)
-  IsOutcomeOf furthest asks tells asked None = IsPast asks × IsFar furthest asked
+  -- what comes of a block or a timeout of a caller who has these receipts: that the log was put back, that others are asked first, or
+  -- its answer, once enough were heard; none where its view lies too far, and then nothing is delivered
+  abbrev pub IsOutcomeOf : ℕ → Bool → Telling → List Receipt → Asked → Option Told → Type 0
+  IsOutcomeOf furthest asks tells receipts asked (Some (tell.PutBack ballot)) = WasPutBack disk committee replica opening ballot
+  IsOutcomeOf furthest asks tells receipts asked (Some tell.Asking) = asks ≡ true
+  IsOutcomeOf furthest asks tells receipts asked (Some it) =
+      IsPast asks × IsNear furthest asked × IsSignerAnswer disk committee replica opening tells receipts asked it
+  IsOutcomeOf furthest asks tells receipts asked None = IsPast asks × IsFar furthest asked
 
   -- the log's vote in this view, or that there is none, or why it cannot be read
   abbrev pub IsVoteTold : ℕ → Response → Type 0
   IsVoteTold view response =
       ((receipt : Receipt) × SomeOne (λ d. IsVoteFound disk.bytes replica d.log view (Some receipt)) × IsReceiptTold receipt response)
       ⊎ (SomeOne (λ d. IsVoteFound disk.bytes replica d.log view None) × IsRefusalTold refused.NoVote response)
-      ⊎ ((e : LogError) × SomeMove (RefusesVoteIn disk view e) × IsDeskTold (from_log e) response)
+      ⊎ ((e : LogError) × SomeMove (RefusesVoteIn disk view e) × IsLogTold e response)
 
   -- whether the header of this id is held
   abbrev pub IsHeaderTold : List ℕ → Response → Type 0
@@ -163,20 +211,21 @@ module _ {D : Type 0} (disk : Ghosts D) (committee : List ℕ) (replica : ℕ) (
       ((text : List ℕ) × (frames : ℕ)
       × SomeOne (λ d. IsOut disk.bytes d.log part.first (min part.most MOST_FRAMES_AT_ONCE) (Some []) (Some text) frames)
       × IsResponse 200 (fields_of_kind Octets) text response)
-      ⊎ ((e : ExportError) × SomeMove (RefusesExport disk part.first (min part.most MOST_FRAMES_AT_ONCE) e) × IsDeskTold (from_export e) response)
+      ⊎ ((e : ExportError) × SomeMove (RefusesExport disk part.first (min part.most MOST_FRAMES_AT_ONCE) e) × IsLogTold (from_export e) response)
 
   -- why no block or timeout is taken
   abbrev pub IsStopTold : Bool → Response → Type 0
   IsStopTold asks response = (it : Halt) × IsHalt asks it × IsHaltTold it response
 
-  -- .. or how a desk is
-  abbrev pub IsDeskHealthTold : Bool → Response → Type 0
-  IsDeskHealthTold asks response =
-      IsStopTold asks response ⊎ (IsPast asks × ((status : DeskStatus) × SomeOne (λ d. status ≡ status_of d) × IsHealthTold status response))
-
   -- .. or whether a vote is good
   abbrev pub IsVoteJudged : Bool → SignedVote → Response → Type 0
   IsVoteJudged asks vote response = IsStopTold asks response ⊎ (IsPast asks × IsJudgementTold committee vote response)
+
+  -- .. or how a desk is: to who asks for its health both are told alike, by 503
+  abbrev pub IsDeskHealthTold : Bool → Response → Type 0
+  IsDeskHealthTold asks response =
+      ((it : Halt) × IsHalt asks it × IsLine 503 (halt_line it) response)
+      ⊎ (IsPast asks × ((status : DeskStatus) × SomeOne (λ d. status ≡ status_of d) × IsHealthTold status response))
 
   -- what a desk is at, why no block or timeout is taken if none is, and a block that some block with a good certificate commits,
   -- or none that is known
@@ -186,45 +235,55 @@ module _ {D : Type 0} (disk : Ghosts D) (committee : List ℕ) (replica : ℕ) (
       × MatchOption halted (IsPast asks) (IsHalt asks) × IfSome committed (IsCommitOf committee)
       × IsStatusTold committee replica status halted committed response
 
-  -- .. and some numbers of what was told
-  abbrev pub IsDeskMetricsTold : Response → Type 0
-  IsDeskMetricsTold response =
-      (numbers : Numbers) × (status : DeskStatus) × (put_back committed : Option Ballot) × SomeOne (λ d. status ≡ status_of d)
-      × IfSome put_back (WasPutBack disk committee replica opening) × IfSome committed (IsCommitOf committee)
-      × IsMetricsTold numbers status put_back committed response
+  -- .. and some numbers of what was told, and of the sources that were heard
+  pub record IsMeasured (asks : Bool) (m : Measured) : Type 0 where
+    pub status : SomeOne (λ d. m.status ≡ status_of d)
+    pub put_back : IfSome m.put_back (WasPutBack disk committee replica opening)
+    pub committed : IfSome m.committed (IsCommitOf committee)
+    pub asking : IsShut asks m.is_asking
+
+  abbrev pub IsDeskMetricsTold : Bool → Response → Type 0
+  IsDeskMetricsTold asks response = (m : Measured) × IsMeasured asks m × IsMetricsTold m response
 
   -- ---- a call
 
-  -- what a call is told, and the outcome among it
-  abbrev pub IsCallTold : Rules → Bool → Telling → Call → Option Told → Response → Type 0
-  IsCallTold rules asks tells (call.Replica asked) told response =
-      IsOutcomeOf rules.furthest asks tells asked told × IsOutcomeTold told response
-  IsCallTold rules asks tells (call.Judge vote) told response = (told ≡ None) × IsVoteJudged asks vote response
-  IsCallTold rules asks tells (call.VoteIn view) told response = (told ≡ None) × IsVoteTold view response
-  IsCallTold rules asks tells (call.Header id) told response = (told ≡ None) × IsHeaderTold id response
-  IsCallTold rules asks tells (call.Log part) told response = (told ≡ None) × IsPartTold part response
-  IsCallTold rules asks tells call.Status told response = (told ≡ None) × IsDeskStatusTold asks response
-  IsCallTold rules asks tells call.Live told response = (told ≡ None) × IsLine 200 (codes "ok\n") response
-  IsCallTold rules asks tells call.Health told response = (told ≡ None) × IsDeskHealthTold asks response
-  IsCallTold rules asks tells call.Metrics told response = (told ≡ None) × IsDeskMetricsTold response
-  IsCallTold rules asks tells (call.Refused refusal) told response = (told ≡ None) × IsRefusalTold refusal response
+  -- what a call is told of a caller who has these receipts, and the outcome among it
+  abbrev pub IsCallTold : Rules → Bool → Telling → List Receipt → Call → Option Told → Response → Type 0
+  IsCallTold rules asks tells receipts (call.Replica asked) told response =
+      IsOutcomeOf rules.furthest asks tells receipts asked told × IsOutcomeTold (block_asked asked) told response
+  IsCallTold rules asks tells receipts (call.Judge vote) told response = (told ≡ None) × IsVoteJudged asks vote response
+  IsCallTold rules asks tells receipts (call.VoteIn view) told response = (told ≡ None) × IsVoteTold view response
+  IsCallTold rules asks tells receipts (call.Header id) told response = (told ≡ None) × IsHeaderTold id response
+  IsCallTold rules asks tells receipts (call.Log part) told response = (told ≡ None) × IsPartTold part response
+  IsCallTold rules asks tells receipts call.Status told response = (told ≡ None) × IsDeskStatusTold asks response
+  IsCallTold rules asks tells receipts call.Live told response = (told ≡ None) × IsLine 200 (codes "ok\n") response
+  IsCallTold rules asks tells receipts call.Health told response = (told ≡ None) × IsDeskHealthTold asks response
+  IsCallTold rules asks tells receipts call.Metrics told response = (told ≡ None) × IsDeskMetricsTold asks response
+  IsCallTold rules asks tells receipts (call.Refused refusal) told response = (told ≡ None) × IsRefusalTold refusal response
 
-  -- the response tells what the call is told, and the receipt of a vote is added to the session
-  pub record IsCallServed (rules : Rules) (asks : Bool) (tells : Telling) (asked : Call) (before : List Receipt) (response : Response) (after : List Receipt) : Type 0 where
-    pub told : Option Told
-    pub answers : IsCallTold rules asks tells asked told response
+  -- the response tells what the call is told, and the receipt of a new vote is added to the session; who was shown before that the
+  -- log was put back is told so, and stays shown
+  pub record IsCallServed (rules : Rules) (asks : Bool) (tells : Telling) (asked : Call) (before : List Receipt) (shown : Option Showing) (response : Response) (after : List Receipt) (shown_after : Option Showing) (told : Option Told) : Type 0 where
+    pub answers : IsCallTold rules asks tells before asked told response
     pub receipts : after ≡ receipts_told before told
+    pub stops : IsSome shown → IsStopped asked told
+    pub keeps : IsSome shown → IsSome shown_after
 
   -- .. to a request, by what it asks for
-  pub record IsServed (rules : Rules) (asks : Bool) (tells : Telling) (before : List Receipt) (request : Request (List ℕ)) (response : Response) (after : List Receipt) : Type 0 where
+  pub record IsServed (rules : Rules) (asks : Bool) (tells : Telling) (before : List Receipt) (shown : Option Showing) (request : Request (List ℕ)) (response : Response) (after : List Receipt) (shown_after : Option Showing) : Type 0 where
     pub asked : Call
     pub reads : AsksFor rules request asked
-    pub served : IsCallServed rules asks tells asked before response after
+    pub told : Option Told
+    pub served : IsCallServed rules asks tells asked before shown response after shown_after told
 
-  -- the response tells what the request's call is told, and the receipt of a vote is among these
-  pub record IsBacked (rules : Rules) (asks : Bool) (tells : Telling) (receipts : List Receipt) (exchanged : Exchanged) : Type 0 where
+  -- the response tells what the request's call is told, and the receipt of a new vote is among these, as those are that the caller had.
+  -- Who was shown this before the calls is told of each block and timeout that the log was put back
+  pub record IsBacked (rules : Rules) (asks : Bool) (tells : Telling) (shown : Option Showing) (receipts : List Receipt) (exchanged : Exchanged) : Type 0 where
     pub asked : Call
     pub reads : AsksFor rules exchanged.0 asked
     pub told : Option Told
-    pub answers : IsCallTold rules asks tells asked told exchanged.1
+    pub before : List Receipt
+    pub answers : IsCallTold rules asks tells before asked told exchanged.1
+    pub grown : ReceiptsGrow before receipts
     pub backed : IfSome told (HasItsReceipt receipts)
+    pub stops : IsSome shown → IsStopped asked told

@@ -1,10 +1,11 @@
 -- The metrics of a signer, as Prometheus reads them (text format 0.0.4). Each part begins where the one before ends its line.
-use Rattle.std.specs.Prelude.{◌++◌, ℕ, Bool, true, false, List, Option, Some, None, codes}
+use Rattle.std.specs.Prelude.{◌+◌, ◌++◌, ◌∷◌, [], ℕ, Bool, true, false, List, Option, Some, None, codes}
 use Rattle.blocks.specs.declared.ballot.Ballot.{Ballot}
 use Rattle.http_server.specs.declared.response.Response.{Response}
 use Rattle.http_server.specs.Response.{IsResponse}
 use Rattle.vote_desk.specs.declared.parts.DeskStatus.{DeskStatus}
 use Rattle.signing_service.specs.Responses.{field_text, fields_of_kind}
+use Rattle.signing_service.specs.declared.metrics.Measured.{Measured}
 use Rattle.signing_service.specs.declared.tallies.Numbers.{Numbers}
 use Rattle.signing_service.specs.declared.writing.Kind.TheVariants.{Metrics}
 
@@ -76,19 +77,44 @@ process_text numbers =
     field_text (codes "\n# HELP hs_build_info The version of this program.\n# TYPE hs_build_info gauge\nhs_build_info{version=\"0.9.0\"} ") 1
     ++ field_text (codes "\n# HELP process_start_time_seconds When the process began, in seconds since 1970.\n# TYPE process_start_time_seconds gauge\nprocess_start_time_seconds ") numbers.started
 
--- the parts, one behind the other
-unfoldable pub metrics_text : Numbers → DeskStatus → (committed stopped : ℕ) → List ℕ
-metrics_text numbers status committed stopped =
-    answers_text numbers ++ refusals_text numbers ++ times_text numbers ++ calls_text numbers
-    ++ doors_text numbers ++ arguments_text numbers ++ views_text status committed
-    ++ rooms_text status stopped ++ process_text numbers ++ codes "\n"
+abbrev pub asking_text : ℕ → List ℕ
+asking_text asking =
+    field_text (codes "\n# HELP hs_signer_asking Whether others are still asked for votes of this replica.\n# TYPE hs_signer_asking gauge\nhs_signer_asking ") asking
+
+-- ---- the sources
+
+abbrev pub source_text : ℕ → Bool → List ℕ
+source_text at heard = field_text (codes "\nhs_signer_source_heard{source=\"") at ++ field_text (codes "\"} ") (number_of heard)
+
+-- a line for each source, the first of this number
+abbrev pub source_lines : ℕ → List Bool → List ℕ
+source_lines at [] = []
+source_lines at (heard ∷ more) = source_text at heard ++ source_lines (at + 1) more
+
+abbrev pub sources_head : List ℕ
+sources_head = codes "\n# HELP hs_signer_source_heard Whether the log of a source that is asked was read whole when it was asked last.\n# TYPE hs_signer_source_heard gauge"
+
+abbrev pub sources_text : List Bool → List ℕ
+sources_text heard = sources_head ++ source_lines 0 heard ++ codes "\n"
+
+-- ---- the whole
 
 -- a disk failed, or the log was put back
 abbrev pub is_stopped : DeskStatus → Option Ballot → Bool
 is_stopped status (Some ballot) = true
 is_stopped status None = status.stopped
 
-abbrev pub IsMetricsTold : Numbers → DeskStatus → (put_back committed : Option Ballot) → Response → Type 0
-IsMetricsTold numbers status put_back committed response =
-    IsResponse 200 (fields_of_kind Metrics)
-    (metrics_text numbers status (committed_view committed) (number_of (is_stopped status put_back))) response
+-- the parts but for the sources, one behind the other
+unfoldable pub signer_text : Numbers → DeskStatus → (committed stopped asking : ℕ) → List ℕ
+signer_text numbers status committed stopped asking =
+    answers_text numbers ++ refusals_text numbers ++ times_text numbers ++ calls_text numbers
+    ++ doors_text numbers ++ arguments_text numbers ++ views_text status committed
+    ++ rooms_text status stopped ++ asking_text asking ++ process_text numbers
+
+abbrev pub metrics_text : Measured → List ℕ
+metrics_text m =
+    signer_text m.numbers m.status (committed_view m.committed) (number_of (is_stopped m.status m.put_back)) (number_of m.is_asking)
+    ++ sources_text m.heard.items
+
+abbrev pub IsMetricsTold : Measured → Response → Type 0
+IsMetricsTold m response = IsResponse 200 (fields_of_kind Metrics) (metrics_text m) response

@@ -10,6 +10,8 @@ use Rattle.certificates.specs.declared.vote.VoteRefusal.{VoteRefusal}
 use Rattle.certificates.specs.declared.vote.VoteRefusal.TheVariants as vote
 use Rattle.replica_core.specs.declared.refusal.CoreRefusal.{CoreRefusal}
 use Rattle.replica_core.specs.declared.refusal.CoreRefusal.TheVariants as core
+use Rattle.vote_log.specs.declared.log_error.LogError.{LogError}
+use Rattle.vote_log.specs.declared.log_error.LogError.TheVariants as log
 use Rattle.vote_desk.specs.declared.desk_error.DeskError.{DeskError}
 use Rattle.vote_desk.specs.declared.desk_error.DeskError.TheVariants as desk
 
@@ -42,6 +44,17 @@ core_refusal_name core.UnknownParent = codes "UnknownParent"
 core_refusal_name core.ParentView = codes "ParentView"
 core_refusal_name core.TreeFull = codes "TreeFull"
 core_refusal_name core.SameId = codes "SameId"
+
+abbrev pub log_error_name : LogError → List ℕ
+log_error_name log.Memory = codes "Memory"
+log_error_name log.Device = codes "Device"
+log_error_name log.NotAJournal = codes "NotAJournal"
+log_error_name log.Damaged = codes "Damaged"
+log_error_name log.Full = codes "Full"
+log_error_name log.Stopped = codes "Stopped"
+log_error_name log.NoSuchEntry = codes "NoSuchEntry"
+log_error_name (log.BadEntry k) = codes "BadEntry"
+log_error_name (log.IllegalLog k) = codes "IllegalLog"
 
 abbrev pub desk_error_name : DeskError → List ℕ
 desk_error_name desk.Memory = codes "Memory"

@@ -1,11 +1,13 @@
 -- How often each answer was told. A number that has reached 2^64 - 1 stays.
-use Rattle.std.specs.Prelude.{◌≡◌, ◌≢◌, ◌<◌, ◌+◌, ◌-◌, ◌^◌, ℕ, min}
+use Rattle.std.specs.Prelude.{◌≡◌, ◌<◌, ◌+◌, ◌-◌, ◌^◌, ℕ, min}
 use Rattle.streams.specs.Counting.{one_more}
 use Rattle.vote_desk.specs.declared.desk_error.DeskError.TheVariants as desk
 use Rattle.vote_desk.specs.declared.reply.Answer.{Answer}
 use Rattle.vote_desk.specs.declared.reply.Answer.TheVariants.{Voted, Raised, Held}
-use Rattle.replica_lines.specs.declared.outcome.Outcome.{Outcome}
-use Rattle.replica_lines.specs.declared.outcome.Outcome.TheVariants as came
+use Rattle.replica_answers.specs.declared.outcome.Outcome.{Outcome}
+use Rattle.replica_answers.specs.declared.outcome.Outcome.TheVariants as came
+use Rattle.signer_answers.specs.declared.told.Told.{Told}
+use Rattle.signer_answers.specs.declared.told.Told.TheVariants as tell
 use Rattle.signer_calls.specs.declared.call.CallRefusal.{CallRefusal}
 use Rattle.signer_calls.specs.declared.call.CallRefusal.TheVariants as refused
 use Rattle.signing_service.specs.declared.tallies.Numbers.{Numbers}
@@ -51,7 +53,12 @@ after_outcome n (came.RefusedCertificate refusal) = record n { refused_certifica
 after_outcome n (came.RefusedBlock refusal) = record n { refused_blocks = one_more n.refused_blocks }
 after_outcome n (came.RefusedByDesk (desk.Core refusal)) = record n { refused_by_core = one_more n.refused_by_core }
 after_outcome n (came.RefusedByDesk refusal) = record n { refused_by_desk = one_more n.refused_by_desk }
-after_outcome n came.BadLine = n
+
+-- a vote that is told again counts as a block that is held; that none is taken, or the log can't be read, as the desk's refusal
+abbrev pub after_told : Numbers → Told → Numbers
+after_told n (tell.Came outcome) = after_outcome n outcome
+after_told n (tell.Again receipt committed) = after_answer n Held
+after_told n _ = record n { refused_by_desk = one_more n.refused_by_desk }
 
 abbrev pub after_refusal : Numbers → CallRefusal → Numbers
 after_refusal n refused.NoSuchCall = record n { no_such_calls = one_more n.no_such_calls }
@@ -91,8 +98,8 @@ CountsAnswer old new = (answers_of new ≡ answers_of old + 1) × (refusals_of n
 abbrev pub CountsRefusal : (old new : Numbers) → Type 0
 CountsRefusal old new = (refusals_of new ≡ refusals_of old + 1) × (answers_of new ≡ answers_of old)
 
--- a refused call is counted once, and so is each outcome of a block or a timeout, as long as no number has reached its end
+-- a refused call is counted once, and so is what is told of a block or a timeout, as long as no number has reached its end
 abbrev pub EachIsCountedOnce : Type 0
 EachIsCountedOnce =
     (n : Numbers) → answers_of n < 2 ^ 64 - 1 → refusals_of n < 2 ^ 64 - 1
-    → ((r : CallRefusal) → CountsRefusal n (after_refusal n r)) × ((o : Outcome) → o ≢ came.BadLine → CountsAnswer n (after_outcome n o))
+    → ((r : CallRefusal) → CountsRefusal n (after_refusal n r)) × ((t : Told) → CountsAnswer n (after_told n t))

@@ -9,9 +9,12 @@ mod judging;
 mod laws;
 mod metrics;
 mod names;
+mod put_back;
+mod reception;
 mod refusing;
 mod serving;
 mod signer;
+mod sources;
 mod status;
 mod tallies;
 mod telling;
@@ -20,9 +23,14 @@ mod writing;
 
 pub use commits::Commits;
 pub use laws::each_is_counted_once;
+pub use put_back::{LONGEST_LINE, put_back_line};
+pub use reception::Reception;
 pub use serving::serve_calls;
 pub use signer::Signer;
-pub use signer_answers::{Approver, Gate, Keeper, NoSuccessor, PutBack, look_through};
+pub use signer_answers::{
+    Approver, Caller, Gate, Keeper, NoSuccessor, Office, PutBack, look_through,
+};
 pub use signer_calls::{CallRefusal, Rules};
+pub use sources::Sources;
 pub use tallies::{Numbers, Tallies};
-pub use witness::{NoWitness, Seen, Witness};
+pub use witness::{Event, NoWitness, Seen, Witness};

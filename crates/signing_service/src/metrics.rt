@@ -1,43 +1,64 @@
 //! The metrics of a signer, as Prometheus reads them.
 
-ghost use Rattle.std.specs.Prelude.{◌≡◌, ◌≤◌, ◌+◌, ◌++◌, []};
-ghost use Rattle.http_server.specs.Response.{IsResponse};
-ghost use Rattle.signing_service.specs.Metrics.{IsMetricsTold, committed_view, is_stopped, metrics_text, number_of, answers_text, refusals_text, times_text, calls_text, doors_text, arguments_text, views_text, rooms_text, process_text};
+ghost use Rattle.std.specs.Prelude.{◌≡◌, ◌≤◌, ◌+◌, ◌++◌, [], OnOk};
+ghost use Rattle.signing_service.specs.Metrics.{IsMetricsTold, answers_text, arguments_text, asking_text, calls_text, committed_view, doors_text, is_stopped, number_of, process_text, refusals_text, rooms_text, signer_text, source_text, sources_text, times_text, views_text};
 ghost use Rattle.signing_service.specs.Responses.{HasRoom, fields_of_kind};
 
 use crate::tallies::Numbers;
 use crate::writing::{Kind, put, put_field};
 use blocks::Ballot;
+use bytes::BufMut;
 use http_server::{Response, Rope};
+use std::alloc::AllocError;
 use vote_desk::DeskStatus;
 
-// How much room the metrics take at the most.
+// How much room the metrics take at the most, but for the sources.
 pub(crate) const METRICS_ROOM: usize = 12_288;
 
-// Tells the metrics.
-pub(crate) fn tell_metrics(
-    response: &mut Response,
-    numbers: &Numbers,
-    status: &DeskStatus,
-    put_back: &Option<Ballot>,
-    committed: &Option<Ballot>,
-)
-    requires { HasRoom (fields_of_kind Kind.Metrics) METRICS_ROOM response.old }
-    ensures { IsMetricsTold numbers.now status.now put_back.now committed.now response.new }
-{
-    put_metrics(
-        &mut response.body,
-        numbers,
-        status,
-        view_of(committed),
-        number_of(is_stopped(status, put_back)),
-    );
+// How much room a source's line takes at the most.
+const SOURCE_ROOM: usize = 128;
+
+// What the metrics tell.
+#[derive(Drop)]
+pub(crate) struct Measured {
+    pub numbers: Numbers,
+    pub status: DeskStatus,
+    /// What the log was found to be put back by, if it was.
+    pub put_back: Option<Ballot>,
+    pub committed: Option<Ballot>,
+    /// Whether others are still asked.
+    pub is_asking: bool,
+    /// Of each source that is asked, whether its log was read whole.
+    pub heard: Vec<bool>,
 }
 
-#[tactic(auto, unfolding(crate::specs::Metrics::metrics_text))]
-fn put_metrics(body: &mut Rope, numbers: &Numbers, status: &DeskStatus, committed: u64, stopped: u8)
+// Tells the metrics.
+pub(crate) fn tell_metrics(response: &mut Response, measured: &Measured) -> Result<(), AllocError>
+    requires { HasRoom (fields_of_kind Kind.Metrics) METRICS_ROOM response.old }
+    ensures { OnOk result (IsMetricsTold measured.now response.new) }
+{
+    put_signer(
+        &mut response.body,
+        &measured.numbers,
+        &measured.status,
+        view_of(&measured.committed),
+        number_of(is_stopped(&measured.status, &measured.put_back)),
+        number_of(measured.is_asking),
+    );
+    put_sources(&mut response.body, &measured.heard)
+}
+
+#[tactic(auto, unfolding(crate::specs::Metrics::signer_text))]
+fn put_signer(
+    body: &mut Rope,
+    numbers: &Numbers,
+    status: &DeskStatus,
+    committed: u64,
+    stopped: u8,
+    asking: u8,
+)
     requires { (body.old.items ≡ []) × (METRICS_ROOM ≤ body.old.spare) }
-    ensures { body.new.items ≡ metrics_text numbers.now status.now committed stopped }
+    ensures { body.new.items ≡ signer_text numbers.now status.now committed stopped asking }
 {
     put_answers(body, numbers);
     put_refusals(body, numbers);
@@ -47,8 +68,8 @@ fn put_metrics(body: &mut Rope, numbers: &Numbers, status: &DeskStatus, committe
     put_arguments(body, numbers);
     put_views(body, status, committed);
     put_rooms(body, status, stopped);
+    put_asking(body, asking);
     put_process(body, numbers);
-    put(body, b"\n");
 }
 
 fn view_of(committed: &Option<Ballot>) -> u64
@@ -285,6 +306,18 @@ fn put_rooms(body: &mut Rope, status: &DeskStatus, stopped: u8)
     );
 }
 
+fn put_asking(body: &mut Rope, asking: u8)
+    requires { 400 ≤ body.old.spare }
+    ensures items { body.new.items ≡ body.old.items ++ asking_text asking }
+    ensures spare { body.old.spare ≤ body.new.spare + 400 }
+{
+    put_field(
+        body,
+        b"\n# HELP hs_signer_asking Whether others are still asked for votes of this replica.\n# TYPE hs_signer_asking gauge\nhs_signer_asking ",
+        asking,
+    );
+}
+
 fn put_process(body: &mut Rope, numbers: &Numbers)
     requires { 1200 ≤ body.old.spare }
     ensures items { body.new.items ≡ body.old.items
@@ -301,4 +334,28 @@ fn put_process(body: &mut Rope, numbers: &Numbers)
         b"\n# HELP process_start_time_seconds When the process began, in seconds since 1970.\n# TYPE process_start_time_seconds gauge\nprocess_start_time_seconds ",
         numbers.started,
     );
+}
+
+// ---- the sources
+
+// Room is made for each line as it comes, since it depends on how many there are.
+fn put_sources(body: &mut Rope, heard: &[bool]) -> Result<(), AllocError>
+    ensures { OnOk result (body.new.items ≡ body.old.items ++ sources_text heard.now) }
+{
+    body.put_slice(
+        b"\n# HELP hs_signer_source_heard Whether the log of a source that is asked was read whole when it was asked last.\n# TYPE hs_signer_source_heard gauge",
+    )?;
+    for at in 0..heard.len() {
+        body.reserve(SOURCE_ROOM)?;
+        put_source(body, at, heard[at]);
+    }
+    body.put_slice(b"\n")
+}
+
+fn put_source(body: &mut Rope, at: usize, heard: bool)
+    requires { SOURCE_ROOM ≤ body.old.spare }
+    ensures { body.new.items ≡ body.old.items ++ source_text at heard }
+{
+    put_field(body, b"\nhs_signer_source_heard{source=\"", at);
+    put_field(body, b"\"} ", number_of(heard));
 }

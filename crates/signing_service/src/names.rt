@@ -1,12 +1,13 @@
 //! The names that docs/REFUSALS.md gives the refusals of other crates.
 
 ghost use Rattle.std.specs.Prelude.{◌≡◌, ◌≤◌, length};
-ghost use Rattle.signing_service.specs.Names.{block_refusal_name, certificate_refusal_name, core_refusal_name, desk_error_name, header_refusal_name, vote_refusal_name};
+ghost use Rattle.signing_service.specs.Names.{block_refusal_name, certificate_refusal_name, core_refusal_name, desk_error_name, header_refusal_name, log_error_name, vote_refusal_name};
 
 use blocks::HeaderRefusal;
 use certificates::{BlockRefusal, CertificateRefusal, VoteRefusal};
 use replica_core::CoreRefusal;
 use vote_desk::DeskError;
+use vote_log::LogError;
 
 pub(crate) fn header_refusal_name(refusal: HeaderRefusal) -> &'static [u8]
     ensures name { result.now ≡ header_refusal_name refusal }
@@ -65,6 +66,23 @@ pub(crate) fn core_refusal_name(refusal: CoreRefusal) -> &'static [u8]
         CoreRefusal::ParentView => b"ParentView",
         CoreRefusal::TreeFull => b"TreeFull",
         CoreRefusal::SameId => b"SameId",
+    }
+}
+
+pub(crate) fn log_error_name(refusal: LogError) -> &'static [u8]
+    ensures name { result.now ≡ log_error_name refusal }
+    ensures short { length result.now ≤ 20 }
+{
+    match refusal {
+        LogError::Memory => b"Memory",
+        LogError::Device => b"Device",
+        LogError::NotAJournal => b"NotAJournal",
+        LogError::Damaged => b"Damaged",
+        LogError::Full => b"Full",
+        LogError::Stopped => b"Stopped",
+        LogError::NoSuchEntry => b"NoSuchEntry",
+        LogError::BadEntry(_) => b"BadEntry",
+        LogError::IllegalLog(_) => b"IllegalLog",
     }
 }
 

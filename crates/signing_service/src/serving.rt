@@ -1,6 +1,7 @@
 //! The calls of one connection.
 
-ghost use Rattle.std.specs.Prelude.{◌≡◌, [], OnOk};
+ghost use Rattle.std.specs.Prelude.{◌≡◌, ◌++◌, [], ℕ, List, IsSome, OnOk};
+ghost use Rattle.std.specs.Io.KnownBytes.{Appends, Consumes};
 ghost use Rattle.std.specs.List.{All};
 ghost use Rattle.http_server.specs.Connection.{config_of, history};
 ghost use Rattle.http_server.specs.History.{IsDone, IsServed as IsAllServed};
@@ -26,12 +27,12 @@ pub fn serve_calls<
     T: Wait + Clock,
     D: Disk,
     V: Checker,
-    A: Approver + Keeper,
+    K: Approver + Keeper,
     S: Witness,
     R: Read,
     W: Write,
 >(
-    signer: &mut Signer<'a, N, T, D, V, A, S>,
+    signer: &mut Signer<'a, N, T, D, V, K, S>,
     connection: &mut Connection,
     reader: &mut R,
     writer: &mut W,
@@ -39,14 +40,23 @@ pub fn serve_calls<
     requires { (history connection.old).calls ≡ [] }
 
     // Each call has a reading, and was told what its call is told. The receipt of each vote that was told is in the
-    // session: so the vote stands in the log.
-    ensures backed { All (IsBacked D.Disk N.committee N.replica N.opening signer.old.rules.now
-        signer.old.gate.now.asks (A.tells signer.old.approver.now) signer.new.session.receipts.items) (history connection.new).calls }
-    ensures grows { ReceiptsGrow signer.old.session.receipts.items
-        signer.new.session.receipts.items }
+    // session: so the vote stands in the log. Who was shown before that the log was put back is told of nothing else.
+    ensures backed { All (IsBacked D.Disk N.committee N.replica N.opening
+        signer.old.reception.now.rules.now signer.old.reception.now.gate.now.asks
+        (K.tells signer.old.office.now.keeper.now) signer.old.caller.shown
+        signer.new.caller.session.receipts.items) (history connection.new).calls }
+    ensures grows { ReceiptsGrow signer.old.caller.session.receipts.items
+        signer.new.caller.session.receipts.items }
+    ensures shown { IsSome signer.old.caller.shown → IsSome signer.new.caller.shown }
 
-    // What went out is the answers to the first requests that came, in order.
+    // What went out is the answers to the first requests that came, in order. These came from the reader, and went to the writer.
     ensures served { ∥ IsAllServed (config_of connection.new) (history connection.new) ∥₁ }
+    ensures read { (more : List ℕ)
+        × Consumes (R.remaining reader.old) (R.remaining reader.new) more
+        × ((history connection.new).received ≡ (history connection.old).received ++ more) }
+    ensures written { (more : List ℕ)
+        × Appends (W.contents writer.old) (W.contents writer.new) more
+        × ((history connection.new).sent ≡ (history connection.old).sent ++ more) }
     ensures done { OnOk result (IsDone (history connection.new)) }
 {
     serve(connection, signer, reader, writer)

@@ -1,41 +1,40 @@
 //! One caller's side of a desk, as a service.
 
-ghost use Rattle.std.specs.Prelude.{◌≡◌, ◌<◌, ◌≤◌, ◌+◌, IsFalse, IsTrue, MatchOption, OnErr, OnOk, Option, codes};
+ghost use Rattle.std.specs.Prelude.{◌≡◌, ◌<◌, ◌≤◌, ◌+◌, IfOk, IfSome, IsFalse, IsSome, IsTrue, MatchOption, OnErr, OnOk, Option, codes};
 ghost use Rattle.http_server.specs.Response.{IsBlank};
-ghost use Rattle.signing_service.specs.CallAnswers.{IsCallServed, IsDeskHealthTold, IsDeskMetricsTold, IsDeskStatusTold, IsFar, IsHalt, IsHeaderTold, IsNear, IsOutcomeOf, IsPartTold, IsPast, IsServed, IsVoteJudged, IsVoteTold, SomeOne, committed_by, from_export, parent_view_of, receipts_told};
+ghost use Rattle.signer_answers.specs.Guards.{WasPutBack};
+ghost use Rattle.signing_service.specs.CallAnswers.{IsCallServed, IsDeskHealthTold, IsDeskMetricsTold, IsDeskStatusTold, IsFar, IsHalt, IsHeaderTold, IsMeasured, IsNear, IsOutcomeOf, IsPartTold, IsPast, IsServed, IsShut, IsStop, IsStopTo, IsVoteJudged, IsVoteTold, SomeOne, committed_by, from_export, parent_view_of, receipts_told};
 ghost use Rattle.signing_service.specs.Refusals.{IsRefusalTold, refusal_fields};
 ghost use Rattle.signing_service.specs.Responses.{IsLine, IsReady};
+ghost use Rattle.signing_service.specs.ToldLines.{block_asked};
 
-use crate::commits::Commits;
-use crate::halt::{Halt, tell_halt};
+use crate::halt::{Halt, tell_halt, tell_unhealthy};
 use crate::health::tell_health;
 use crate::judging::tell_judgement;
-use crate::metrics::{METRICS_ROOM, tell_metrics};
+use crate::metrics::{METRICS_ROOM, Measured, tell_metrics};
+use crate::reception::Reception;
 use crate::refusing::{refuse, tell_refused};
 use crate::status::tell_status;
-use crate::tallies::Tallies;
-use crate::telling::{
-    tell_asking, tell_desk, tell_outcome, tell_put_back, tell_receipt, tell_text,
-};
+use crate::telling::{tell_log, tell_receipt, tell_text, tell_told};
 use crate::witness::{Witness, seen_of};
-use crate::writing::{Kind, fill, make_ready, make_room};
-use blocks::{Ballot, CommitteeView, Id};
+use crate::writing::{Kind, fill, make_ready, make_room, make_to_retry, settle};
+use blocks::{Ballot, Id};
 use bytes::Bytes;
 use certificates::SignedVote;
 use good_votes::{Checker, Known};
 use http::Request;
 use http_server::{Response, Service};
-use replica_lines::{Outcome, Request as Asked};
-use signer_answers::{Approver, Gate, Keeper, PutBack, Told, answer};
-use signer_calls::{Call, CallRefusal, LogPart, Rules, call_of};
+use replica_answers::{Outcome, Request as Asked};
+use signer_answers::{Approver, Caller, Keeper, Office, Told, answer};
+use signer_calls::{Call, CallRefusal, LogPart, call_of};
 use stable_log::Disk;
 use std::alloc::{AllocError, Global};
 use std::io;
 use std::sync::Wait;
 use std::time::{Clock, Instant};
 use streams::MemorySink;
-use vote_desk::{Desk, DeskError, DeskNaming, Session};
-use vote_log::ExportError;
+use vote_desk::{DeskNaming, Session};
+use vote_log::{ExportError, LogError};
 
 /// A replica's desk as one caller sees it: each call is answered at once, by what the desk answers.
 #[derive(Drop)]
@@ -45,25 +44,15 @@ pub struct Signer<
     R: Wait + Clock,
     D: Disk,
     V: Checker,
-    A: Approver + Keeper,
+    K: Approver + Keeper,
     W: Witness,
 > {
     rt: &'a R,
     alloc: Global,
-    desk: &'a Desk<N, D>,
-    committee: &'a CommitteeView<'a>,
+    office: &'a Office<'a, N, D, K>,
     verifier: &'a V,
-    approver: &'a A,
-    rules: &'a Rules,
-    replica: u16,
-    commits: &'a Commits<N>,
-    put_back: &'a PutBack<N, D>,
-    gate: &'a Gate<N, D>,
-    tallies: &'a Tallies,
-    witness: &'a W,
-    session: Session<N>,
-    ghost committee_is: { committee.now ≡ N.committee },
-    ghost replica_is: { replica ≡ N.replica },
+    reception: &'a Reception<'a, N, D, W>,
+    caller: Caller<'a, N, D, K>,
 }
 
 impl<
@@ -72,90 +61,90 @@ impl<
     R: Wait + Clock,
     D: Disk,
     V: Checker,
-    A: Approver + Keeper,
+    K: Approver + Keeper,
     W: Witness,
-> Signer<'a, N, R, D, V, A, W> {
-    /// The side of the caller of this session. The witness is shown each call that was answered.
+> Signer<'a, N, R, D, V, K, W> {
+    /// The side of the caller of this session, who has not been told yet that the log was put back.
     pub fn new(
         rt: &'a R,
         alloc: Global,
-        desk: &'a Desk<N, D>,
-        committee: &'a CommitteeView<'a>,
-        replica: u16,
+        office: &'a Office<'a, N, D, K>,
         verifier: &'a V,
-        approver: &'a A,
-        rules: &'a Rules,
-        commits: &'a Commits<N>,
-        put_back: &'a PutBack<N, D>,
-        gate: &'a Gate<N, D>,
-        tallies: &'a Tallies,
-        witness: &'a W,
+        reception: &'a Reception<'a, N, D, W>,
         session: Session<N>,
-    ) -> Signer<'a, N, R, D, V, A, W>
-        requires committee { committee.now ≡ N.committee }
-        requires replica { replica ≡ N.replica }
-        ensures session { result.session ≡ session }
-        ensures rules { result.rules.now ≡ rules.now }
-        ensures approver { result.approver.now ≡ approver.now }
-        ensures gate { result.gate.now ≡ gate.now }
+    ) -> Signer<'a, N, R, D, V, K, W>
+        ensures session { result.caller.session ≡ session }
+        ensures office { result.office.now ≡ office.now }
+        ensures reception { result.reception.now ≡ reception.now }
     {
         Signer {
             rt,
             alloc,
-            desk,
-            committee,
+            office,
             verifier,
-            approver,
-            rules,
-            replica,
-            commits,
-            put_back,
-            gate,
-            tallies,
-            witness,
-            session,
+            reception,
+            caller: Caller::new(session),
         }
     }
 
     /// The session, which the desk wants back when it is closed.
     pub fn into_session(self) -> Session<N>
-        ensures { result ≡ self.entry.session }
+        ensures { result ≡ self.entry.caller.session }
     {
-        let Signer { session, .. } = self;
-        session
+        let Signer { caller, .. } = self;
+        caller.into_session()
     }
 
     // Why no block or timeout is taken, if none is: first that the log was put back.
     fn halt(&self) -> Option<Halt>
-        ensures { MatchOption result
-            (IsPast D.Disk N.committee N.replica N.opening self.now.gate.now.asks)
-            (IsHalt D.Disk N.committee N.replica N.opening self.now.gate.now.asks) }
+        ensures halt { MatchOption result
+            (IsPast D.Disk N.committee N.replica N.opening self.now.reception.now.gate.now.asks)
+            (IsHalt D.Disk N.committee N.replica N.opening self.now.reception.now.gate.now.asks) }
+
+        // Who was shown that the log was put back is always stopped by it.
+        ensures shown { IsSome self.now.caller.shown → IsStop result }
     {
-        if let Some(ballot) = self.put_back.found(self.rt) {
+        if let Some(ballot) = self.put_back() {
             return Some(Halt::PutBack(ballot));
         }
-        if !self.gate.is_open(self.rt) {
+        if self.is_asking() {
             return Some(Halt::Asking);
         }
         None
     }
 
+    // What the log was found to be put back by, if it was.
+    fn put_back(&self) -> Option<Ballot>
+        ensures found { IfSome result (WasPutBack D.Disk N.committee N.replica N.opening) }
+        ensures shown { IsSome self.now.caller.shown → IsSome result }
+    {
+        self.office.put_back.found(self.rt, &self.caller.shown)
+    }
+
+    // Whether others are still asked.
+    fn is_asking(&self) -> bool
+        ensures { IsShut D.Disk N.committee N.replica N.opening
+            self.now.reception.now.gate.now.asks result }
+    {
+        !self.reception.gate.is_open()
+    }
+
     // Whether a view lies too far above the desk's vote view.
     fn is_far(&self, view: u64) -> bool
         ensures far { IsTrue result → SomeOne D.Disk N.committee N.replica N.opening
-            (λ d. d.core.state.vote_view + self.now.rules.now.furthest < view) }
+            (λ d. d.core.state.vote_view + self.now.reception.now.rules.now.furthest < view) }
         ensures near { IsFalse result → SomeOne D.Disk N.committee N.replica N.opening
-            (λ d. view ≤ d.core.state.vote_view + self.now.rules.now.furthest) }
+            (λ d. view ≤ d.core.state.vote_view + self.now.reception.now.rules.now.furthest) }
     {
-        let at = self.desk.status(self.rt).vote_view;
-        view.saturating_sub(at) > self.rules.furthest
+        let at = self.office.desk.status(self.rt).vote_view;
+        view.saturating_sub(at) > self.reception.rules.furthest
     }
 
     fn lies_far(&self, asked: &Asked) -> bool
         ensures far { IsTrue result → IsFar D.Disk N.committee N.replica N.opening
-            self.now.rules.now.furthest asked.now }
+            self.now.reception.now.rules.now.furthest asked.now }
         ensures near { IsFalse result → IsNear D.Disk N.committee N.replica N.opening
-            self.now.rules.now.furthest asked.now }
+            self.now.reception.now.rules.now.furthest asked.now }
     {
         match asked {
             Asked::Block(header, _) => self.is_far(header.view),
@@ -169,7 +158,7 @@ impl<
         match asked {
             Asked::Block(_, certificate) => {
                 self.verifier
-                    .check_ahead(self.alloc, self.committee, certificate)
+                    .check_ahead(self.alloc, self.office.committee, certificate)
             }
             _ => Known::new(self.alloc),
         }
@@ -178,11 +167,14 @@ impl<
     // What comes of a block or a timeout, unless none is taken, or its view lies too far ahead.
     fn outcome_of(&mut self, asked: Asked) -> Option<Told>
         ensures outcome { IsOutcomeOf D.Disk N.committee N.replica N.opening
-            self.old.rules.now.furthest self.old.gate.now.asks (A.tells self.old.approver.now) asked result }
-        ensures receipts { self.new.session.receipts.items
-            ≡ receipts_told self.old.session.receipts.items result }
-        ensures same { (self.new.rules ≡ self.old.rules) × (self.new.approver ≡ self.old.approver)
-            × (self.new.gate ≡ self.old.gate) }
+            self.old.reception.now.rules.now.furthest self.old.reception.now.gate.now.asks
+            (K.tells self.old.office.now.keeper.now)
+            self.old.caller.session.receipts.items asked result }
+        ensures receipts { self.new.caller.session.receipts.items
+            ≡ receipts_told self.old.caller.session.receipts.items result }
+        ensures stop { IsSome self.old.caller.shown → IsStopTo result }
+        ensures shown { IsSome self.old.caller.shown → IsSome self.new.caller.shown }
+        ensures same { (self.new.office ≡ self.old.office) × (self.new.reception ≡ self.old.reception) }
     {
         match self.halt() {
             Some(Halt::PutBack(ballot)) => return Some(Told::PutBack(ballot)),
@@ -194,20 +186,10 @@ impl<
         }
         let known = self.known_of(&asked);
         let parent_view = parent_view_of(&asked);
-        let told = answer(
-            self.rt,
-            self.desk,
-            self.committee,
-            &known,
-            self.approver,
-            self.put_back,
-            self.replica,
-            &mut self.session,
-            asked,
-        );
+        let told = answer(self.rt, self.office, &known, &mut self.caller, asked);
         if let Some(id) = committed_by(&told) {
             let view = parent_view.saturating_sub(2);
-            self.commits.note(self.rt, Ballot { view, id });
+            self.reception.commits.note(self.rt, Ballot { view, id });
         }
         Some(told)
     }
@@ -215,53 +197,54 @@ impl<
     // .. counted, with the time that a block takes.
     fn counted_outcome_of(&mut self, asked: Asked) -> Option<Told>
         ensures outcome { IsOutcomeOf D.Disk N.committee N.replica N.opening
-            self.old.rules.now.furthest self.old.gate.now.asks (A.tells self.old.approver.now) asked result }
-        ensures receipts { self.new.session.receipts.items
-            ≡ receipts_told self.old.session.receipts.items result }
-        ensures same { (self.new.rules ≡ self.old.rules) × (self.new.approver ≡ self.old.approver)
-            × (self.new.gate ≡ self.old.gate) }
+            self.old.reception.now.rules.now.furthest self.old.reception.now.gate.now.asks
+            (K.tells self.old.office.now.keeper.now)
+            self.old.caller.session.receipts.items asked result }
+        ensures receipts { self.new.caller.session.receipts.items
+            ≡ receipts_told self.old.caller.session.receipts.items result }
+        ensures stop { IsSome self.old.caller.shown → IsStopTo result }
+        ensures shown { IsSome self.old.caller.shown → IsSome self.new.caller.shown }
+        ensures same { (self.new.office ≡ self.old.office) × (self.new.reception ≡ self.old.reception) }
     {
         let is_block = is_block(&asked);
         let began = Instant::now(self.rt);
         let outcome = self.outcome_of(asked);
         self.count(&outcome);
         if is_block {
-            self.tallies
-                .count_block(self.rt, micros_since(self.rt, began));
+            let micros = micros_since(self.rt, began);
+            self.reception.tallies.count_block(self.rt, micros);
         }
         outcome
     }
 
-    // Counts what is told of a block or a timeout. That none is taken counts as the desk's refusal.
+    // Counts what is told of a block or a timeout.
     fn count(&self, told: &Option<Told>) {
         match told {
-            Some(Told::Came(outcome)) => self.tallies.count_outcome(self.rt, outcome),
-            Some(Told::PutBack(_) | Told::Asking) => {
-                let refused = Outcome::RefusedByDesk(DeskError::Stopped);
-                self.tallies.count_outcome(self.rt, &refused);
-            }
-            None => self.tallies.count_refusal(self.rt, CallRefusal::Far),
+            Some(told) => self.reception.tallies.count_told(self.rt, told),
+            None => self.count_refusal(CallRefusal::Far),
         }
     }
 
+    fn count_refusal(&self, refusal: CallRefusal) {
+        self.reception.tallies.count_refusal(self.rt, refusal);
+    }
+
     // Does what is asked of the replica. Room for the answer is made first: behind that nothing fails.
-    fn ask(&mut self, asked: Asked, response: &mut Response) -> Result<(), AllocError>
+    fn ask(&mut self, asked: Asked, response: &mut Response) -> Result<Option<Told>, AllocError>
         requires { IsBlank response.old }
-        ensures ok { OnOk result (IsCallServed D.Disk N.committee N.replica N.opening
-            self.old.rules.now self.old.gate.now.asks (A.tells self.old.approver.now) (Call.Replica asked) self.old.session.receipts.items response.new
-            self.new.session.receipts.items) }
-        ensures same { (self.new.rules ≡ self.old.rules) × (self.new.approver ≡ self.old.approver)
-            × (self.new.gate ≡ self.old.gate) }
+        ensures ok { IfOk result (IsCallServed D.Disk N.committee N.replica N.opening
+            self.old.reception.now.rules.now self.old.reception.now.gate.now.asks
+            (K.tells self.old.office.now.keeper.now) (Call.Replica asked)
+            self.old.caller.session.receipts.items self.old.caller.shown response.new
+            self.new.caller.session.receipts.items self.new.caller.shown) }
+        ensures same { (self.new.office ≡ self.old.office) × (self.new.reception ≡ self.old.reception) }
         ensures err { OnErr result (self.new ≡ self.old) }
     {
-        make_ready(response, Kind::Text)?;
-        match self.counted_outcome_of(asked) {
-            Some(Told::Came(outcome)) => tell_outcome(response, &outcome),
-            Some(Told::PutBack(ballot)) => tell_put_back(response, &ballot),
-            Some(Told::Asking) => tell_asking(response),
-            None => tell_refused(response, CallRefusal::Far),
-        }
-        Ok(())
+        make_to_retry(response)?;
+        let block = block_asked(&asked);
+        let told = self.counted_outcome_of(asked);
+        tell_told(response, &block, &told);
+        Ok(told)
     }
 
     // Tells that something is not there.
@@ -269,7 +252,7 @@ impl<
         requires { IsReady (refusal_fields refusal) response.old }
         ensures { IsRefusalTold refusal response.new }
     {
-        self.tallies.count_refusal(self.rt, refusal);
+        self.count_refusal(refusal);
         tell_refused(response, refusal);
     }
 
@@ -278,7 +261,7 @@ impl<
         requires { IsBlank response.old }
         ensures { OnOk result (IsRefusalTold refusal response.new) }
     {
-        self.tallies.count_refusal(self.rt, refusal);
+        self.count_refusal(refusal);
         refuse(response, refusal)
     }
 
@@ -288,11 +271,17 @@ impl<
         ensures { OnOk result
             (IsVoteTold D.Disk N.committee N.replica N.opening view response.new) }
     {
-        make_ready(response, Kind::Text)?;
-        match self.desk.vote_in(self.rt, view) {
-            Ok(Some(receipt)) => tell_receipt(response, &receipt),
-            Ok(None) => self.tell_missing(response, CallRefusal::NoVote),
-            Err(error) => tell_desk(response, DeskError::from(error)),
+        make_to_retry(response)?;
+        match self.office.desk.vote_in(self.rt, view) {
+            Ok(Some(receipt)) => {
+                settle(response);
+                tell_receipt(response, &receipt);
+            }
+            Ok(None) => {
+                settle(response);
+                self.tell_missing(response, CallRefusal::NoVote);
+            }
+            Err(error) => tell_log(response, error),
         }
         Ok(())
     }
@@ -304,7 +293,7 @@ impl<
             (IsHeaderTold D.Disk N.committee N.replica N.opening id.now response.new) }
     {
         make_ready(response, Kind::Text)?;
-        if self.desk.holds(self.rt, id) {
+        if self.office.desk.holds(self.rt, id) {
             tell_text(response, b"held\n");
         } else {
             self.tell_missing(response, CallRefusal::NotHeld);
@@ -319,11 +308,15 @@ impl<
             (IsPartTold D.Disk N.committee N.replica N.opening part response.new) }
     {
         let mut copy = MemorySink::new(self.alloc);
-        match self.desk.export(self.rt, part.first, part.most, &mut copy) {
+        match self
+            .office
+            .desk
+            .export(self.rt, part.first, part.most, &mut copy)
+        {
             Ok(_) => fill(response, copy.bytes()),
             Err(error) => {
-                make_ready(response, Kind::Text)?;
-                tell_desk(response, from_export(error));
+                make_to_retry(response)?;
+                tell_log(response, from_export(error));
                 Ok(())
             }
         }
@@ -333,12 +326,12 @@ impl<
     fn tell_desk_health(&self, response: &mut Response) -> Result<(), AllocError>
         requires { IsBlank response.old }
         ensures { OnOk result
-            (IsDeskHealthTold D.Disk N.committee N.replica N.opening self.now.gate.now.asks response.new) }
+            (IsDeskHealthTold D.Disk N.committee N.replica N.opening self.now.reception.now.gate.now.asks response.new) }
     {
         make_ready(response, Kind::Text)?;
         match self.halt() {
-            Some(halt) => tell_halt(response, halt),
-            None => tell_health(response, &self.desk.status(self.rt)),
+            Some(halt) => tell_unhealthy(response, halt),
+            None => tell_health(response, &self.office.desk.status(self.rt)),
         }
         Ok(())
     }
@@ -347,30 +340,30 @@ impl<
     fn judge(&self, vote: &SignedVote, response: &mut Response) -> Result<(), AllocError>
         requires { IsBlank response.old }
         ensures { OnOk result
-            (IsVoteJudged D.Disk N.committee N.replica N.opening self.now.gate.now.asks vote.now response.new) }
+            (IsVoteJudged D.Disk N.committee N.replica N.opening self.now.reception.now.gate.now.asks vote.now response.new) }
     {
         if let Some(halt) = self.halt() {
-            make_ready(response, Kind::Text)?;
+            make_to_retry(response)?;
             tell_halt(response, halt);
             return Ok(());
         }
-        tell_judgement(self.committee, self.verifier, vote, response)
+        tell_judgement(self.office.committee, self.verifier, vote, response)
     }
 
     // Tells what the desk is at.
     fn tell_desk_status(&self, response: &mut Response) -> Result<(), AllocError>
         requires { IsBlank response.old }
         ensures { OnOk result
-            (IsDeskStatusTold D.Disk N.committee N.replica N.opening self.now.gate.now.asks response.new) }
+            (IsDeskStatusTold D.Disk N.committee N.replica N.opening self.now.reception.now.gate.now.asks response.new) }
     {
         make_ready(response, Kind::Json)?;
-        let status = self.desk.status(self.rt);
+        let status = self.office.desk.status(self.rt);
         let halted = self.halt();
-        let committed = self.commits.last(self.rt);
+        let committed = self.reception.commits.last(self.rt);
         tell_status(
             response,
-            self.committee,
-            self.replica,
+            self.office.committee,
+            self.office.replica,
             &status,
             &halted,
             &committed,
@@ -378,43 +371,57 @@ impl<
         Ok(())
     }
 
+    // What the metrics tell.
+    fn measure(&self) -> Result<Measured, AllocError>
+        ensures { IfOk result (IsMeasured D.Disk N.committee N.replica N.opening
+            self.now.reception.now.gate.now.asks) }
+    {
+        let heard = self.reception.sources.heard(self.alloc)?;
+        Ok(Measured {
+            numbers: self.reception.tallies.numbers(self.rt),
+            status: self.office.desk.status(self.rt),
+            put_back: self.put_back(),
+            committed: self.reception.commits.last(self.rt),
+            is_asking: self.is_asking(),
+            heard,
+        })
+    }
+
     // Tells what was told since the start, and what the desk is at.
     fn tell_desk_metrics(&self, response: &mut Response) -> Result<(), AllocError>
         requires { IsBlank response.old }
-        ensures { OnOk result
-            (IsDeskMetricsTold D.Disk N.committee N.replica N.opening response.new) }
+        ensures { OnOk result (IsDeskMetricsTold D.Disk N.committee N.replica N.opening
+            self.now.reception.now.gate.now.asks response.new) }
     {
+        let measured = self.measure()?;
         make_room(response, Kind::Metrics, METRICS_ROOM)?;
-        let numbers = self.tallies.numbers(self.rt);
-        let status = self.desk.status(self.rt);
-        let put_back = self.put_back.found(self.rt);
-        let committed = self.commits.last(self.rt);
-        tell_metrics(response, &numbers, &status, &put_back, &committed);
-        Ok(())
+        tell_metrics(response, &measured)
     }
 
-    // Does what a call asks for, and tells what came of it.
-    fn do_call(&mut self, call: Call, response: &mut Response) -> Result<(), AllocError>
+    // Does what a call asks for, and tells what came of it. Answers what was told of a block or a timeout.
+    fn do_call(&mut self, call: Call, response: &mut Response) -> Result<Option<Told>, AllocError>
         requires { IsBlank response.old }
-        ensures ok { OnOk result (IsCallServed D.Disk N.committee N.replica N.opening
-            self.old.rules.now self.old.gate.now.asks (A.tells self.old.approver.now) call self.old.session.receipts.items response.new
-            self.new.session.receipts.items) }
-        ensures same { (self.new.rules ≡ self.old.rules) × (self.new.approver ≡ self.old.approver)
-            × (self.new.gate ≡ self.old.gate) }
+        ensures ok { IfOk result (IsCallServed D.Disk N.committee N.replica N.opening
+            self.old.reception.now.rules.now self.old.reception.now.gate.now.asks
+            (K.tells self.old.office.now.keeper.now) call
+            self.old.caller.session.receipts.items self.old.caller.shown response.new
+            self.new.caller.session.receipts.items self.new.caller.shown) }
+        ensures same { (self.new.office ≡ self.old.office) × (self.new.reception ≡ self.old.reception) }
         ensures err { OnErr result (self.new ≡ self.old) }
     {
         match call {
-            Call::Replica(asked) => self.ask(asked, response),
-            Call::Judge(vote) => self.judge(&vote, response),
-            Call::VoteIn(view) => self.tell_vote(view, response),
-            Call::Header(id) => self.tell_header(&id, response),
-            Call::Log(part) => self.hand_out(part, response),
-            Call::Status => self.tell_desk_status(response),
-            Call::Live => tell_live(response),
-            Call::Health => self.tell_desk_health(response),
-            Call::Metrics => self.tell_desk_metrics(response),
-            Call::Refused(refusal) => self.tell_refusal(response, refusal),
+            Call::Replica(asked) => return self.ask(asked, response),
+            Call::Judge(vote) => self.judge(&vote, response)?,
+            Call::VoteIn(view) => self.tell_vote(view, response)?,
+            Call::Header(id) => self.tell_header(&id, response)?,
+            Call::Log(part) => self.hand_out(part, response)?,
+            Call::Status => self.tell_desk_status(response)?,
+            Call::Live => tell_live(response)?,
+            Call::Health => self.tell_desk_health(response)?,
+            Call::Metrics => self.tell_desk_metrics(response)?,
+            Call::Refused(refusal) => self.tell_refusal(response, refusal)?,
         }
+        Ok(None)
     }
 }
 
@@ -424,22 +431,25 @@ impl<
     R: Wait + Clock,
     D: Disk,
     V: Checker,
-    A: Approver + Keeper,
+    K: Approver + Keeper,
     W: Witness,
-> Service for Signer<'a, N, R, D, V, A, W> {
+> Service for Signer<'a, N, R, D, V, K, W> {
     ghost answers = { λ old request response new.
-        IsServed D.Disk N.committee N.replica N.opening old.rules.now old.gate.now.asks (A.tells old.approver.now)
-        old.session.receipts.items request response new.session.receipts.items
-        × (new.rules ≡ old.rules) × (new.approver ≡ old.approver) × (new.gate ≡ old.gate) };
+        IsServed D.Disk N.committee N.replica N.opening old.reception.now.rules.now
+        old.reception.now.gate.now.asks (K.tells old.office.now.keeper.now)
+        old.caller.session.receipts.items old.caller.shown request response
+        new.caller.session.receipts.items new.caller.shown
+        × (new.office ≡ old.office) × (new.reception ≡ old.reception) };
 
     fn call(
         &mut self,
         request: &Request<Bytes>,
         response: &mut Response,
     ) -> Result<(), AllocError> {
-        let call = call_of(self.alloc, self.rules, request)?;
-        self.do_call(call, response)?;
-        self.witness.saw(&seen_of(request, response));
+        let call = call_of(self.alloc, self.reception.rules, request)?;
+        let told = self.do_call(call, response)?;
+        let seen = seen_of(request, response, &told);
+        self.reception.witness.saw(&seen);
         Ok(())
     }
 }
@@ -472,24 +482,40 @@ fn parent_view_of(asked: &Asked) -> u64
     }
 }
 
+// The view and the id of a block that is asked for.
+fn block_asked(asked: &Asked) -> Option<Ballot>
+    ensures { result ≡ block_asked asked.now }
+{
+    match asked {
+        Asked::Block(header, _) => {
+            Some(Ballot {
+                view: header.view,
+                id: header.id(),
+            })
+        }
+        _ => None,
+    }
+}
+
 // The block that is committed by what was told.
 fn committed_by(told: &Told) -> Option<Id>
     ensures { result ≡ committed_by told.now }
 {
     match told {
         Told::Came(Outcome::Replied(reply)) => reply.committed,
+        Told::Again(_, committed) => *committed,
         _ => None,
     }
 }
 
-// What a refused export means to a caller.
-fn from_export(error: ExportError) -> DeskError
+// What a refused export is of the log.
+fn from_export(error: ExportError) -> LogError
     ensures { result ≡ from_export error }
 {
     match error {
-        ExportError::Stopped => DeskError::Stopped,
-        ExportError::Device => DeskError::Device,
-        ExportError::Memory | ExportError::Sink => DeskError::Memory,
+        ExportError::Stopped => LogError::Stopped,
+        ExportError::Device => LogError::Device,
+        ExportError::Memory | ExportError::Sink => LogError::Memory,
     }
 }
 

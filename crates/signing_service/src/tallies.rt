@@ -2,9 +2,10 @@
 
 ghost use Rattle.std.specs.Prelude.{◌≡◌};
 ghost use Rattle.streams.specs.Counting.{one_more};
-ghost use Rattle.signing_service.specs.Tallies.{after_answer, after_block, after_outcome, after_refusal, new_numbers};
+ghost use Rattle.signing_service.specs.Tallies.{after_answer, after_block, after_outcome, after_refusal, after_told, new_numbers};
 
-use replica_lines::Outcome;
+use replica_answers::Outcome;
+use signer_answers::Told;
 use signer_calls::CallRefusal;
 use std::sync::{Mutex, Wait};
 use vote_desk::{Answer, DeskError};
@@ -16,12 +17,14 @@ pub struct Numbers {
     pub started: u64,
     pub voted: u64,
     pub raised: u64,
+    /// .. and the votes that were told again.
     pub held: u64,
     pub timeouts: u64,
     pub refused_headers: u64,
     pub refused_certificates: u64,
     pub refused_blocks: u64,
     pub refused_by_core: u64,
+    /// .. and why no block or timeout was taken, or a block was not delivered since the log can't be read.
     pub refused_by_desk: u64,
     pub no_such_calls: u64,
     pub wrong_methods: u64,
@@ -71,6 +74,16 @@ impl Numbers {
         }
     }
 
+    fn count_told(&mut self, told: &Told)
+        ensures { self.new ≡ after_told self.old told.now }
+    {
+        match told {
+            Told::Came(outcome) => self.count_outcome(outcome),
+            Told::Again(_, _) => self.count_answer(&Answer::Held),
+            _ => self.refused_by_desk = one_more(self.refused_by_desk),
+        }
+    }
+
     fn count_outcome(&mut self, outcome: &Outcome)
         ensures { self.new ≡ after_outcome self.old outcome.now }
     {
@@ -86,7 +99,6 @@ impl Numbers {
                 self.refused_by_core = one_more(self.refused_by_core);
             }
             Outcome::RefusedByDesk(_) => self.refused_by_desk = one_more(self.refused_by_desk),
-            Outcome::BadLine => {}
         }
     }
 
@@ -152,10 +164,11 @@ impl Tallies {
         *numbers
     }
 
-    pub(crate) fn count_outcome<R: Wait>(&self, rt: &R, outcome: &Outcome) {
+    // Counts what was told of a block or a timeout.
+    pub(crate) fn count_told<R: Wait>(&self, rt: &R, told: &Told) {
         let mut numbers = self.numbers.lock(rt);
         let numbers = &mut *numbers;
-        numbers.count_outcome(outcome);
+        numbers.count_told(told);
     }
 
     pub(crate) fn count_refusal<R: Wait>(&self, rt: &R, refusal: CallRefusal) {

@@ -5,57 +5,83 @@ ghost use Rattle.hex.specs.Hex.{encode_lower};
 ghost use Rattle.certificates.specs.Votes.{vote_text};
 ghost use Rattle.vote_desk.specs.declared.reply.Answer.TheVariants.{Voted};
 ghost use Rattle.replica_lines.specs.OutcomeLines.{answer_text, commit_text, numbered_line};
-ghost use Rattle.signing_service.specs.CallAnswers.{IsAskingTold, IsDeskTold, IsPutBackTold, IsReceiptTold};
-ghost use Rattle.signing_service.specs.Responses.{IsLine, IsReady, fields_of_kind, named_line};
-ghost use Rattle.signing_service.specs.ToldLines.{core_status, desk_status, named_desk_line, outcome_status, put_back_line, told_line};
+ghost use Rattle.signing_service.specs.CallAnswers.{IsAskingTold, IsCameTold, IsDeskTold, IsLogTold, IsOutcomeTold, IsPutBackTold, IsReceiptTold, IsUnreadTold};
+ghost use Rattle.signing_service.specs.Responses.{IsLine, IsPassing, IsReady, fields_of_kind, fields_to_retry, named_line};
+ghost use Rattle.signing_service.specs.ToldLines.{act_text, block_text, core_status, desk_status, named_desk_line, outcome_status, reply_line, told_line};
 ghost use Rattle.signing_service.specs.declared.writing.TheConstants.{ROOM};
 
 use crate::names::{
     block_refusal_name, certificate_refusal_name, core_refusal_name, desk_error_name,
-    header_refusal_name,
+    header_refusal_name, log_error_name,
 };
-use crate::writing::{Kind, put, put_number};
+use crate::put_back::put_back_line;
+use crate::refusing::tell_refused;
+use crate::writing::{Kind, put, put_number, settle};
 use blocks::{Ballot, Id};
 use certificates::{SignedVote, VOTE_LEN};
 use http::StatusCode;
 use http_server::{Response, Rope};
 use printed_lines::id_digits;
+use replica_answers::Outcome;
 use replica_core::CoreRefusal;
-use replica_lines::Outcome;
-use vote_desk::{Answer, DeskError, Receipt, Reply};
+use signer_answers::Told;
+use signer_calls::CallRefusal;
+use vote_desk::{Answer, DeskError, Receipt};
+use vote_log::LogError;
 
-// Tells what came of a block or a timeout.
-pub(crate) fn tell_outcome(response: &mut Response, outcome: &Outcome)
-    requires { IsReady (fields_of_kind Kind.Text) response.old }
-    ensures { IsLine (outcome_status outcome.now) (told_line outcome.now) response.new }
+// Tells what came of a block or a timeout, if its view did not lie too far ahead.
+pub(crate) fn tell_told(response: &mut Response, block: &Option<Ballot>, told: &Option<Told>)
+    requires { IsReady fields_to_retry response.old }
+    ensures { IsOutcomeTold block.now told.now response.new }
 {
-    response.status = outcome_status(outcome);
-    put_outcome(&mut response.body, outcome);
+    match told {
+        Some(Told::Came(outcome)) => tell_came(response, block, outcome),
+        Some(Told::Asking) => tell_asking(response),
+        Some(Told::PutBack(ballot)) => tell_put_back(response, ballot),
+        Some(Told::Unread(error)) => tell_unread(response, *error),
+        Some(Told::Again(receipt, committed)) => {
+            settle(response);
+            put_reply(
+                &mut response.body,
+                block,
+                &Answer::Voted(*receipt),
+                committed,
+            );
+        }
+        None => {
+            settle(response);
+            tell_refused(response, CallRefusal::Far);
+        }
+    }
+}
+
+fn tell_came(response: &mut Response, block: &Option<Ballot>, outcome: &Outcome)
+    requires { IsReady fields_to_retry response.old }
+    ensures { IsCameTold block.now outcome.now response.new }
+{
+    match outcome {
+        Outcome::RefusedByDesk(refusal) => tell_desk(response, *refusal),
+        _ => {
+            settle(response);
+            response.status = outcome_status(outcome);
+            put_outcome(&mut response.body, block, outcome);
+        }
+    }
 }
 
 // Tells that the log was put back.
 pub(crate) fn tell_put_back(response: &mut Response, ballot: &Ballot)
-    requires { IsReady (fields_of_kind Kind.Text) response.old }
+    requires { IsReady fields_to_retry response.old }
     ensures { IsPutBackTold ballot.now response.new }
 {
-    response.status = StatusCode::SERVICE_UNAVAILABLE;
-    put_put_back(&mut response.body, ballot);
-}
-
-fn put_put_back(body: &mut Rope, ballot: &Ballot)
-    requires { (body.old.items ≡ []) × (ROOM ≤ body.old.spare) }
-    ensures { body.new.items ≡ put_back_line ballot.now }
-{
-    put(body, b"stopped vote view ");
-    put_number(body, ballot.view);
-    put(body, b" id ");
-    put(body, &id_digits(&ballot.id));
-    put(body, b" not in the log\n");
+    settle(response);
+    response.status = StatusCode::INTERNAL_SERVER_ERROR;
+    put(&mut response.body, &put_back_line(ballot));
 }
 
 // Tells that others are still asked.
 pub(crate) fn tell_asking(response: &mut Response)
-    requires { IsReady (fields_of_kind Kind.Text) response.old }
+    requires { IsReady fields_to_retry response.old }
     ensures { IsAskingTold response.new }
 {
     response.status = StatusCode::SERVICE_UNAVAILABLE;
@@ -63,12 +89,43 @@ pub(crate) fn tell_asking(response: &mut Response)
 }
 
 // Tells why the desk refuses.
-pub(crate) fn tell_desk(response: &mut Response, refusal: DeskError)
-    requires { IsReady (fields_of_kind Kind.Text) response.old }
+fn tell_desk(response: &mut Response, refusal: DeskError)
+    requires { IsReady fields_to_retry response.old }
     ensures { IsDeskTold refusal response.new }
 {
+    match refusal {
+        DeskError::Memory => {}
+        _ => settle(response),
+    }
     response.status = desk_status(refusal);
     put_desk(&mut response.body, refusal);
+}
+
+// Tells why the log was not read.
+pub(crate) fn tell_log(response: &mut Response, error: LogError)
+    requires { IsReady fields_to_retry response.old }
+    ensures { IsLogTold error response.new }
+{
+    match error {
+        LogError::Memory => tell_desk(response, DeskError::Memory),
+        LogError::Stopped => tell_desk(response, DeskError::Stopped),
+        _ => tell_unread(response, error),
+    }
+}
+
+// Tells that what the log has can't be read.
+fn tell_unread(response: &mut Response, error: LogError)
+    requires { IsReady fields_to_retry response.old }
+    ensures { IsUnreadTold error response.new }
+{
+    settle(response);
+    response.status = StatusCode::SERVICE_UNAVAILABLE;
+    put_named(
+        &mut response.body,
+        b"refused log ",
+        error.number(),
+        log_error_name(error),
+    );
 }
 
 // Tells a fixed line.
@@ -89,12 +146,12 @@ pub(crate) fn tell_receipt(response: &mut Response, receipt: &Receipt)
     put(&mut response.body, b"\n");
 }
 
-fn put_outcome(body: &mut Rope, outcome: &Outcome)
+fn put_outcome(body: &mut Rope, block: &Option<Ballot>, outcome: &Outcome)
     requires { (body.old.items ≡ []) × (ROOM ≤ body.old.spare) }
-    ensures { body.new.items ≡ told_line outcome.now }
+    ensures { body.new.items ≡ told_line block.now outcome.now }
 {
     match outcome {
-        Outcome::Replied(reply) => put_reply(body, reply),
+        Outcome::Replied(reply) => put_reply(body, block, &reply.act, &reply.committed),
         Outcome::TimedOut(view) => put_timeout(body, *view),
         Outcome::RefusedHeader(refusal) => {
             put_named(
@@ -121,7 +178,6 @@ fn put_outcome(body: &mut Rope, outcome: &Outcome)
             )
         }
         Outcome::RefusedByDesk(refusal) => put_desk(body, *refusal),
-        Outcome::BadLine => put(body, b"bad line\n"),
     }
 }
 
@@ -164,25 +220,40 @@ fn put_timeout(body: &mut Rope, view: u64)
     put(body, b"\n");
 }
 
-fn put_reply(body: &mut Rope, reply: &Reply)
+fn put_reply(body: &mut Rope, block: &Option<Ballot>, act: &Answer, committed: &Option<Id>)
     requires { (body.old.items ≡ []) × (ROOM ≤ body.old.spare) }
-    ensures { body.new.items ≡ answer_text reply.now.act ++ commit_text reply.now.committed
-        ++ codes "\n" }
+    ensures { body.new.items ≡ reply_line block.now act.now committed.now }
 {
-    put_answer(body, &reply.act);
-    put_commit(body, &reply.committed);
+    put_act(body, block, act);
+    put_commit(body, committed);
     put(body, b"\n");
 }
 
-fn put_answer(body: &mut Rope, answer: &Answer)
+fn put_act(body: &mut Rope, block: &Option<Ballot>, act: &Answer)
     requires { (body.old.items ≡ []) × (ROOM ≤ body.old.spare) }
-    ensures items { body.new.items ≡ answer_text answer.now }
+    ensures items { body.new.items ≡ act_text block.now act.now }
     ensures spare { 100 ≤ body.new.spare }
 {
-    match answer {
+    match act {
         Answer::Voted(receipt) => put_receipt(body, receipt),
-        Answer::Raised => put(body, b"raised"),
-        Answer::Held => put(body, b"held"),
+        Answer::Raised => put_of_block(body, b"raised", block),
+        Answer::Held => put_of_block(body, b"held", block),
+    }
+}
+
+// Adds a word, and the block that it is said of.
+fn put_of_block(body: &mut Rope, word: &[u8], block: &Option<Ballot>)
+    requires body { (body.old.items ≡ []) × (ROOM ≤ body.old.spare) }
+    requires word { length word.now ≤ 20 }
+    ensures items { body.new.items ≡ word.now ++ block_text block.now }
+    ensures spare { 100 ≤ body.new.spare }
+{
+    put(body, word);
+    if let Some(block) = block {
+        put(body, b" ");
+        put_number(body, block.view);
+        put(body, b" ");
+        put(body, &id_digits(&block.id));
     }
 }
 
@@ -223,9 +294,7 @@ fn outcome_status(outcome: &Outcome) -> StatusCode
 {
     match outcome {
         Outcome::Replied(_) | Outcome::TimedOut(_) => StatusCode::OK,
-        Outcome::RefusedHeader(_) | Outcome::RefusedCertificate(_) | Outcome::BadLine => {
-            StatusCode::BAD_REQUEST
-        }
+        Outcome::RefusedHeader(_) | Outcome::RefusedCertificate(_) => StatusCode::BAD_REQUEST,
         Outcome::RefusedBlock(_) => StatusCode::UNPROCESSABLE_ENTITY,
         Outcome::RefusedByDesk(refusal) => desk_status(*refusal),
     }
@@ -238,6 +307,7 @@ fn desk_status(refusal: DeskError) -> StatusCode
         DeskError::Core(CoreRefusal::TreeFull) => StatusCode::INSUFFICIENT_STORAGE,
         DeskError::Core(_) => StatusCode::PRECONDITION_FAILED,
         DeskError::KeySpent | DeskError::LogFull => StatusCode::INSUFFICIENT_STORAGE,
-        _ => StatusCode::SERVICE_UNAVAILABLE,
+        DeskError::Memory => StatusCode::SERVICE_UNAVAILABLE,
+        _ => StatusCode::INTERNAL_SERVER_ERROR,
     }
 }

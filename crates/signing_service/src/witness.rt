@@ -3,11 +3,26 @@
 ghost use Rattle.std.specs.Prelude.{◌≡◌};
 ghost use Rattle.http.specs.Request.{head_of};
 ghost use Rattle.http_uri.specs.Uri.{uri_path_and_query};
-ghost use Rattle.signing_service.specs.Witnesses.{IsSeen, target_text};
+ghost use Rattle.signing_service.specs.Witnesses.{IsSeen, event_of, target_text};
 
+use blocks::Ballot;
 use bytes::{Buf, Bytes};
 use http::Request;
 use http_server::Response;
+use replica_answers::Outcome;
+use signer_answers::Told;
+use vote_desk::DeskError;
+
+/// What a call came upon that stops the desk or its callers.
+#[derive(Clone, Copy, Debug, PartialEq, Eq)]
+pub enum Event {
+    /// Neither.
+    Nothing,
+    /// A disk failed under this call, and the desk is stopped.
+    DiskFailed,
+    /// The log was put back, by this call or before: it lacks a vote on this.
+    PutBack(Ballot),
+}
 
 /// A call that was answered.
 #[derive(Clone, Copy, Debug)]
@@ -22,6 +37,8 @@ pub struct Seen<'a> {
     pub length: usize,
     /// The body, or its first piece: whole where it is a line, with its line feed.
     pub body: &'a [u8],
+    /// What it came upon.
+    pub event: Event,
 }
 
 /// Who is shown each call that was answered, as a program that prints them. A witness cannot change the answer.
@@ -38,9 +55,13 @@ impl Witness for NoWitness {
     fn saw(&self, _call: &Seen<'_>) {}
 }
 
-// What is shown of a call and its response.
-pub(crate) fn seen_of<'a>(request: &'a Request<Bytes>, response: &'a Response) -> Seen<'a>
-    ensures { IsSeen request.now response.now result }
+// What is shown of a call, its response, and what was told of a block or a timeout.
+pub(crate) fn seen_of<'a>(
+    request: &'a Request<Bytes>,
+    response: &'a Response,
+    told: &Option<Told>,
+) -> Seen<'a>
+    ensures { IsSeen request.now response.now told.now result }
 {
     Seen {
         method: request.method().as_str().as_bytes(),
@@ -48,6 +69,18 @@ pub(crate) fn seen_of<'a>(request: &'a Request<Bytes>, response: &'a Response) -
         status: response.status.as_u16(),
         length: response.body.len(),
         body: response.body.chunk(),
+        event: event_of(told),
+    }
+}
+
+// What is come upon where this is told.
+fn event_of(told: &Option<Told>) -> Event
+    ensures { result ≡ event_of told.now }
+{
+    match told {
+        Some(Told::Came(Outcome::RefusedByDesk(DeskError::Device))) => Event::DiskFailed,
+        Some(Told::PutBack(ballot)) => Event::PutBack(*ballot),
+        _ => Event::Nothing,
     }
 }
 

@@ -2,8 +2,8 @@
 
 ghost use Rattle.std.specs.Prelude.{◌≡◌, ◌≤◌, ◌+◌, ◌++◌, OnOk, length};
 ghost use Rattle.http_server.specs.Response.{IsBlank, IsResponse};
-ghost use Rattle.signing_service.specs.Responses.{HasRoom, IsReady, fields_of_kind, kind_text};
-ghost use Rattle.signing_service.specs.declared.writing.Kind.TheVariants.{Octets};
+ghost use Rattle.signing_service.specs.Responses.{HasRoom, IsReady, fields_of_kind, fields_to_retry, kind_text};
+ghost use Rattle.signing_service.specs.declared.writing.Kind.TheVariants.{Octets, Text};
 
 use bytes::BufMut;
 use http::header::{HeaderName, HeaderValue};
@@ -13,6 +13,9 @@ use std::alloc::AllocError;
 
 /// How many bytes of a body have room before the desk is called. The longest line takes 3,083.
 pub(crate) const ROOM: usize = 4096;
+
+// How many fields each answer has.
+const FIELDS: usize = 3;
 
 /// Of what kind a body is.
 #[derive(Clone, Copy, Debug, PartialEq, Eq)]
@@ -56,7 +59,32 @@ pub(crate) fn make_room(response: &mut Response, kind: Kind, room: usize) -> Res
         HeaderName::from_static("cache-control"),
         HeaderValue::from_static("no-store"),
     )?;
+    response.add_header(
+        HeaderName::from_static("wezhgula-api"),
+        HeaderValue::from_static("1"),
+    )?;
     response.body.reserve(room)
+}
+
+// Adds the fields of a line on what passes by itself, and makes room for the line. What is told of anything else is settled
+// before: a field that is there can be taken away without fail.
+pub(crate) fn make_to_retry(response: &mut Response) -> Result<(), AllocError>
+    requires { IsBlank response.old }
+    ensures { OnOk result (IsReady fields_to_retry response.new) }
+{
+    make_ready(response, Kind::Text)?;
+    response.add_header(
+        HeaderName::from_static("retry-after"),
+        HeaderValue::from_static("1"),
+    )
+}
+
+// Takes back that the call may be made again.
+pub(crate) fn settle(response: &mut Response)
+    requires { IsReady fields_to_retry response.old }
+    ensures { IsReady (fields_of_kind Text) response.new }
+{
+    response.headers.truncate(FIELDS);
 }
 
 // Answers with these bytes, as many as they may be.

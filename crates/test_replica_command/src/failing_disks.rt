@@ -8,8 +8,9 @@ use fixtures::{certificates as texts, verdicts};
 use key_index_store::IndexStore;
 use lmots::PrivateSeed;
 use lms_tree::SigningTree;
+use replica_answers::Request;
 use replica_command::{Ending, ReplicaFault, StayEnd, stay};
-use replica_lines::Request;
+use replica_lines::LineRequest;
 use stable_log::MemoryDisk;
 use std::alloc::Global;
 use std::marker::Brand;
@@ -61,7 +62,7 @@ fn parts<R: Abort>(
 }
 
 // To deliver the block of this view on genesis.
-fn block<R: Abort>(rt: &R, alloc: Global, committee: &CommitteeView, view: u64) -> Request
+fn block<R: Abort>(rt: &R, alloc: Global, committee: &CommitteeView, view: u64) -> LineRequest
     requires { 0 < view }
 {
     let header = Header {
@@ -71,17 +72,17 @@ fn block<R: Abort>(rt: &R, alloc: Global, committee: &CommitteeView, view: u64) 
         payload: [0; 32],
     };
     let certificate = Certificate::read(alloc, texts::of_genesis()).ok();
-    Request::Block(header, certificate.expect(rt, "a certificate"))
+    LineRequest::Asked(Request::Block(header, certificate.expect(rt, "a certificate")))
 }
 
 // Three blocks, all on genesis, and a timeout.
-fn requests<R: Abort>(rt: &R, alloc: Global, committee: &CommitteeView) -> Vec<Request> {
+fn requests<R: Abort>(rt: &R, alloc: Global, committee: &CommitteeView) -> Vec<LineRequest> {
     let mut all = Vec::new(alloc);
     for view in 1..4 {
         let added = all.push(block(rt, alloc, committee, view)).is_ok();
         assert!(rt; added);
     }
-    let added = all.push(Request::Timeout(9)).is_ok();
+    let added = all.push(LineRequest::Asked(Request::Timeout(9))).is_ok();
     assert!(rt; added);
     all
 }
@@ -92,7 +93,7 @@ fn run<R: Threads + Wait + Sync>(
     alloc: Global,
     committee: &CommitteeView,
     parts: Parts<MemoryDisk>,
-    requests: Vec<Request>,
+    requests: Vec<LineRequest>,
     out: &mut MemorySink,
 ) -> Result<StayEnd<MemoryDisk>, ReplicaFault> {
     stay::<Brand, R, MemoryDisk, MemorySink>(

@@ -1,12 +1,15 @@
-//! A folder has one replica at a time.
+//! A folder has one replica at a time, and none where a file says so.
 
 use blocks::CommitteeView;
 use fixtures::verdicts;
 use key_files::KeyFile;
 use replica_command::{ReplicaFault, ReplicaFile, run_replica};
+use std::alloc::Global;
 use std::fs;
-use std::fs::OpenOptions;
+use std::fs::{File, Files, OpenOptions};
+use std::sync::Wait;
 use std::test::Fail;
+use std::thread::Threads;
 use streams::{Feed, MemoryFeed, MemorySink};
 use wire::KeyNumber;
 
@@ -41,5 +44,42 @@ fn a_second_replica_of_a_folder_is_refused(rt: HostRuntime) -> Result<(), Fail> 
     assert!(rt; read == Some(10) && out.bytes().is_empty());
     fs::remove_file(&rt, "held/lock")?;
     fs::remove_dir(&rt, "held")?;
+    Ok(())
+}
+
+// What a replica of the folder, in which is no seed, gives up for.
+fn fault_in<R: Files<File = File> + Threads + Wait + Sync>(
+    rt: &R,
+    alloc: Global,
+    folder: &str,
+) -> Option<ReplicaFault> {
+    let committee = CommitteeView::parse(verdicts::committee()).ok()?;
+    let mut lines = MemoryFeed::new(Vec::new(alloc));
+    let mut out = MemorySink::new(alloc);
+    let refused = run_replica(
+        rt, rt, alloc, &committee, 0, folder, 1, &mut lines, &mut out,
+    );
+    refused.err()
+}
+
+// None is run where its log was put back, nor where a disk failed until an operator removes the file that says so.
+#[test]
+fn a_folder_that_is_not_to_be_run_is_refused(rt: HostRuntime) -> Result<(), Fail> {
+    let alloc = rt.alloc();
+    let seed = Some(ReplicaFault::File(ReplicaFile::Key(KeyFile::Seed(KeyNumber::Zero))));
+    let failed = Some(ReplicaFault::File(ReplicaFile::DiskFailed));
+    let forgot = Some(ReplicaFault::File(ReplicaFile::PutBack));
+    fs::create_dir(&rt, "refused")?;
+    assert!(rt; fault_in(&rt, alloc, "refused") == seed);
+    fs::write(&rt, "refused/disk-failed", b"")?;
+    assert!(rt; fault_in(&rt, alloc, "refused") == failed);
+    fs::write(&rt, "refused/put-back", b"")?;
+    assert!(rt; fault_in(&rt, alloc, "refused") == forgot);
+    fs::remove_file(&rt, "refused/disk-failed")?;
+    assert!(rt; fault_in(&rt, alloc, "refused") == forgot);
+    fs::remove_file(&rt, "refused/put-back")?;
+    assert!(rt; fault_in(&rt, alloc, "refused") == seed);
+    fs::remove_file(&rt, "refused/lock")?;
+    fs::remove_dir(&rt, "refused")?;
     Ok(())
 }

@@ -1,14 +1,18 @@
 //! What lines ask for. The expected words follow from docs/FORMATS.md.
 
 use crate::stored::block_line;
-use replica_lines::{LONGEST_LINE, MOST_LINES, Request, read_requests};
+use replica_answers::Request;
+use replica_lines::{LONGEST_LINE, LineRequest, MOST_LINES, read_requests};
 use std::alloc::{AllocError, Global};
 use std::process::Abort;
 use std::test::Fail;
 use streams::{Feed, MemoryFeed};
 
 // A request in a word or two.
-fn described(alloc: Global, request: &Request) -> Result<String, AllocError> {
+fn described(alloc: Global, request: &LineRequest) -> Result<String, AllocError> {
+    let LineRequest::Asked(request) = request else {
+        return format!(in alloc; "bad line");
+    };
     match request {
         Request::Block(header, certificate) => {
             let view = header.view;
@@ -24,7 +28,6 @@ fn described(alloc: Global, request: &Request) -> Result<String, AllocError> {
             let number = refusal.number();
             format!(in alloc; "certificate {number}")
         }
-        Request::BadLine => format!(in alloc; "bad line"),
     }
 }
 
@@ -136,10 +139,10 @@ fn a_failed_read_drops_the_line_that_it_may_have_cut(rt: HostRuntime) -> Result<
     let behind = read_requests(alloc, &mut feed)?;
     // What is left of the cut line is no line of its own kind.
     assert!(rt; feed.failures() == 1 && before.len() + behind.len() == 500);
-    let is_cut = matches!(behind.first(), Some(Request::BadLine));
+    let is_cut = matches!(behind.first(), Some(LineRequest::BadLine));
     assert!(rt; is_cut);
     for request in &before {
-        assert!(rt; matches!(request, Request::Timeout(12)));
+        assert!(rt; matches!(request, LineRequest::Asked(Request::Timeout(12))));
     }
     Ok(())
 }

@@ -3,15 +3,16 @@
 use crate::stored::voted_line;
 use blocks::HeaderRefusal;
 use certificates::{BlockRefusal, CertificateRefusal, SignedVote};
+use replica_answers::Outcome;
 use replica_core::CoreRefusal;
-use replica_lines::{Outcome, write_outcome};
+use replica_lines::{LineOutcome, write_outcome};
 use std::alloc::Global;
 use std::test::Fail;
 use streams::MemorySink;
 use vote_desk::{Answer, DeskError, Receipt, Reply};
 use wire::{array_at, u16_at, u64_at};
 
-fn writes(alloc: Global, outcome: &Outcome, want: &str) -> bool {
+fn writes(alloc: Global, outcome: &LineOutcome, want: &str) -> bool {
     let mut out = MemorySink::new(alloc);
     write_outcome(&mut out, outcome) == Ok(()) && out.bytes() == want.as_bytes()
 }
@@ -38,10 +39,13 @@ fn short_lines_are_these(rt: HostRuntime) {
         ),
         (Outcome::RefusedByDesk(DeskError::KeySpent), "desk 3\n"),
         (Outcome::RefusedByDesk(DeskError::Stopped), "desk 6\n"),
-        (Outcome::BadLine, "bad line\n"),
     ] {
-        assert!(rt; writes(rt.alloc(), &outcome, want), "{want}");
+        assert!(rt;
+            writes(rt.alloc(), &LineOutcome::Came(outcome), want),
+            "{want}"
+        );
     }
+    assert!(rt; writes(rt.alloc(), &LineOutcome::BadLine, "bad line\n"));
 }
 
 #[test]
@@ -56,7 +60,7 @@ fn replies_without_a_vote_are_these(rt: HostRuntime) {
             "held committed abababababababababababababababababababababababababababababababab\n",
         ),
     ] {
-        let outcome = Outcome::Replied(Reply { act, committed });
+        let outcome = LineOutcome::Came(Outcome::Replied(Reply { act, committed }));
         assert!(rt; writes(rt.alloc(), &outcome, want), "{want}");
     }
 }
@@ -69,7 +73,7 @@ fn a_vote_is_written_with_all_its_bytes(rt: HostRuntime) -> Result<(), Fail> {
     let digits = line.get(3009..3073).ok_or("the id")?;
     let id = hex::decode(rt.alloc(), digits)?;
     assert!(rt; vote.len() == 1495 && id.len() == 32);
-    let outcome = Outcome::Replied(Reply {
+    let outcome = LineOutcome::Came(Outcome::Replied(Reply {
         act: Answer::Voted(Receipt {
             number: 3,
             vote: SignedVote {
@@ -81,7 +85,7 @@ fn a_vote_is_written_with_all_its_bytes(rt: HostRuntime) -> Result<(), Fail> {
             },
         }),
         committed: Some(array_at(&id, 0)),
-    });
+    }));
     assert!(rt; writes(rt.alloc(), &outcome, line));
     Ok(())
 }

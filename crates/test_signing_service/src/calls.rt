@@ -10,7 +10,8 @@ use key_index_store::IndexStore;
 use lmots::PrivateSeed;
 use lms_tree::SigningTree;
 use signing_service::{
-    Commits, Gate, NoSuccessor, PutBack, Rules, Seen, Signer, Tallies, Witness, serve_calls,
+    Commits, Event, Gate, NoSuccessor, Office, PutBack, Reception, Rules, Seen, Signer, Sources,
+    Tallies, Witness, serve_calls,
 };
 use stable_log::MemoryDisk;
 use std::alloc::{AllocError, Global};
@@ -30,11 +31,16 @@ fn disk<R: Abort>(rt: &R, alloc: Global) -> MemoryDisk {
     disk.expect(rt, "a disk")
 }
 
-// The parts of a new replica 0.
-fn parts<R: Abort>(rt: &R, alloc: Global, committee: &CommitteeView) -> Parts<MemoryDisk> {
+// The parts of a new replica.
+fn parts<R: Abort>(
+    rt: &R,
+    alloc: Global,
+    committee: &CommitteeView,
+    replica: u8,
+) -> Parts<MemoryDisk> {
     let secret = PrivateSeed {
-        key_id: [0; 16],
-        seed: [16; 32],
+        key_id: [replica; 16],
+        seed: [replica.wrapping_add(16); 32],
     };
     let index = IndexStore::create(alloc, disk(rt, alloc), 1).ok();
     let log = VoteLog::create(alloc, disk(rt, alloc), committee.genesis()).ok();
@@ -52,7 +58,8 @@ const ON_GENESIS: &[u8] = b"POST /block HTTP/1.1\r\nhost: a\r\ncontent-length: 1
 
 const ON_A_BLOCK: &[u8] = b"POST /block HTTP/1.1\r\nhost: a\r\ncontent-length: 4491\r\n\r\n";
 
-// The calls that deliver A1 to A4, of views 1 to 4, each on the one before; the last one commits A1.
+// The calls that deliver A1 to A4, of views 1 to 4, each on the one before; A4 commits A1, and comes twice. Behind them Z4, of view 4
+// on genesis.
 fn block_calls(alloc: Global) -> Result<Vec<u8>, AllocError> {
     let mut calls = Vec::new(alloc);
     for piece in [
@@ -68,17 +75,24 @@ fn block_calls(alloc: Global) -> Result<Vec<u8>, AllocError> {
         ON_A_BLOCK,
         core_blocks::a4(),
         core_blocks::certificate_of_a3(),
+        ON_A_BLOCK,
+        core_blocks::a4(),
+        core_blocks::certificate_of_a3(),
+        ON_GENESIS,
+        core_blocks::z4(),
+        texts::of_genesis(),
     ] {
         calls.extend_from_slice(piece)?;
     }
     Ok(calls)
 }
 
-// How many calls were answered, and how many of them by 200.
+// How many calls were answered, how many of them by 200, and how many were told that the log was put back.
 #[derive(Drop)]
 struct Counts {
     calls: AtomicU32,
     good: AtomicU32,
+    put_back: AtomicU32,
 }
 
 impl Witness for Counts {
@@ -87,51 +101,63 @@ impl Witness for Counts {
         if call.status == 200 {
             self.good.fetch_add(1, Ordering::SeqCst);
         }
+        if let Event::PutBack(_) = call.event {
+            self.put_back.fetch_add(1, Ordering::SeqCst);
+        }
     }
 }
 
-// What goes out where this comes in.
+// Whose desk is called, what its callers are let do, and who counts their calls.
+#[derive(Drop)]
+struct Scene<'a> {
+    alloc: Global,
+    committee: &'a CommitteeView<'a>,
+    replica: u16,
+    rules: &'a Rules,
+    counts: &'a Counts,
+}
+
+// What goes out where this comes in. Of two sources that might be asked the second was heard.
 fn sent<N: DeskNaming, R: Threads + Wait + Clock>(
     rt: &R,
-    alloc: Global,
+    scene: &Scene,
     keys: RandomState,
     blank: Blank,
-    committee: &CommitteeView,
     parts: Parts<MemoryDisk>,
-    rules: &Rules,
-    counts: &Counts,
     input: &[u8],
 ) -> Option<Vec<u8>>
     requires name { blank.name ≡ N.name }
     requires ledger { (blank.parts ≡ N.parts) × (N.parts ≡ 1) }
-    requires committee { committee.now ≡ N.committee }
-    requires replica { 0 ≡ N.replica }
+    requires committee { scene.now.committee.now ≡ N.committee }
+    requires replica { scene.now.replica ≡ N.replica }
     requires opening { parts.log.steps ≡ N.opening }
 {
-    let started = Desk::<N, MemoryDisk>::start(alloc, blank, committee, 0, parts, 1);
+    let (alloc, committee, replica) = (scene.alloc, scene.committee, scene.replica);
+    let started = Desk::<N, MemoryDisk>::start(alloc, blank, committee, replica, parts, 1);
     let (desk, mut sessions) = started.ok()?;
     let session = sessions.pop()?;
     let (commits, tallies) = (Commits::new(), Tallies::new(0));
+    let sources = Sources::new(alloc, 2).ok()?;
+    sources.set(1, true);
+    let (put_back, gate) = (PutBack::new(), Gate::new(false));
     let good = GoodVotes::new(alloc);
     let checker = SideBySide::new(rt, &good);
-    let put_back = PutBack::new();
-    let gate = Gate::new(false);
-    let mut signer = Signer::new(
-        rt,
-        alloc,
-        &desk,
+    let office = Office {
+        desk: &desk,
         committee,
-        0,
-        &checker,
-        &NoSuccessor,
-        rules,
-        &commits,
-        &put_back,
-        &gate,
-        &tallies,
-        counts,
-        session,
-    );
+        replica,
+        keeper: &NoSuccessor,
+        put_back: &put_back,
+    };
+    let reception = Reception {
+        gate: &gate,
+        rules: scene.rules,
+        commits: &commits,
+        tallies: &tallies,
+        sources: &sources,
+        witness: scene.counts,
+    };
+    let mut signer = Signer::new(rt, alloc, &office, &checker, &reception, session);
     let mut connection = Connection::new(alloc, keys, Config::default());
     let mut reader = input;
     let mut writer = Vec::new(alloc);
@@ -154,32 +180,32 @@ fn has(sent: &[u8], text: &[u8]) -> bool {
     (0..sent.len()).any(|at| sent[at..].starts_with(text))
 }
 
-// Whether the answers to the calls have these statuses, and say so.
-fn are_answers(alloc: Global, sent: &[u8]) -> bool {
-    let wanted = b"200 200 200 200 200 400 409 200 404 200 400 200 200 200 405 404 400 400 200 ";
+// Whether the answers have these statuses, one behind the other, and hold all these texts.
+fn are_answers(alloc: Global, sent: &[u8], wanted: &[u8], texts: &[&[u8]]) -> bool {
     let Ok(found) = statuses(alloc, sent) else {
         return false;
     };
-    found.as_slice() == wanted.as_slice()
-        && has(sent, b"\r\n\r\nvoted 0 0000")
-        && has(sent, COMMITTED)
-        && has(sent, b"timeout 5\n")
-        && has(sent, b"refused call 7 Far\n")
-        && has(sent, b"allow: GET, HEAD\r\n")
-        && has(sent, b"\"vote_view\":\"5\",\"stored_vote_view\":\"4\"")
-        && METRICS.iter().all(|line| has(sent, line))
+    found.as_slice() == wanted && texts.iter().all(|text| has(sent, text))
 }
 
-// What the status tells of A1, whose view is 1.
-const COMMITTED: &[u8] =
-    b"\"committed\":{\"view\":\"1\",\"id\":\"5b526f8ffa3d66249b11ba8431f9d960b08aad60e33b288aeef2d11f58c1c938\"}}";
+const STATUSES: &[u8] =
+    b"200 200 200 200 200 200 200 400 409 200 404 200 400 200 200 200 405 404 400 400 200 ";
 
-// What the metrics tell of the calls before.
-const METRICS: [&[u8]; 15] = [
+// What is told of the calls, of A1 as the last commit, and by the metrics of the calls before.
+const TOLD: [&[u8]; 27] = [
+    b"\r\nwezhgula-api: 1\r\n",
+    b"\r\n\r\nvoted 0 0000",
+    b" committed 5b526f8ffa3d66249b11ba8431f9d960b08aad60e33b288aeef2d11f58c1c938\nHTTP/1.1 200",
+    b"\r\n\r\nheld 4 7f8590adac467f490aab9dc8c593bf9f063cfe5c2ffb8dbb5ddf51458b07225a\n",
+    b"timeout 5\n",
+    b"refused call 7 Far\n",
+    b"allow: GET, HEAD\r\n",
+    b"\"vote_view\":\"5\",\"stored_vote_view\":\"4\"",
+    b"\"committed\":{\"view\":\"1\",\"id\":\"5b526f8ffa3d66249b11ba8431f9d960b08aad60e33b288aeef2d11f58c1c938\"}}",
     b"_answers_total{answer=\"voted\"} 4\n",
-    b"_answers_total{answer=\"held\"} 0\n",
+    b"_answers_total{answer=\"held\"} 2\n",
     b"_answers_total{answer=\"timeout\"} 1\n",
-    b"_block_seconds_count 4\n",
+    b"_block_seconds_count 6\n",
     b"_calls_total{reason=\"NoSuchCall\"} 1\n",
     b"_calls_total{reason=\"Method\"} 1\n",
     b"_calls_total{reason=\"Number\"} 2\n",
@@ -191,7 +217,36 @@ const METRICS: [&[u8]; 15] = [
     b"_calls_total{reason=\"Length\"} 1\n",
     b"hs_signer_vote_view 5\n",
     b"hs_signer_committed_view 1\n",
+    b"hs_signer_asking 0\n",
+    b"hs_signer_source_heard{source=\"0\"} 0\nhs_signer_source_heard{source=\"1\"} 1\n",
+    b"hs_signer_stopped 0\n",
 ];
+
+// Where the text stands in what went out, from this place on.
+fn place_of(sent: &[u8], from: usize, text: &[u8]) -> Option<usize> {
+    (from..sent.len()).find(|at| sent[*at..].starts_with(text))
+}
+
+// The line from this place on, without its line feed.
+fn line_at(sent: &[u8], at: usize) -> Option<&[u8]> {
+    let rest = sent.get(at..)?;
+    let end = rest.iter().position(|byte| *byte == b'\n')?;
+    rest.get(..end)
+}
+
+// Whether the first two lines that begin so are alike.
+fn is_told_twice(sent: &[u8], text: &[u8]) -> bool {
+    let Some(first) = place_of(sent, 0, text) else {
+        return false;
+    };
+    let Some(second) = place_of(sent, first.saturating_add(1), text) else {
+        return false;
+    };
+    match (line_at(sent, first), line_at(sent, second)) {
+        (Some(line), Some(again)) => line == again,
+        _ => false,
+    }
+}
 
 const CALLS: &[u8] = b"POST /timeout/5 HTTP/1.1\r\nhost: a\r\n\r\n\
 POST /timeout/05 HTTP/1.1\r\nhost: a\r\n\r\n\
@@ -209,34 +264,81 @@ GET /live?now HTTP/1.1\r\nhost: a\r\n\r\n\
 POST /vote HTTP/1.1\r\nhost: a\r\ncontent-length: 1\r\n\r\n0\
 GET /metrics HTTP/1.1\r\nhost: a\r\n\r\n";
 
-#[test]
-fn a_replica_answers_calls(rt: HostRuntime) {
-    let alloc = rt.alloc();
+// A2, whose certificate of A1 has a vote of replica 1, which its empty log lacks, and then other calls.
+fn put_back_calls(alloc: Global) -> Result<Vec<u8>, AllocError> {
+    let mut calls = Vec::new(alloc);
+    for piece in [
+        ON_A_BLOCK,
+        texts::header_a2(),
+        core_blocks::certificate_of_a1(),
+        b"POST /timeout/1 HTTP/1.1\r\nhost: a\r\n\r\nGET /health HTTP/1.1\r\nhost: a\r\n\r\nGET /vote/1 HTTP/1.1\r\nhost: a\r\n\r\n",
+    ] {
+        calls.extend_from_slice(piece)?;
+    }
+    Ok(calls)
+}
+
+// What goes out where replica R gets these calls, and how many calls were answered, how many by 200, and how many were told that its
+// log was put back.
+fn told<R: Abort + Threads + Wait + Clock>(
+    rt: &R,
+    alloc: Global,
+    keys: RandomState,
+    replica: u8,
+    input: &[u8],
+) -> (Option<Vec<u8>>, [u32; 3]) {
     let committee = CommitteeView::parse(verdicts::committee())
         .ok()
-        .expect(&rt, "a committee");
-    let mut input = block_calls(alloc).expect(&rt, "memory");
-    input.extend_from_slice(CALLS).expect(&rt, "memory");
+        .expect(rt, "a committee");
     let rules = Rules {
         over_tcp: false,
         hosts: Vec::new(alloc),
         reads_only: false,
         furthest: 4096,
     };
-    let keys = RandomState::new(&rt).ok().expect(&rt, "keys");
-    let parts = parts(&rt, alloc, &committee);
+    let parts = parts(rt, alloc, &committee, replica);
     let blank = Blank::new(1);
     let counts = Counts {
         calls: AtomicU32::new(0),
         good: AtomicU32::new(0),
+        put_back: AtomicU32::new(0),
     };
-    let sent = sent::<Brand, HostRuntime>(
-        &rt, alloc, keys, blank, &committee, parts, &rules, &counts, &input,
-    );
-    let (calls, good) = (
-        counts.calls.load(Ordering::SeqCst),
-        counts.good.load(Ordering::SeqCst),
-    );
-    assert!(rt; (calls, good) == (19, 11));
-    assert!(rt; sent.is_some_and(|sent| are_answers(alloc, &sent)));
+    let scene = Scene {
+        alloc,
+        committee: &committee,
+        replica: u16::from(replica),
+        rules: &rules,
+        counts: &counts,
+    };
+    let sent = sent::<Brand, R>(rt, &scene, keys, blank, parts, input);
+    let counted = [&counts.calls, &counts.good, &counts.put_back];
+    (sent, counted.map(|count| count.load(Ordering::SeqCst)))
 }
+
+#[test]
+fn a_replica_answers_calls(rt: HostRuntime) {
+    let alloc = rt.alloc();
+    let mut input = block_calls(alloc).expect(&rt, "memory");
+    input.extend_from_slice(CALLS).expect(&rt, "memory");
+    let keys = RandomState::new(&rt).ok().expect(&rt, "keys");
+    let (sent, counted) = told(&rt, alloc, keys, 0, &input);
+    let sent = sent.expect(&rt, "answers");
+    assert!(rt; counted == [21, 13, 0]);
+    assert!(rt; are_answers(alloc, &sent, STATUSES, &TOLD));
+    assert!(rt; is_told_twice(&sent, b"voted 3 0000"));
+}
+
+#[test]
+fn a_log_that_was_put_back_is_told(rt: HostRuntime) {
+    let alloc = rt.alloc();
+    let input = put_back_calls(alloc).expect(&rt, "memory");
+    let keys = RandomState::new(&rt).ok().expect(&rt, "keys");
+    let (sent, counted) = told(&rt, alloc, keys, 1, &input);
+    let sent = sent.expect(&rt, "answers");
+    assert!(rt; counted == [4, 0, 2]);
+    assert!(rt; are_answers(alloc, &sent, b"500 500 503 404 ", &[PUT_BACK]));
+}
+
+// What is told of A1.
+const PUT_BACK: &[u8] =
+    b"\r\n\r\nstopped vote view 1 id 5b526f8ffa3d66249b11ba8431f9d960b08aad60e33b288aeef2d11f58c1c938 not in the log\n";

@@ -5,7 +5,7 @@ use Rattle.streams.specs.declared.feed.Feed.{Ghosts as FeedGhosts}
 use Rattle.stable_log.specs.declared.disk.Disk.{Ghosts as DiskGhosts}
 use Rattle.log_transfer.specs.declared.connector.Connector.{Ghosts as ConnectorGhosts}
 use Rattle.log_transfer.specs.declared.source_connector.ServerOrFile.{ServerOrFile}
-use Rattle.replica_lines.specs.declared.request.Request.{Request}
+use Rattle.replica_lines.specs.declared.request.LineRequest.{LineRequest}
 use Rattle.tool_words.specs.declared.command.Command.{Command}
 use Rattle.tool_words.specs.declared.command.Command.TheVariants.{Usage, Keygen, Committee, Weighted, Replica, Audit, Migrate, Export}
 use Rattle.tool_commands.specs.Audits.{AreCulpritsPrinted, IsEnoughPrinted, IsTooLittlePrinted}
@@ -24,7 +24,7 @@ pub record Lent (D S F : Type 0) : Type 1 where
   pub connector : ConnectorGhosts (ServerOrFile S F)
   pub draws : List ℕ → Type 0
   pub rest : Option (List ℕ)
-  pub requests : List Request → Type 0
+  pub requests : List LineRequest → Type 0
 
 abbrev pub lend : {D S F R : Type 0} → DiskGhosts D → ConnectorGhosts (ServerOrFile S F) → (List ℕ → Type 0) → FeedGhosts R → R → R → Lent D S F
 lend disk connector draws feed old new = record { disk = disk; connector = connector; draws = draws; rest = feed.rest old; requests = AreReadOf feed old new }

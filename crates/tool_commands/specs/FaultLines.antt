@@ -1,19 +1,17 @@
 -- The line of each fault.
 use Rattle.std.specs.Prelude.{ℕ, List, ◌++◌, codes, decimal}
-use Rattle.key_files.specs.KeyFiles.{file_name}
 use Rattle.printed_lines.specs.Printed.{file_line}
 use Rattle.program_parts.specs.FaultLines.{fault_line, source_fault_line}
 use Rattle.program_parts.specs.declared.program_fault.ProgramFault.{ProgramFault}
+use Rattle.replica_command.specs.Folders.{name_in_folder}
 use Rattle.tool_commands.specs.declared.fault.FolderFile.{FolderFile}
-use Rattle.tool_commands.specs.declared.fault.FolderFile.TheVariants.{Key, Kept, Lock, PutBack, Verdict}
+use Rattle.tool_commands.specs.declared.fault.FolderFile.TheVariants.{Kept, Replica, Verdict}
 use Rattle.tool_commands.specs.declared.fault.ToolFault.{ToolFault}
 use Rattle.tool_commands.specs.declared.fault.ToolFault.TheVariants.{Hex, FileIn, Sources, Store, Receipts, Listen}
 
 -- a file behind its folder
 abbrev pub name_behind : FolderFile → List ℕ
-name_behind (Key file) = codes "/" ++ file_name file
-name_behind Lock = codes "/lock"
-name_behind PutBack = codes "/put-back"
+name_behind (Replica file) = codes "/" ++ name_in_folder file
 name_behind (Verdict replica) = codes "/verdict-" ++ decimal replica ++ codes ".hsx"
 name_behind (Kept replica source) = codes "/" ++ decimal replica ++ codes "-" ++ decimal source ++ codes ".hsl"
 

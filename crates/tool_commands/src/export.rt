@@ -9,6 +9,7 @@ use crate::occupied::see_new;
 use log_export::{JournalFront, MOST_OF_A_JOURNAL, read_front, send_export};
 use printed_lines::put_number;
 use program_parts::{InputFault, ProgramFault, read_at_most};
+use replica_command::ReplicaFile;
 use safe_files::{NewName, folder_of, is_nothing_at};
 use stable_log::JournalError;
 use std::alloc::{AllocError, Global};
@@ -80,7 +81,7 @@ fn ask_lock<'a, F: Files<File = File>>(
 {
     let folder = folder_of(log);
     let path = format!(in alloc; "{folder}/lock")?;
-    let fault = Fault::Own(ToolFault::FileIn(folder, FolderFile::Lock));
+    let fault = Fault::Own(ToolFault::FileIn(folder, FolderFile::Replica(ReplicaFile::Lock)));
     match is_nothing_at(files, &path) {
         Ok(true) => return Ok(None),
         Ok(false) => {}

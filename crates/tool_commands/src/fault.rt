@@ -6,10 +6,10 @@ ghost use Rattle.blocks.specs.declared.committee.CommitteeRefusal.{CommitteeRefu
 ghost use Rattle.tool_commands.specs.FaultLines.{name_behind, own_line, store_fault_line};
 
 use itoa::Buffer;
-use key_files::KeyFile;
 use log_server::ServiceFault;
 use printed_lines::{Line, write_file_fault};
 use program_parts::{FaultLine, ProgramFault, SourceFault};
+use replica_command::ReplicaFile;
 use source_audit::RunError;
 use streams::{Sink, write_all};
 
@@ -36,12 +36,8 @@ pub enum ToolFault<'a> {
 /// A file of a folder that a word gave.
 #[derive(Clone, Copy, Debug, PartialEq, Eq)]
 pub enum FolderFile {
-    /// One of a replica's key.
-    Key(KeyFile),
-    /// The lock of a replica.
-    Lock,
-    /// The file that says that a replica's log was put back to a backup.
-    PutBack,
+    /// One of a replica's.
+    Replica(ReplicaFile),
     /// The verdict on this replica.
     Verdict(u16),
     /// What is kept of the log of this replica that came of this source, counted from 0.
@@ -55,12 +51,10 @@ impl FolderFile {
     {
         let mut name = Line::new();
         match self {
-            FolderFile::Key(file) => {
+            FolderFile::Replica(file) => {
                 name.push(b"/");
                 name.push(file.name().as_bytes());
             }
-            FolderFile::Lock => name.push(b"/lock"),
-            FolderFile::PutBack => name.push(b"/put-back"),
             FolderFile::Verdict(replica) => {
                 name.push(b"/verdict-");
                 name.push(Buffer::new().format(replica).as_bytes());

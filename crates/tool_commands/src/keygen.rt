@@ -11,6 +11,7 @@ use crate::host::Host;
 use crate::seeds::seed_of;
 use key_files::{DrawSeed, KeyFault, SystemFolder, make_key};
 use program_parts::ProgramFault;
+use replica_command::ReplicaFile;
 use std::fs::{File, Files};
 use std::thread::Threads;
 use streams::{Feed, Sink};
@@ -45,12 +46,16 @@ pub fn keygen<'a, F: Files<File = File>, T: Threads + Sync, S: DrawSeed, R: Feed
 fn in_folder<'a>(folder: &'a str, fault: KeyFault) -> Fault<'a>
     ensures memory { fault ≡ KeyFault.Memory → result ≡ ProgramFault.Memory }
     ensures file { (file : KeyFileValue) → fault ≡ KeyFault.File file
-        → result ≡ ProgramFault.Own (ToolFault.FileIn folder.entry (FolderFile.Key file)) }
+        → result ≡ ProgramFault.Own
+        (ToolFault.FileIn folder.entry (FolderFile.Replica (ReplicaFile.Key file))) }
     ensures output { fault ≡ KeyFault.Output → result ≡ ProgramFault.Output }
 {
     match fault {
         KeyFault::Memory => Fault::Memory,
-        KeyFault::File(file) => Fault::Own(ToolFault::FileIn(folder, FolderFile::Key(file))),
+        KeyFault::File(file) => {
+            let file = FolderFile::Replica(ReplicaFile::Key(file));
+            Fault::Own(ToolFault::FileIn(folder, file))
+        }
         KeyFault::Output => Fault::Output,
     }
 }

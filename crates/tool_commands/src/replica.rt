@@ -1,7 +1,7 @@
 //! `hs_tool replica COMMITTEE R DIR [--workers W] [--serve ADDRESS] [--requests N]`: a replica over lines of input.
 
 ghost use Rattle.std.specs.Prelude.{◌≡◌, ◌↔◌, ℕ, IfOk};
-ghost use Rattle.key_files.specs.declared.files.KeyFile.{KeyFile as KeyFileValue};
+ghost use Rattle.replica_command.specs.declared.fault.ReplicaFile.{ReplicaFile as ReplicaFileValue};
 ghost use Rattle.tool_commands.specs.Stays.{AreReadOf, IsReplicaDone, IsRunPrinted, IsStopPrinted};
 ghost use Rattle.program_parts.specs.Writes.{CountsWrites};
 
@@ -9,7 +9,7 @@ use crate::fault::{Fault, FolderFile, ToolFault, fault_of_service};
 use crate::host::Host;
 use log_server::serve_requests;
 use program_parts::{ProgramFault, parse_committee, read_committee};
-use replica_command::{Ending, ReplicaEnd, ReplicaFault, ReplicaFile, run_replica};
+use replica_command::{Ending, ReplicaEnd, ReplicaFault, run_replica};
 use stable_log::{Disk, FileDisk};
 use std::fs::{File, Files};
 use std::net::{Net, TcpListener, TcpStream};
@@ -97,12 +97,8 @@ fn run<'a, F: Files<File = File>, T: Threads + Wait + Sync, R: Feed, W: Sink>(
 // The fault of a replica on the folder at `path`.
 fn in_folder<'a>(folder: &'a str, fault: ReplicaFault) -> Fault<'a>
     ensures memory { fault ≡ ReplicaFault.Memory → result ≡ ProgramFault.Memory }
-    ensures lock { fault ≡ ReplicaFault.File ReplicaFile.Lock
-        → result ≡ ProgramFault.Own (ToolFault.FileIn folder.entry FolderFile.Lock) }
-    ensures put_back { fault ≡ ReplicaFault.File ReplicaFile.PutBack
-        → result ≡ ProgramFault.Own (ToolFault.FileIn folder.entry FolderFile.PutBack) }
-    ensures file { (file : KeyFileValue) → fault ≡ ReplicaFault.File (ReplicaFile.Key file)
-        → result ≡ ProgramFault.Own (ToolFault.FileIn folder.entry (FolderFile.Key file)) }
+    ensures file { (file : ReplicaFileValue) → fault ≡ ReplicaFault.File file
+        → result ≡ ProgramFault.Own (ToolFault.FileIn folder.entry (FolderFile.Replica file)) }
     ensures store { (number : ℕ) → fault ≡ ReplicaFault.Store number
         → result ≡ ProgramFault.Own (ToolFault.Store number) }
     ensures receipts { fault ≡ ReplicaFault.Receipts
@@ -111,14 +107,8 @@ fn in_folder<'a>(folder: &'a str, fault: ReplicaFault) -> Fault<'a>
 {
     match fault {
         ReplicaFault::Memory => Fault::Memory,
-        ReplicaFault::File(ReplicaFile::Lock) => {
-            Fault::Own(ToolFault::FileIn(folder, FolderFile::Lock))
-        }
-        ReplicaFault::File(ReplicaFile::PutBack) => {
-            Fault::Own(ToolFault::FileIn(folder, FolderFile::PutBack))
-        }
-        ReplicaFault::File(ReplicaFile::Key(file)) => {
-            Fault::Own(ToolFault::FileIn(folder, FolderFile::Key(file)))
+        ReplicaFault::File(file) => {
+            Fault::Own(ToolFault::FileIn(folder, FolderFile::Replica(file)))
         }
         ReplicaFault::Store(number) => Fault::Own(ToolFault::Store(number)),
         ReplicaFault::Receipts => Fault::Own(ToolFault::Receipts),

@@ -11,7 +11,7 @@ pub returns-in-Ok-clause-reply : goal.returns-in-Ok-clause-reply
 returns-in-Ok-clause-reply g c =
     let n = g.N.DeskNaming in
     let b = c.args.block in
-    let tells = g.A.Approver.tells c.args.approver.now in
+    let tells = g.K.Approver.tells c.args.office.now.keeper.now in
     let same = ap (λ (committee : List ℕ). block_of committee b.header b.certificate) c.requires.committee in
     record {
       checked = subst (λ (committee : List ℕ). IsChecked committee b.header b.certificate) c.requires.committee c.header.ensures.is_checked;
@@ -28,7 +28,7 @@ pub returns-in-Ok-deliver-clause-reply : goal.returns-in-Ok-deliver-clause-reply
 returns-in-Ok-deliver-clause-reply g c =
     let n = g.N.DeskNaming in
     let b = c.args.block in
-    let tells = g.A.Approver.tells c.args.approver.now in
+    let tells = g.K.Approver.tells c.args.office.now.keeper.now in
     let same = ap (λ (committee : List ℕ). block_of committee b.header b.certificate) c.requires.committee in
     record {
       checked = subst (λ (committee : List ℕ). IsChecked committee b.header b.certificate) c.requires.committee c.header.ensures.is_checked;

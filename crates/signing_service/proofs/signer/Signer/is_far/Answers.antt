@@ -5,7 +5,7 @@ use Rattle.signing_service.proofs.signer.Signer.is_far.Goals as goal
 
 pub returns-clause-far : goal.returns-clause-far
 returns-clause-far g c = λ t.
-    let furthest = c.args.self.now.rules.now.furthest in
+    let furthest = c.args.self.now.reception.now.rules.now.furthest in
     let above = c.saturating_sub.result in
     let view = c.args.view in
     let at = c.status-at.result.vote_view in
@@ -15,7 +15,7 @@ returns-clause-far g c = λ t.
 
 pub returns-clause-near : goal.returns-clause-near
 returns-clause-near g c = λ t.
-    let furthest = c.args.self.now.rules.now.furthest in
+    let furthest = c.args.self.now.reception.now.rules.now.furthest in
     let above = c.saturating_sub.result in
     let view = c.args.view in
     let at = c.status-at.result.vote_view in
