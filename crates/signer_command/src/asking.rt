@@ -169,7 +169,8 @@ fn look_at<
     // The place of the first frame that was not read yet.
     let from = so_far.frames.saturating_sub(given.first);
     if from > 0 && !has_last(&frames, from, so_far) {
-        if frames.len() >= from || ended == Status::Whole {
+        // Of a file all is there, so what it lacks is gone.
+        if given.is_all || frames.len() >= from || ended == Status::Whole {
             *so_far = ReadSoFar::nothing();
         }
         return Ok(Look::Ended(Word::Read(unless_whole(ended))));
@@ -334,6 +335,10 @@ fn hear<N: DeskNaming, T: Threads + Wait, S: Sink, D: Disk, K: Approver + Keeper
     let heard = &mut *heard;
     if let Some(place) = heard.whole.get_mut(usize::from(replica)) {
         *place = true;
+    }
+    // Who held the lock before may have opened it: blocks are taken then, and no more views are given up.
+    if shop.gate.is_open() {
+        return;
     }
     // Where the desk is stopped the gate stays shut.
     let _ = shop.gate.hear(

@@ -12,7 +12,8 @@ use program_parts::{FaultLine, ProgramFault};
 use replica_command::{ReplicaFault, ReplicaFile};
 use streams::{Sink, write_all};
 
-/// Why the signer gives up. Each has exit status 2, but for those files of a folder after which no start is of use: those have 4.
+/// Why the signer gives up. Each has exit status 2, but for what an earlier run wrote down: that the log was put back, or that a disk
+/// failed. Those have 4.
 pub type Fault<'a> = ProgramFault<'a, SignerFault<'a>>;
 
 /// What this program alone gives up for.

@@ -48,7 +48,7 @@ impl Telling {
         }
     }
 
-    /// Whether this is to be told now: it is another word than last, and that is a minute ago. It is noted as told then.
+    /// Whether this is to be told now: it is another word than the last that was told, a minute ago or more. It is noted as told then.
     pub fn is_due(&mut self, clock: &impl Clock, word: Word) -> bool {
         if self.word == Some(word) || !self.is_quiet_over(clock) {
             return false;

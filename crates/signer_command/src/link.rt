@@ -13,8 +13,8 @@ use std::time::Clock;
 /// How many ticks one call of a link waits at most, so that a clock that stands still does not keep it for ever.
 const MOST_TICKS: u32 = 400;
 
-/// How an answer begins that refuses a host or an origin.
-const FORBIDDEN: &[u8] = b"HTTP/1.1 403 ";
+/// How an answer begins that refuses a host or an origin, in each version of HTTP.
+const FORBIDDEN: [&[u8]; 2] = [b"HTTP/1.1 403 ", b"HTTP/1.0 403 "];
 
 /// A caller's stream and what it is held to. Both of its sides share it.
 #[derive(Drop)]
@@ -109,7 +109,7 @@ impl<C: Clock> Write for Answering<'_, C> {
         let mut pace = self.link.pace.get();
         pace.begin_to_write(self.link.clock)?;
         self.link.pace.set(pace);
-        if bytes.starts_with(FORBIDDEN) {
+        if FORBIDDEN.iter().any(|front| bytes.starts_with(*front)) {
             self.link.is_refused.set(true);
         }
         write_held(self.link.stream, &UntilTaken(self.link), MOST_TICKS, bytes)

@@ -15,7 +15,7 @@ use crate::fault::{Fault, SignerFault, in_folder};
 use crate::listening::{Place, listen, listen_at_home};
 use crate::marks::DiskFailedPlaces;
 use crate::notes::Notes;
-use crate::socket_file::{Callers, SocketFault, listen_at};
+use crate::socket_file::{Callers, SocketFault, is_too_long, listen_at};
 use crate::stay::{Room, Sockets, THREADS_BESIDE, stay_once};
 use crate::words::{Where, Words, read_words};
 use asked_logs::can_be_enough;
@@ -366,9 +366,14 @@ fn see_no_failure_beside<'a, T: Files<File = File>>(
     let Some(socket) = socket_named(words) else {
         return Ok(());
     };
+    // No socket is made at a path that is too long, which is told with the others that can't be listened at.
+    if is_too_long(socket) {
+        return Ok(());
+    }
     match places_of_failure(words).is_nothing_beside(host.rt, host.alloc) {
         Ok(true) => Ok(()),
-        _ => Err(Fault::Own(SignerFault::DiskFailed(socket))),
+        Ok(false) => Err(Fault::Own(SignerFault::DiskFailed(socket))),
+        Err(error) => Err(Fault::unless_memory(&error, Fault::File(socket))),
     }
 }
 

@@ -16,6 +16,9 @@ use std::{fs, io};
 /// The longest path that a Unix socket can be bound or found at, in bytes.
 const LONGEST_PATH: usize = 107;
 
+/// How many bytes longer the path is that a socket is made under.
+const LONGER: usize = 6;
+
 /// The mode of a file that its owner alone may read and write.
 const OWNER_ALONE: u32 = 0o600;
 
@@ -85,7 +88,7 @@ pub(crate) fn listen_at<F: Files<File = File> + Net>(
     ensures { IfOk result (λ listener. is_heard_over_tcp listener ≡ false) }
 {
     let shop = Workshop::beside(alloc, path)?;
-    if shop.socket.len() > LONGEST_PATH {
+    if is_too_long(path) {
         return Err(SocketFault::TooLong);
     }
     let Ok(lock) = locked(files, &shop.lock) else {
@@ -101,8 +104,18 @@ pub(crate) fn listen_at<F: Files<File = File> + Net>(
     }
 }
 
-// The lock of a file, which is made where it is not there.
+/// Whether a socket can't be made at a path for its length.
+pub(crate) fn is_too_long(path: &str) -> bool {
+    path.len() > LONGEST_PATH - LONGER
+}
+
+// The lock of a file, which is made where it is not there. A link in its place is left as it is.
 fn locked<F: Files<File = File>>(files: &F, path: &str) -> io::Result<File> {
+    if let Ok(found) = fs::symlink_metadata(files, path)
+        && !found.is_file()
+    {
+        return Err(io::Error::from(ErrorKind::AlreadyExists));
+    }
     let mut how = OpenOptions::new();
     how.read(true).write(true).create(true).mode(OWNER_ALONE);
     let file = how.open(files, path)?;

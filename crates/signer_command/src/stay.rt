@@ -124,6 +124,10 @@ fn shop_of<'x, 'h, N: DeskNaming, T: Threads + Wait + Clock + Files<File = File>
 ) -> Shop<'x, 'h, N, T, S, D, Home<'h, T, S>, Notes<'h, T, S>>
     requires committee { room.now.committee.now ≡ N.committee }
     requires replica { room.now.words.now.replica ≡ N.replica }
+    ensures calls { result.calls.rules.now ≡ room.now.sockets.now.call_rules }
+    ensures reads { result.reads.rules.now ≡ room.now.sockets.now.read_rules }
+    ensures gate { result.calls.gate.now ≡ shared.now.gate }
+    ensures gate_of_reads { result.reads.gate.now ≡ shared.now.gate }
 {
     Shop {
         rt: room.rt,
