@@ -10,7 +10,7 @@ _wezhgula_options() {
         hs_draw) echo --help --version ;;
         'hs_tool keygen') echo --key --random --stdin ;;
         'hs_tool replica') echo --workers --serve --requests ;;
-        'hs_tool audit') echo --tries --strict --strict-all --why --keep --json ;;
+        'hs_tool audit') echo --tries --strict --strict-all --why --keep --json --time ;;
     esac
 }
 

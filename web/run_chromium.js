@@ -1,11 +1,110 @@
 // node run_chromium.js PAGE.html CASES.tsv [PICTURES]: each case in the page itself, in Chromium, by its own file inputs; and each state
 // that the page has. Pictures of them go into the folder PICTURES.
 "use strict";
-const { copyFileSync, mkdirSync, mkdtempSync, readFileSync, rmSync, writeFileSync } = require("fs");
+const { copyFileSync, mkdirSync, mkdtempSync, readFileSync, rmSync, truncateSync, writeFileSync } = require("fs");
 const { tmpdir } = require("os");
 const { dirname } = require("path");
 const { pathToFileURL } = require("url");
 const { Browser } = require("./browser.js");
+
+const KEYS = { Tab: 9, a: 65, c: 67, v: 86 };
+
+/** A key, with what a browser does at it where it is pressed with Control. */
+async function press(browser, key, command) {
+  const how = command ? { modifiers: 2, commands: [command] } : {};
+  for (const type of ["keyDown", "keyUp"]) await browser.send("Input.dispatchKeyEvent", { type, key, code: key, windowsVirtualKeyCode: KEYS[key], ...how });
+}
+
+/** The page's own words for nothing picked and nothing entered. */
+const EMPTY = `by("told").value = ""; enter(); committee = null; verdicts = []; showCommittee(); show()`;
+
+/** Digits come one by one: what is judged and shown stays, but where the answer changes; and little is said aloud. */
+async function enterDigits(browser, compare, top, chain) {
+  await browser.tell(EMPTY);
+  await browser.pick("#committee-file", [`${top}/examples/committee.hsc`]);
+  const room = mkdtempSync(`${tmpdir()}/many-`);
+  const many = Array.from({ length: 147 }, (_, i) => `${room}/${i}.hsx`);
+  for (const path of many) copyFileSync(`${top}/examples/double_vote.hsx`, path);
+  await browser.pick("#verdict-files", many);
+  await browser.until(`committee !== null && verdicts.length === 147`);
+  await browser.tell(`document.querySelector("details").open = true; window.told = 0; window.judged = 0;
+    { const check = checker.check.bind(checker); checker.check = (...texts) => { window.judged++; return check(...texts); }; }
+    new MutationObserver((all) => { for (const it of all) for (const node of it.addedNodes) window.told += node.textContent.length; }).observe(by("summary"), { childList: true, subtree: true });
+    by("told").focus()`);
+  const began = Date.now();
+  for (const digit of chain.slice(0, 10)) await browser.send("Input.insertText", { text: digit });
+  const took = Date.now() - began;
+  for (const digit of chain.slice(10)) await browser.send("Input.insertText", { text: digit });
+  await browser.until(`compared.is === "same"`);
+  compare("0 true 147", await browser.tell(`[window.judged, document.querySelector("details").open, document.querySelectorAll(".is-good").length].join(" ")`), "what digits judge and close");
+  compare(true, (await browser.tell(`window.told`)) < 200, `characters said aloud at 64 digits: ${await browser.tell("window.told")}`);
+  compare(true, took < 2000, `milliseconds for ten digits beside 147 verdicts: ${took}`);
+  console.log(`ten digits beside 147 verdicts: ${took} ms; said aloud at 64 digits: ${await browser.tell("window.told")} characters`);
+  rmSync(room, { recursive: true });
+}
+
+/** The id that the page shows can't fill the place for the one that was told. */
+async function pasteBack(browser, compare, top, chain) {
+  const copied = async () => {
+    await browser.tell(`{ const range = document.createRange(); range.selectNodeContents(document.querySelector("#committee-shown .chain")); getSelection().removeAllRanges(); getSelection().addRange(range); }`);
+    await press(browser, "c", "copy");
+    await browser.tell(`by("told").value = ""; enter(); by("told").focus()`);
+    await press(browser, "v", "paste");
+    return browser.tell(`[digitsOf(by("told").value).length, compared.is, document.querySelectorAll(".is-good").length].join(" ")`);
+  };
+  await browser.tell(EMPTY);
+  await browser.pick("#committee-file", [`${top}/examples/committee.hsc`]);
+  await browser.pick("#verdict-files", [`${top}/examples/double_vote.hsx`]);
+  await browser.until(`committee !== null && verdicts.length === 1`);
+  compare("none", await browser.tell(`getComputedStyle(document.querySelector("#committee-shown .chain")).userSelect`), "whether the shown id can be selected");
+  await browser.tell(`by("told").focus()`);
+  await browser.send("Input.insertText", { text: chain });
+  compare("same text", await browser.tell(`compared.is + " " + getComputedStyle(document.querySelector("#committee-shown .chain")).userSelect`), "an id that was typed");
+  compare("64 copied 0", await copied(), "an id that was copied from the page");
+  compare("You copied this from this page", (await browser.tell(`by("told-said").textContent`)).slice(0, 30), "what is said of it");
+  await browser.tell(`by("told").value = ""; enter(); by("told").focus()`);
+  await browser.send("Input.insertText", { text: `0x${chain.slice(0, 8)}` });
+  compare("other true", await browser.tell(`compared.is + " " + by("told-said").textContent.includes("\u201cx\u201d")`), "a letter that is no digit");
+}
+
+/** Names of files that are long or turn what stands around them. */
+async function longNames(browser, compare, top) {
+  const room = mkdtempSync(`${tmpdir()}/named-`);
+  const committee = `${room}/committee.hsc. \u2714 It is the same chain id. \u202e`;
+  const verdict = `${room}/${"committee_2026_production_".repeat(9)}.hsx`;
+  copyFileSync(`${top}/examples/committee.hsc`, committee);
+  copyFileSync(`${top}/examples/double_vote.hsx`, verdict);
+  await browser.tell(EMPTY);
+  await browser.send("Emulation.setDeviceMetricsOverride", { width: 320, height: 800, deviceScaleFactor: 1, mobile: true });
+  for (const [what, files] of [["#committee-file", [verdict]], ["#committee-file", [committee]], ["#verdict-files", [verdict]]]) await browser.pick(what, files);
+  await browser.until(`committee?.shown.answer === 0 && verdicts.length === 1`);
+  compare("320 80", await browser.tell(`document.documentElement.scrollWidth + " " + document.querySelector("#answers bdi").textContent.length`), "a long name on a narrow page");
+  compare(true, await browser.tell(`Array.from(document.querySelectorAll("#summary, #committee-shown > p, #answers .file"), (it) => !Array.from(it.childNodes).some((n) => n.nodeType === 3 && n.textContent.includes("\u202e"))).every(Boolean)`), "a name that turns words around");
+  await browser.send("Emulation.setDeviceMetricsOverride", { width: 1000, height: 900, deviceScaleFactor: 1, mobile: false });
+  rmSync(room, { recursive: true });
+}
+
+/** Of a long file the first bytes are read, as by hs_check, and of several files those that can be read are judged. */
+async function oddFiles(browser, compare, top) {
+  const room = mkdtempSync(`${tmpdir()}/odd-`);
+  const long = `${room}/long.hsx`;
+  copyFileSync(`${top}/examples/double_vote.hsx`, long);
+  truncateSync(long, 3e9);
+  await browser.tell(EMPTY);
+  await browser.pick("#committee-file", [`${top}/examples/committee.hsc`]);
+  await browser.until(`committee !== null`);
+  const began = Date.now();
+  await browser.pick("#verdict-files", [long]);
+  await browser.until(`verdicts.length === 1 && document.querySelector("#answers article")`);
+  console.log(`a verdict of 3 GB: ${Date.now() - began} ms`);
+  compare("refused 4 Length, status 1", await browser.tell(`document.querySelector("#answers article").dataset.line`), "a verdict of 3 GB");
+  compare("false true", await browser.tell(`{ const said = document.querySelector("#answers article").textContent; said.includes("SHA-256") + " " + said.includes("3,000,000,000 bytes"); }`), "a digest of a part of a file");
+  const unreadable = `{ name: "gone.hsx", size: 1, slice: () => ({ arrayBuffer: () => Promise.reject(new Error("no")) }) }`;
+  await browser.tell(`{ const good = new File([verdicts[0].bytes.slice(0, 100)], "short.hsx"); take("verdicts", [${unreadable}, good]); }`);
+  await browser.until(`!by("fault").hidden`);
+  compare("gone.hsx could not be read: no. The others were judged. 1", await browser.tell(`by("fault").textContent + " " + document.querySelectorAll("#answers article").length`), "one file of two that can't be read");
+  rmSync(room, { recursive: true });
+}
 
 async function main() {
   const [page, cases, pictures] = process.argv.slice(2);
@@ -23,7 +122,7 @@ async function main() {
     await browser.until(`document.documentElement.dataset.ready === "yes"`);
     for (const line of readFileSync(cases, "utf8").trimEnd().split("\n")) {
       const [committee, verdict, wanted] = line.split("\t");
-      await browser.tell(`committee = null; verdicts = []; show()`);
+      await browser.tell(EMPTY);
       await browser.pick("#committee-file", [committee]);
       await browser.pick("#verdict-files", [verdict]);
       await browser.until(`committee !== null && verdicts.length === 1`);
@@ -31,20 +130,20 @@ async function main() {
         ?? "fault committee " + document.querySelector("#committee-shown .bad").textContent.match(/\\((\\d+ \\w+)\\)/)[1] + ", status 2"`), `${committee} ${verdict}`);
     }
     // Dropped, several at once, and the chain id that one was told: until it is entered whole no answer has a colour.
-    await browser.tell(`committee = null; verdicts = []; show()`);
+    await browser.tell(EMPTY);
     await browser.drop("#committee-drop", [`${top}/examples/committee.hsc`]);
     await browser.drop("#verdicts-drop", [`${top}/examples/double_vote.hsx`, `${top}/examples/lock_violation.hsx`, `${top}/examples/weighted/double_vote.hsx`]);
     await browser.until(`verdicts.length === 3`);
     const chain = await browser.tell(`committee.shown.chain`);
     const tellChain = (told) => browser.tell(`by("told").value = ${JSON.stringify(told)}; by("told").dispatchEvent(new Event("input"))`);
     const colours = `Array.from(document.querySelectorAll("#answers article"), (it) => it.className).join(", ")`;
-    const open = "2 accepted, 1 refused, under committee.hsc, which you have not compared: enter the chain id that you were told.";
+    const open = "2 accepted (replicas 1 and 2), 1 refused, under committee.hsc, which you have not compared: enter the chain id that you were told.";
     for (const [told, said, summary, shown] of [
       ["", "", open, "card verdict, card verdict, card verdict"],
       [chain.slice(0, 12), "The same so far: 12 of 64 digits.", open, "card verdict, card verdict, card verdict"],
       ["00" + chain.slice(2), "\u2718 It is another chain id. Nothing is judged: this is not your committee\u2019s file, or a digit is wrong.",
         "Nothing was judged: the committee has another chain id than you were told.", ""],
-      [chain.toUpperCase().match(/.{4}/g).join(" "), "\u2714 It is the same chain id.", "2 accepted, 1 refused, under committee.hsc.",
+      [chain.toUpperCase().match(/.{4}/g).join(" "), "\u2714 It is the same chain id.", "2 accepted (replicas 1 and 2), 1 refused, under committee.hsc.",
         "card verdict is-good, card verdict is-good, card verdict is-bad"],
     ]) {
       await tellChain(told);
@@ -53,6 +152,7 @@ async function main() {
       compare(shown, await browser.tell(colours), `the colours, told ${told}`);
       if (pictures && told.length === 12) await browser.picture(`${pictures}/uncompared.png`);
     }
+    compare("2 accepted (replicas 1 and 2), 1 refused \u2013 Check a verdict", await browser.tell(`document.title`), "the title");
     compare("Accepted under a committee", (await (await tellChain(chain.slice(0, 9)), browser.tell(`document.querySelector("#answers .answer").textContent`))).slice(0, 26), "an answer that is not compared");
     await tellChain(chain);
     // On paper: a sheet for each verdict, with the digests of both files.
@@ -79,7 +179,7 @@ async function main() {
     const order = [];
     await browser.tell(`document.activeElement?.blur()`);
     for (let i = 0; i < 8; i++) {
-      for (const type of ["keyDown", "keyUp"]) await browser.send("Input.dispatchKeyEvent", { type, key: "Tab", code: "Tab", windowsVirtualKeyCode: 9 });
+      await press(browser, "Tab");
       order.push(await browser.tell(`document.activeElement === document.body ? "" : document.activeElement.id || document.activeElement.tagName.toLowerCase()`));
     }
     compare("committee-file summary told verdict-files", [...new Set(order.filter(Boolean))].join(" "), "where the tabulator key goes");
@@ -91,8 +191,16 @@ async function main() {
     await browser.tell(`verdicts = []; show()`);
     await browser.pick("#verdict-files", [named]);
     await browser.until(`verdicts.length === 1`);
-    compare(`0 File: <img src=x onerror="document.title=1">.hsx Check a verdict`, await browser.tell(`document.querySelectorAll("img").length + " " + document.querySelector("#answers h3").textContent + " " + document.title`), "a name that is markup");
+    compare(`0 File: <img src=x onerror="document.title=1">.hsx`, await browser.tell(`document.querySelectorAll("img").length + " " + document.querySelector("#answers .file").textContent`), "a name that is markup");
     rmSync(dirname(named), { recursive: true });
+    await enterDigits(browser, compare, top, chain);
+    await pasteBack(browser, compare, top, chain);
+    await longNames(browser, compare, top);
+    await oddFiles(browser, compare, top);
+    await browser.tell(EMPTY);
+    await browser.pick("#committee-file", [`${top}/examples/committee.hsc`]);
+    await browser.pick("#verdict-files", [`${top}/examples/double_vote.hsx`]);
+    await browser.until(`committee !== null && verdicts.length === 1`);
     // What a reader that speaks is told: the controls by name, and the answer.
     const { nodes } = await browser.send("Accessibility.getFullAXTree");
     const told = nodes.filter((it) => ["button", "textbox", "DisclosureTriangle", "heading", "status", "alert"].includes(it.role?.value) && !it.ignored)
@@ -124,10 +232,10 @@ async function main() {
     };
     const cards = `document.querySelectorAll("#answers article").length`;
     await good();
-    compare(0, await browser.tell(`(() => { take("verdicts", [{ name: "slow", arrayBuffer: () => new Promise(() => {}) }]); return ${cards}; })()`), "answers while a file is read");
+    compare(0, await browser.tell(`(() => { take("verdicts", [{ name: "slow", size: 1, slice: () => ({ arrayBuffer: () => new Promise(() => {}) }) }]); return ${cards}; })()`), "answers while a file is read");
     await good();
-    await browser.tell(`take("verdicts", [{ name: "unreadable", arrayBuffer: () => Promise.reject(new Error("no")) }])`);
-    compare("0 A file could not be read: no.", (await browser.tell(`${cards} + " " + by("fault").textContent`)).slice(0, 31), "a file that can't be read");
+    await browser.tell(`take("verdicts", [{ name: "unreadable", size: 1, slice: () => ({ arrayBuffer: () => Promise.reject(new Error("no..")) }) }])`);
+    compare("0 unreadable could not be read: no. Nothing was judged.", await browser.tell(`${cards} + " " + by("fault").textContent`), "a file that can't be read");
     await good();
     await browser.tell(`take("verdicts", [])`);
     compare(0, await browser.tell(cards), "answers where no file is named");
@@ -137,6 +245,16 @@ async function main() {
     await browser.until(`!by("fault").hidden`);
     await browser.pick("#verdict-files", [`${top}/examples/lock_violation.hsx`]);
     compare("0 Nothing was judged.", await browser.tell(`${cards} + " " + by("summary").textContent`), "answers behind a module that stopped");
+    // A page that came over plain HTTP from another machine has no digests, says so, and judges.
+    const { identifier } = await browser.send("Page.addScriptToEvaluateOnNewDocument", { source: "Object.defineProperty(crypto, 'subtle', { value: undefined })" });
+    await browser.send("Page.navigate", { url: pathToFileURL(page).href });
+    await browser.until(`document.documentElement.dataset.ready === "yes"`);
+    await browser.pick("#committee-file", [`${top}/examples/committee.hsc`]);
+    await browser.until(`committee !== null`);
+    await tellChain(chain);
+    await good();
+    compare("false true", await browser.tell(`by("insecure").hidden + " " + by("committee-shown").textContent.includes("computes no SHA-256")`), "a page with no digests");
+    await browser.send("Page.removeScriptToEvaluateOnNewDocument", { identifier });
     // A browser without memories of 64 bits is told where to go, and so is one that runs no script; neither has a place for a file.
     const elsewhere = `[document.getElementById("elsewhere").offsetHeight > 0, document.getElementById("desk").offsetHeight > 0].join()`;
     await browser.send("Page.addScriptToEvaluateOnNewDocument", { source: "WebAssembly.validate = () => false" });

@@ -1,16 +1,19 @@
-"""What a client does: it asks all replicas, and believes what more than a third of the weight say."""
+"""What a client does: it asks all replicas, and believes what more than a third of the weight say, of which one follows the rules.
+
+A command is done once a quorum has applied it. So a client that believes only what a quorum says reads all that was done before it asked:
+each quorum that applied a command and each quorum that answers share a replica that follows the rules."""
 import json
 import queue
 import threading
 import time
 
-from links import CLIENT, connect, line_of, socket_of
+from links import CLIENT, connect, line_of
 
 
 def ask(folder, number, message, patience):
     """The answer of one replica, or None."""
     try:
-        with connect(socket_of(folder, number), patience) as link:
+        with connect(folder, number, patience) as link:
             link.sendall(line_of({"from": CLIENT}) + line_of(message))
             return json.loads(link.makefile("rb").readline())
     except (OSError, ValueError):
@@ -29,42 +32,56 @@ def ask_all(folder, committee, message, patience):
     return (answers.get() for _ in range(count))
 
 
-def agreed(folder, committee, message, patience):
-    """The answer that replicas of more than a third of the weight gave, of which one follows the rules; or None."""
+def agreed(folder, committee, message, patience, weight):
+    """The answer that replicas of this weight gave, or None."""
     weights = {}
     for number, answer in ask_all(folder, committee, message, patience):
         if answer is not None:
             said = json.dumps(answer)
             weights[said] = weights.get(said, 0) + committee.weights[number]
-            if weights[said] >= committee.third:
+            if weights[said] >= weight:
                 return answer
     return None
 
 
 def set_key(folder, committee, name, key, value, retry=10):
-    """Says it again under the same name until enough replicas applied it: so it is applied once."""
-    while agreed(folder, committee, {"say": "set", "command": [name, key, value]}, retry) is None:
+    """Says it again under the same name until a quorum applied it: so it is applied once."""
+    while agreed(folder, committee, {"say": "set", "command": [name, key, value]}, retry, committee.quorum) is None:
         pass
 
 
-def get_key(folder, committee, key):
-    """The value, or None where the key is not set."""
-    while (answer := agreed(folder, committee, {"say": "get", "key": key}, 10)) is None:
+def get_key(folder, committee, key, is_fresh=False):
+    """The value, or None where the key is not set. It may be behind what another client did, but for one that is asked for fresh."""
+    weight = committee.quorum if is_fresh else committee.third
+    while (answer := agreed(folder, committee, {"say": "get", "key": key}, 10, weight)) is None:
         time.sleep(0.1)  # the replicas are not all at the same block
     return answer["value"]
 
 
-HEAD = ["replica", "view", "vote view", "lock", "entries left", "keys left", "committed", "applied", "store", "handover"]
+def left_for_votes(folder, committee):
+    """How many votes the signers of some quorum have left at least, or None where too few answer to say."""
+    answers = [(number, answer["signer"]) for number, answer in ask_all(folder, committee, {"say": "status"}, 10) if answer and answer["signer"]]
+    left = sorted((min(signer["entries_left"], signer["indices_left"]), number) for number, signer in answers)
+    weight = sum(committee.weights[number] for _, number in left)
+    for votes, number in left:
+        if weight < committee.quorum:
+            return None
+        weight -= committee.weights[number]
+        if weight < committee.quorum:
+            return votes
+
+
+HEAD = ["replica", "state", "view", "vote view", "lock", "entries left", "keys left", "committed", "applied", "store", "handover"]
 
 
 def row_of(number, answer):
     if answer is None:
         return [number, "does not answer"]
     signer = answer["signer"]
-    at_signer = ["signer away", "", "", ""]
+    state, at_signer = "signer away", ["", "", "", ""]
     if signer:
-        at_signer = [signer["vote_view"], signer["lock"]["view"], signer["entries_left"], signer["indices_left"]]
-    return [number, answer["view"], *at_signer, answer["committed"], answer["applied"], answer["store"][:8], answer["handover"][:8]]
+        state, at_signer = signer["state"], [signer["vote_view"], signer["lock"]["view"], signer["entries_left"], signer["indices_left"]]
+    return [number, state, answer["view"], *at_signer, answer["committed"], answer["applied"], answer["store"][:8], answer["handover"][:8]]
 
 
 def print_status(folder, committee):

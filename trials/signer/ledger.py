@@ -244,6 +244,15 @@ def stored(folder):
         return payloads_of(held.read())
 
 
+def spoil(folder, number):
+    """Changes a byte of the signature of a vote that a log has."""
+    with open(f"{folder}/log.hsj", "r+b") as held:
+        text = held.read()
+        at = text.index(vote_of(payloads_of(text)[number])) + 1400
+        held.seek(at)
+        held.write(bytes([text[at] ^ 1]))
+
+
 def taken(folder):
     """The boundary of a replica's index store: each one-time index below it is taken."""
     with open(f"{folder}/index.hsj", "rb") as held:

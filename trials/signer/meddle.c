@@ -7,6 +7,7 @@
  *                                WHEN is before, half (half of the bytes were written or sent) or after
  *   MEDDLE_FAIL=KIND:K:WHEN      the K-th call fails with EIO: before anything was done, or once half was written
  *   MEDDLE_CLOCK=N               the clock that only rises goes N times as fast
+ *   MEDDLE_SLOW=N                each sync takes N milliseconds more
  *
  * A KIND is write or sync, of a regular file, or send, on a socket. A note is its kind (1 byte: W a write that ended, S a sync
  * that begins, s one that succeeded, T a send that begins), what of (1 byte: l a file named log.hsj, i one named index.hsj, o
@@ -47,6 +48,7 @@ static atomic_long counts[KINDS];
 static pthread_mutex_t order = PTHREAD_MUTEX_INITIALIZER;
 static int notes = -1;
 static long rate = 1;
+static struct timespec delay;
 static struct timespec first_time;
 
 static struct aim aim_of(const char *name)
@@ -65,10 +67,12 @@ static struct aim aim_of(const char *name)
 
 __attribute__((constructor)) static void read_environment(void)
 {
-    const char *path = getenv("MEDDLE_NOTE"), *fast = getenv("MEDDLE_CLOCK");
+    const char *path = getenv("MEDDLE_NOTE"), *fast = getenv("MEDDLE_CLOCK"), *slow = getenv("MEDDLE_SLOW");
     if (path && (notes = open(path, O_WRONLY | O_CREAT | O_APPEND | O_CLOEXEC, 0600)) < 0)
         _exit(70);
     rate = fast ? atol(fast) : 1;
+    long more = slow ? atol(slow) : 0;
+    delay = (struct timespec){more / 1000, more % 1000 * 1000000};
     killed = aim_of("MEDDLE_KILL");
     failed = aim_of("MEDDLE_FAIL");
     syscall(SYS_clock_gettime, CLOCK_MONOTONIC, &first_time);
@@ -167,6 +171,7 @@ static int synced(int file, long call)
     if (dies && killed.when != AFTER)
         die();
     note('S', file, 0, NULL, 0);
+    nanosleep(&delay, NULL);
     if (is_aim(&failed, SYNCS, number)) {
         errno = EIO;
         return -1;

@@ -97,7 +97,7 @@ def chain_of(room):
 
 
 class Server:
-    """Hands out frames, which may be changed, in a manner that may be changed: whole, cut, hang, drip, reset or endless."""
+    """Hands out frames, which may be changed, in a manner that may be changed: whole, cut, flip (whole and cut in turn), hang, drip, reset or endless."""
 
     def __init__(self, frames=(), manner="whole"):
         self.frames, self.manner, self.asked = list(frames), manner, []
@@ -125,8 +125,10 @@ class Server:
     def give(self, stream, text):
         if self.manner == "whole":
             stream.sendall(text)
-        elif self.manner == "cut":
+        elif self.manner == "cut" or (self.manner == "flip" and len(self.asked) % 2):
             stream.sendall(text[:-3])
+        elif self.manner == "flip":
+            stream.sendall(text)
         elif self.manner == "hang":
             threading.Event().wait(600)
         elif self.manner == "reset":

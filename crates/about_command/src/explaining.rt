@@ -7,10 +7,37 @@ use crate::table::table;
 use std::alloc::AllocError;
 use wire::append;
 
-/// Adds what the table says of a line: for each row that fits it which programs print it, what it means and what to do. Answers whether
-/// there is such a row. Memory is all that can fail, and then a first part was added.
+// How many words may stand in front of a line: a time, `round` and its number; or a path.
+const MOST_WORDS_IN_FRONT: usize = 3;
+
+/// Adds what the table says of a line as it was printed: for each row that fits it which programs print it, what it means and what to
+/// do. If none does, of the line without its first word, its first two, and so on. Answers whether there is such a row. Memory is
+/// all that can fail, and then a first part was added.
+pub(crate) fn put_explanations(text: &mut Vec<u8>, printed: &str) -> Result<bool, AllocError>
+    ensures { IfOk result (λ is_known. AreSaid text.old.items text.new.items is_known) }
+{
+    put_behind(text, printed, MOST_WORDS_IN_FRONT)
+}
+
+// The same where so many words may stand in front.
+fn put_behind(text: &mut Vec<u8>, printed: &str, most: usize) -> Result<bool, AllocError>
+    ensures { IfOk result (λ is_known. AreSaid text.old.items text.new.items is_known) }
+{
+    if put_rows(text, printed)? {
+        return Ok(true);
+    }
+    if most == 0 {
+        return Ok(false);
+    }
+    match printed.split_once(' ') {
+        Some((_, rest)) => put_behind(text, rest, most - 1),
+        None => Ok(false),
+    }
+}
+
+// Adds what the table says of a line, and answers whether it says something.
 #[tactic(auto, using(crate::proofs::Sayings::said_no_more))]
-pub(crate) fn put_explanations(text: &mut Vec<u8>, line: &str) -> Result<bool, AllocError>
+fn put_rows(text: &mut Vec<u8>, line: &str) -> Result<bool, AllocError>
     ensures { IfOk result (λ is_known. AreSaid text.old.items text.new.items is_known) }
 {
     let mut is_known = false;
@@ -81,7 +108,15 @@ fn fits(form: &str, line: &str) -> bool {
 fn takes(place: &str, word: &str) -> bool {
     match place.strip_prefix("=") {
         Some(exact) => exact == word,
-        None => place == word || stands_for(place, word),
+        None => place == word || stands_before_a_comma(place, word) || stands_for(place, word),
+    }
+}
+
+// Whether both end in a comma, and the word of the form stands for what is before it.
+fn stands_before_a_comma(place: &str, word: &str) -> bool {
+    match (place.strip_suffix(","), word.strip_suffix(",")) {
+        (Some(place), Some(word)) => stands_for(place, word),
+        _ => false,
     }
 }
 

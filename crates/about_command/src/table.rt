@@ -2,7 +2,7 @@
 
 /// A row for each line that a program prints, behind it a line feed but for the last: which programs print it, the line, what it
 /// means, and what to do, with ` | ` between. Of the line a word in capitals stands for any word, or for a number where it is one
-/// letter; one behind `=` for itself, and one that ends in `..` for one or more.
+/// letter, also where a comma stands after both; one behind `=` for itself, and one that ends in `..` for one or more.
 pub(crate) fn table() -> &'static str {
     "hs_check | accepted replica R rule K view V | The verdict proves that replica R broke rule K (1, a double vote; 2, a lock violation); V is the view of its later vote. | Send the verdict to everyone who must agree to the removal; each judges it under a committee's file of their own.\n\
 hs_check, hs_show --statement | refused 1 Short | The verdict has fewer than 39 bytes. | It is no verdict: get the file anew.\n\
@@ -32,6 +32,10 @@ hs_tool audit --why | SOURCE not an export (a seed) | It has the length of a key
 hs_tool audit --why | SOURCE the old form: see migrate | Its first frame begins as an entry from before votes named their keys. | hs_tool migrate OLD NEW COMMITTEE carries such a log over.\n\
 hs_tool audit --why | SOURCE K frames are no entries | So many whole frames spell no entry; the log of a correct replica has none. | Ask for another copy; suspect who handed this one out.\n\
 hs_tool audit --why | SOURCE V votes, G good: another committee, or another R? | The log names V different votes, of which G are good. | Compare chain ids (hs_show COMMITTEE), and see that it is the log of that replica.\n\
+hs_tool audit --why | SOURCE an entry is no legal step | Each entry may be good, but they are not what a replica stores one after the other: no correct replica has this log. | Ask for another copy; suspect who handed this one out.\n\
+hs_tool audit --why | SOURCE sound, and empty | The log is whole and has no entry, as that of a committee which has just begun. It counts as sound. | See that the committee is as new as that.\n\
+hs_tool audit --why | SOURCE sound, with no vote of its own | The log is sound, and has no vote of its own replica: it would be sound under any R. It counts as sound. | See that the replica has not voted yet, and that it is its log.\n\
+hs_tool audit --why | why sound S of T, quorum Q | With --strict or --strict-all: the different replicas of sound sources weigh S of the whole weight T, less than the quorum Q. | The lines before it say why sources are not sound. Get sound logs of replicas that weigh what is missing.\n\
 hs_tool audit --why | verdict PATH | The verdict on a culprit stands at PATH. | Send it to everyone; each judges it by hs_check COMMITTEE PATH.\n\
 hs_signer | stopped vote view V id ID not in the log | A good certificate, or one in another's log that --ask reads, has a good vote of this replica on that block that its log lacks: its folder was put back to a backup, or its key signs elsewhere too. It votes no more, and wrote DIR/put-back. | Leave put-back where it is, hand out the log, and tell the other operators: the replica counts as one of the f until there is a new committee.\n\
 hs_signer | put-back not written PATH.. | The log was found to be put back to a backup (stopped vote), and the file that keeps each later start from voting could not be written or synced. This process gives no vote more all the same. | Make an empty file at PATH before anything starts the signer again, and see to the disk.\n\
@@ -43,6 +47,8 @@ hs_signer | asking source I TooLong | Source I of --ask, counted from 0, gave mo
 hs_signer | asking source I Failed | Source I of --ask, counted from 0, could not be reached, or not read to its end. It is read again. | See that its path or address is right, and that its server runs and can be reached.\n\
 hs_signer | asking source I Unresolved | The host that source I of --ask, counted from 0, names can't be found. It is looked up again. | Look for a slip in the word, and at the name service; or write the number of the host.\n\
 hs_signer | asking source I OtherChain | What source I of --ask, counted from 0, gave is a log under another committee's file: its replica is not heard. | See that its path or address is that of a replica of this committee.\n\
+hs_signer | asking source I OwnLog | Source I of --ask, counted from 0, has a vote of this replica, and in its view the replica's own log can't be read, or has a vote on that block that is not good. It is read again. | Ask GET /vote/V for the views of that source, and see to the disk of the replica's folder.\n\
+hs_signer | asking source I Memory | Memory was refused while source I of --ask, counted from 0, was read. It is read again. | Free memory.\n\
 hs_signer | successor not read | A block that hands over came, and the file of --successor can't be opened or read, or memory was refused. It is as if it were not there, and the block got no vote. | See to the file's mode: it is read anew at the next such block.\n\
 hs_signer | successor 1 Length | The file of --successor has not as many bytes as its replicas ask for. The file is as if it were not there. | Lay the right file down by renaming it into its place; no restart is needed.\n\
 hs_signer | successor 2 Magic | The file of --successor does not begin as a committee. The file is as if it were not there. | Lay the right file down by renaming it into its place; no restart is needed.\n\
@@ -71,8 +77,9 @@ hs_follow | fault committee 8 OldKey K | Key K of the new committee is one of th
 hs_tool audit, hs_draw, hs_watch, hs_follow | fault source I | The word of source I, counted from 0, is not R=file:PATH or R=tcp:ADDRESS. | Put that word right.\n\
 hs_tool audit, hs_draw, hs_watch, hs_follow | fault collision | Two different headers have one id: SHA-256 is broken, and no audit of these sources holds. | Keep all sources.\n\
 hs_watch | fault state | The folder of --state has logs of another chain, or logs and no file that says of which; or, with --export, nothing of that source. | Name another folder, or the committee's own; R-I is how the names of its files begin.\n\
-hs_signer | fault disk PATH.. | A disk failed under the last signer on this folder, as the file at PATH says: whether its last vote was stored is open, and a start before the disk was seen to may use a one-time key twice. | See to the disk; then remove the file at PATH, and start again.\n\
-hs_tool replica, hs_signer | fault store 2 | The committee has no replica R, or a disk failed while a store was recovered. | Compare R and COMMITTEE, and look at the disk: nothing is spent by trying again.\n\
+hs_signer | fault disk PATH.. | A disk failed under the last signer on this folder, or while this one opened it, as the file at PATH says: whether the last vote was stored is open, and a start before the disk was seen to may use a one-time key twice. | See to the disk; then remove the file at PATH, and start again.\n\
+hs_tool replica | fault store 2 | The committee has no replica R, or a disk failed while a store was recovered. | Compare R and COMMITTEE, and see to the disk before you start it again.\n\
+hs_signer | fault store 2 | The committee has no replica R. | Compare R and COMMITTEE.\n\
 hs_tool migrate | fault store 2 | The disk failed. | Look at the disk.\n\
 hs_tool replica, hs_signer | fault store 3 | The keys of the folder are not those of replica R in their order, or log.hsj is no journal. | Compare R, COMMITTEE and DIR. Never rename seeds to make them fit.\n\
 hs_tool migrate | fault store 3 | OLD is no journal. | Name the replica's log.hsj.\n\
@@ -100,7 +107,7 @@ hs_tool replica | held committed ID | As held; and by what this process was told
 hs_signer | held V ID committed ID | As held V ID; and by what this process was told the block of the last ID is committed. | Apply what the chain of the last ID has.\n\
 hs_tool replica, hs_signer | timeout V | Until it ends the replica gives no vote in a view up to V. | Send it again after a start: it is not stored.\n\
 hs_signer | refused log 2 Device | The disk failed where the log was read: for its vote in the view of the block's certificate, in the view of GET /vote, or for GET /log. Nothing was delivered, and the desk is not stopped. | See to the disk, and ask again.\n\
-hs_signer | refused log 9 BadEntry | What the log gave, for its vote in the view of the block's certificate or of GET /vote, is no vote, or not the one that was stored. Nothing was delivered, and the desk is not stopped. | The disk gives other bytes than were written: see to it, and look at the log with hs_show.\n\
+hs_signer | refused log 9 BadEntry | What the log gave, for its vote in the view of the block's certificate or of GET /vote, is no vote, not the one that was stored, or not a good one. Nothing was delivered, and the desk is not stopped. | The disk gives other bytes than were written: see to it, and look at the log with hs_show.\n\
 hs_signer | refused header 1 Length | There are not 84 bytes. | Send the header's 84 bytes, and behind them the certificate of its parent.\n\
 hs_signer | refused header 2 Magic | The header does not begin with HSB1. | Build the header as FORMATS.md says.\n\
 hs_signer | refused header 3 ViewOrder | The parent's view is not below the block's. | Build the header as FORMATS.md says.\n\
@@ -138,7 +145,7 @@ hs_signer | desk 4 LogFull | The log is full: it has 4,096 entries. | A new comm
 hs_signer | desk 5 Device | A disk failed in this call: whether the vote was stored is open. This process delivers and votes no more, and wrote disk-failed, so that none is started before an operator removes it. | See to the disk, remove disk-failed, and start the signer again; then ask GET /vote/V.\n\
 hs_signer | desk 6 Stopped | A disk failed in an earlier call, and nothing was done. This process delivers and votes no more. | See to the disk, remove disk-failed, and start the signer again.\n\
 hs_signer | stopped desk 5 | A disk failed under a block: the desk is stopped. The process goes on answering, delivers and votes no more, and wrote disk-failed, so that none is started before an operator removes it. | See to the disk, remove disk-failed, and start the signer again.\n\
-hs_signer | disk-failed not written | A disk failed under a block, and the file that keeps a start from being made could be written neither into DIR nor beside the socket. | Start no signer on this folder before the disk was seen to: nothing else keeps it from using a one-time key twice.\n\
+hs_signer | disk-failed not written | A disk failed under a block or at the start, and the file that keeps a start from being made could be written neither into DIR nor beside the socket. | Start no signer on this folder before the disk was seen to: nothing else keeps it from using a one-time key twice.\n\
 hs_tool replica | bad line | The line is neither a block nor a timeout in its one spelling; a line that ends in CRLF is none. | Put the line right.\n\
 hs_tool replica, hs_signer | closed N | The input ended; the log has N entries. | Nothing.\n\
 hs_tool replica | served FRAMES | A request for the log was answered with so many entries. | Nothing: that they arrived is not known.\n\
@@ -188,13 +195,15 @@ hs_follow | follows view V id ID | By what the logs prove the old committee hand
 hs_follow | follows another view V id ID payload HEX | The old committee handed its ledger over to another file than NEW. | Get the file whose digest begins as the payload says, behind HSN1.\n\
 hs_follow | follows none | The logs prove no handover. | Get more logs, or later ones.\n\
 hs_watch | TIME round N commit V ID | It is proved that the block ID of view V was committed. | Nothing.\n\
-hs_watch | TIME round N handover V ID payload HEX | It is proved that the committee hands its ledger over, by the block ID of view V. | See by hs_follow that the payload names the file that you approved.\n\
+hs_watch | TIME round N commits N before V ID | The round has more than 100 new commits: so many of them are not listed. The last 100 are, the first of which is the block ID of view V. | Nothing.\n\
+hs_watch | TIME round N handover V ID payload HEX committed, N commits after it | It is proved that the committee hands its ledger over, by the block ID of view V, and that so many blocks after it are committed by now. | See by hs_follow that the payload names the file that you approved.\n\
 hs_watch | TIME round N conflict ID ID | Two conflicting blocks were committed: the chain forked. | Stop what relies on the ledger, and send the verdicts to everyone who must agree to a removal.\n\
 hs_watch | TIME round N culprit R rule K views V V PATH.. | Replica R broke rule K by its votes in these views; the verdict is at PATH. | Send the verdict to everyone who must agree to the removal.\n\
 hs_watch | TIME round N culprit R kept PATH.. | A verdict on replica R was there at the start. | Send it to everyone who must agree to the removal.\n\
 hs_watch | TIME round N source I replica R STATUS frames F entries E | The log of source I ends otherwise than it did. | With Failed, Cut or Broken see that its server runs.\n\
 hs_watch | TIME round N went-back I replica R | The log of source I went back: its replica may have been put back to a backup. | Ask its operator. It accuses nobody.\n\
 hs_watch | TIME round N beyond I replica R | Source I gave a fifth log that fits none of the four before. | Ask its operator.\n\
+hs_watch | TIME round N lost N | So many lines were dropped: source and went-back since 1,000 lines waited to be read, others only since memory was refused. | See that what reads the lines keeps up; the page of --listen tells how each source stands.\n\
 hs_watch | listening ADDRESS | What the watch knows is told over HTTP at this address of its machine. | Open it in a browser there; from another machine take ssh -L, or a proxy with TLS and a password.\n\
 hs_watch /health | ok | The watch goes its rounds, and all verdicts and parts of logs are stored. | Nothing.\n\
 hs_watch /health | late | Its last round is older than 30 seconds and twice --every. | See whether the process runs, and start it again.\n\

@@ -3,6 +3,7 @@ pub mod Series
 pub mod Findings
 pub mod DrawnBlocks
 pub mod Lanes
+pub mod Descriptions
 pub mod Sources
 pub mod Pictures
 pub mod Choices

@@ -3,6 +3,7 @@ use Rattle.std.specs.Prelude.{◌≡◌, ◌++◌, ℕ, List, codes}
 use Rattle.evidence.specs.declared.source.SourceReport.{SourceReport}
 use Rattle.fork_picture.specs.Findings.{Findings, findings_text}
 use Rattle.fork_picture.specs.DrawnBlocks.{AreBlocks}
+use Rattle.fork_picture.specs.Descriptions.{IsDescription}
 use Rattle.fork_picture.specs.Lanes.{IsCulpritsText}
 use Rattle.fork_picture.specs.Sources.{AreSourceLines}
 use Rattle.fork_picture.specs.declared.scene.Block.{Block}
@@ -27,6 +28,8 @@ drawn_in scene = record { blocks = scene.blocks.items; culprits = scene.culprits
 -- an SVG document that says these findings and draws this; no clause says where
 pub record IsPicture (findings : Findings) (drawn : Drawn) (text : List ℕ) : Type 0 where
   pub above : List ℕ
+  pub description : List ℕ
+  pub is_description : IsDescription findings.conflict drawn.culprits description
   pub lines : List ℕ
   pub blocks : List ℕ
   pub are_blocks : AreBlocks findings.replicas findings.total drawn.blocks blocks
@@ -35,4 +38,4 @@ pub record IsPicture (findings : Findings) (drawn : Drawn) (text : List ℕ) : T
   pub legend : List ℕ
   pub sources : List ℕ
   pub are_sources : AreSourceLines drawn.reports sources
-  pub text_is : text ≡ front ++ above ++ findings_text findings ++ lines ++ blocks ++ lanes ++ legend ++ sources ++ end
+  pub text_is : text ≡ front ++ above ++ description ++ findings_text findings ++ lines ++ blocks ++ lanes ++ legend ++ sources ++ end

@@ -6,6 +6,7 @@ ghost use Rattle.fork_picture.specs.Findings.{findings_in};
 ghost use Rattle.fork_picture.specs.Pictures.{IsPicture, drawn_in};
 
 use crate::blocks_drawn::{put_blocks, put_columns, put_links};
+use crate::description::put_description;
 use crate::lanes::put_lanes;
 use crate::layout::Layout;
 use crate::notes::{put_findings, put_left_out, put_legend, put_sources};
@@ -130,6 +131,7 @@ pub fn draw(alloc: Global, scene: &Scene, purpose: Purpose) -> Result<String, Al
     let legend = legend(alloc, &layout)?;
     let mut text = String::from_str(alloc, FRONT)?;
     text.push_str(&above)?;
+    put_description(&mut text, alloc, scene)?;
     put_findings(&mut text, alloc, scene)?;
     text.push_str(&lines)?;
     put_blocks(&mut text, alloc, &layout, scene)?;

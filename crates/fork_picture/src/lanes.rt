@@ -24,7 +24,7 @@ const LATER: u64 = 45;
 /// In a picture with more columns a culprit is named beside its later vote, too.
 const NARROW: usize = 10;
 
-fn name(rule: Rule) -> &'static str
+pub(crate) fn rule_name(rule: Rule) -> &'static str
     ensures { result.now ≡ rule_name rule }
 {
     match rule {
@@ -128,7 +128,7 @@ fn put_name(text: &mut String, culprit: &Culprit, top: u64) -> Result<(), AllocE
     let third = top.saturating_add(53);
     put_replica(text, first, culprit.replica)?;
     put_rule(text, second, culprit.rule.number())?;
-    put_broken(text, third, name(culprit.rule))
+    put_broken(text, third, rule_name(culprit.rule))
 }
 
 #[tactic(auto, unfolding(crate::specs::Lanes::beside_line))]

@@ -4,6 +4,7 @@
 
 mod blocks_drawn;
 mod choosing;
+mod description;
 mod digits;
 mod drawing;
 mod lanes;

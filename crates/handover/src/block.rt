@@ -9,7 +9,7 @@ use sha2::{Digest, Sha256};
 use wire::put;
 
 /// With what the payload of a block begins that hands over.
-const MARK: &[u8; 4] = b"HSN1";
+pub const HANDOVER_MARK: &[u8; 4] = b"HSN1";
 
 /// How much of the digest of the new committee's file stands behind the mark, in bytes.
 const DIGEST_LEN: usize = 28;
@@ -18,7 +18,7 @@ const DIGEST_LEN: usize = 28;
 pub fn is_handover(block: &Header) -> bool
     ensures { IsTrue result ↔ IsHandover block.now }
 {
-    0 < block.view && block.payload[..MARK.len()] == MARK[..]
+    0 < block.view && block.payload[..HANDOVER_MARK.len()] == HANDOVER_MARK[..]
 }
 
 // The SHA-256 digest of a file.
@@ -35,8 +35,8 @@ fn marked(digest: &[u8; 32]) -> [u8; 32]
     ensures { result ≡ handover_mark ++ take 28 digest.now }
 {
     let mut payload = [0; 32];
-    put(&mut payload, 0, MARK);
-    put(&mut payload, MARK.len(), &digest[..DIGEST_LEN]);
+    put(&mut payload, 0, HANDOVER_MARK);
+    put(&mut payload, HANDOVER_MARK.len(), &digest[..DIGEST_LEN]);
     payload
 }
 

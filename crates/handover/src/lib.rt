@@ -6,7 +6,7 @@ mod block;
 mod laws;
 mod old_keys;
 
-pub use block::{handover_payload, is_handover};
+pub use block::{HANDOVER_MARK, handover_payload, is_handover};
 pub use laws::{
     a_first_handover_is_alone, a_handover_stays_proved,
     different_successors_accuse_more_than_a_third, first_handovers_are_one_or_accuse,

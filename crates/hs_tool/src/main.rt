@@ -6,7 +6,7 @@ use program_parts::run_main;
 use std::io::{IsTerminal, Stderr, Stdout};
 use std::process::ExitCode;
 use streams::{StdFeed, StdSink};
-use tool_commands::{Host, run_tool};
+use tool_commands::{Extras, Host, SystemFiles, run_tool};
 
 fn main(rt: HostRuntime) -> ExitCode {
     run_main(
@@ -31,7 +31,10 @@ fn main(rt: HostRuntime) -> ExitCode {
                 &mut StdFeed::new(input),
                 out,
                 faults,
-                &mut StdSink::new(rt.stderr()),
+                &mut Extras {
+                    whys: StdSink::new(rt.stderr()),
+                    files: SystemFiles::of(&rt, rt.alloc()),
+                },
             )
         },
     )

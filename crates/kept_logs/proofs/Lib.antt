@@ -1,2 +1,2 @@
-mod Parting
 pub mod Readings
+mod Appending

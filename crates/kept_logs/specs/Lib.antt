@@ -1,3 +1,4 @@
 pub use Rattle.evidence.specs.Logs
 pub mod Kept
+pub mod Written
 pub mod KeptLaws

@@ -2,7 +2,7 @@
 #![tactic(auto)]
 
 mod laws;
-mod writing;
+mod writer;
 
-pub use laws::a_kept_log_reads_back;
-pub use writing::write_kept;
+pub use laws::{a_kept_log_reads_back, what_is_kept_is_the_log};
+pub use writer::LogWriter;

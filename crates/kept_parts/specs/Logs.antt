@@ -1,6 +1,5 @@
 -- The logs of a source, told by the digests of their frames, as their parts are read again.
 use Rattle.std.specs.Prelude.{◌≡◌, ◌⊎◌, ◌<◌, ◌≤◌, ℕ, List, [], length, take, slice_index_or}
-use Rattle.std.specs.List.{All}
 use Rattle.kept_parts.specs.Digests.{log_digest}
 use Rattle.kept_parts.specs.declared.name.PartName.{PartName}
 
@@ -35,9 +34,3 @@ pub record Opens (logs : List (List (List ℕ))) (p : PartName) (front : List (L
 -- the part stands behind these frames
 abbrev pub IsFront : List (List (List ℕ)) → PartName → List (List ℕ) → Type 0
 IsFront logs p front = GoesOn logs p front ⊎ Opens logs p front
-
--- the first of the logs that is such is this one
-pub record IsFirst (Is : List (List ℕ) → Type 0) (logs : List (List (List ℕ))) (k : ℕ) : Type 0 where
-  pub there : k < length logs
-  pub is : Is (slice_index_or logs k [])
-  pub before : All (λ log. Is log → ⊥) (take k logs)

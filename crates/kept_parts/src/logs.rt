@@ -2,9 +2,9 @@
 
 ghost use Rattle.std.specs.List.{All};
 ghost use Rattle.std.specs.Prelude.{◌≡◌, ◌↔◌, IsTrue, ◌≤◌, ◌<◌, ◌++◌, ◌∷◌, [], ℕ, List, IfOk, MatchOption, OnOk, length, slice_index_or, slice_set, take};
-ghost use Rattle.source_reading.specs.Following.{BeginsWith};
+ghost use Rattle.source_reading.specs.Following.{BeginsWith, IsFirst};
 ghost use Rattle.kept_parts.specs.Digests.{log_digest};
-ghost use Rattle.kept_parts.specs.Logs.{BeginsAs, GoesOn, HasFront, IsFirst, IsFront, Opens, StandsBehind};
+ghost use Rattle.kept_parts.specs.Logs.{BeginsAs, GoesOn, HasFront, IsFront, Opens, StandsBehind};
 
 use crate::digest::{LogDigest, NO_FRAMES, digest_then};
 use crate::name::PartName;

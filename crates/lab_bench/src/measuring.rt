@@ -11,7 +11,9 @@ use blocks::CommitteeView;
 use certificates::{SignedVote, check_vote};
 use culprit_search::audit;
 use log_transfer::Watched;
-use parallel_verify::{Evidence, EvidenceRefusal, Source, SourceText, collect_by, evidence_of};
+use parallel_verify::{
+    Evidence, EvidenceRefusal, Judging, Source, SourceText, evidence_of, read_sources, unobserved,
+};
 use std::alloc::{AllocError, Global};
 use std::io;
 use std::sync::Wait;
@@ -39,6 +41,8 @@ pub(crate) struct Measured {
     pub one_thread: u64,
     /// How long it takes with a thread for each log.
     pub threads: Times,
+    /// How long it takes so if each log is judged, too.
+    pub judged: Times,
     /// How long it is searched, in microseconds.
     pub audit: u64,
 }
@@ -123,19 +127,22 @@ fn sources_of<'a, R: Clock>(
     Ok(sources)
 }
 
-// How long it takes to gather the evidence with a thread for each log. It must have so many votes.
+// How long it takes to gather the evidence with a thread for each log, and to judge these, if they are to be. It must have so many
+// votes.
 fn time_of_threads<R: Threads + Wait + Clock + Sync>(
     rt: &R,
     alloc: Global,
     committee: &CommitteeView,
     logs: &[SourceText],
     votes: usize,
+    judging: Judging,
 ) -> io::Result<Times> {
     let phases = Phases::new(rt)?;
     let sources = sources_of(alloc, &phases, logs)?;
-    let evidence = collect_by(rt, alloc, committee, &phases, sources).map_err(error_of)?;
+    let observed = unobserved(alloc, sources)?;
+    let reading = read_sources(rt, alloc, committee, &phases, observed, judging).map_err(error_of)?;
     let times = phases.times();
-    if evidence.votes().len() != votes {
+    if reading.evidence.votes().len() != votes {
         return Err(io::Error::from(io::ErrorKind::InvalidData));
     }
     Ok(times)
@@ -170,11 +177,13 @@ fn audit_alone<R: Clock>(
         floor: 0,
         one_thread,
         threads: Times::default(),
+        judged: Times::default(),
         audit,
     })
 }
 
-/// Audits the ledger: its evidence is gathered on one thread and searched, and then gathered with a thread for each log.
+/// Audits the ledger: its evidence is gathered on one thread and searched, and then gathered with a thread for each log, first alone and
+/// then with a judgement of each log.
 pub(crate) fn measure<R: Threads + Wait + Clock + Sync>(
     rt: &R,
     alloc: Global,
@@ -191,7 +200,8 @@ pub(crate) fn measure<R: Threads + Wait + Clock + Sync>(
     Ok(Measured {
         votes,
         floor: floor_of(rt, committee, &sample, votes)?,
-        threads: time_of_threads(rt, alloc, committee, &logs, found.votes)?,
+        threads: time_of_threads(rt, alloc, committee, &logs, found.votes, Judging::No)?,
+        judged: time_of_threads(rt, alloc, committee, &logs, found.votes, Judging::Each)?,
         ..found
     })
 }

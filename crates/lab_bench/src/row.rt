@@ -6,8 +6,8 @@ use std::io;
 
 /// The head of the table.
 pub(crate) const HEAD: &str =
-    "| Ledger | Replicas | Blocks | Different votes | Floor, ms | Evidence on one thread, ms | Evidence, a thread for each log, ms | Reading | Joining | Checks | Search, ms | Beside the checks |
-|---|---|---|---|---|---|---|---|---|---|---|---|";
+    "| Ledger | Replicas | Blocks | Different votes | Floor, ms | Evidence on one thread, ms | Evidence, a thread for each log, ms | Reading | Joining | Checks | Judged, ms | Search, ms | Beside the checks |
+|---|---|---|---|---|---|---|---|---|---|---|---|---|";
 
 /// Prints what was found.
 pub(crate) fn print_counts<R: Print>(rt: &R, plan: Plan, found: &Measured) -> io::Result<()> {
@@ -51,9 +51,10 @@ pub(crate) fn print_row<R: Print>(rt: &R, plan: Plan, found: &Measured) -> io::R
     let reading = found.threads.reading / 1_000;
     let joining = found.threads.joining / 1_000;
     let checks = found.threads.checks / 1_000;
+    let judged = found.judged.whole() / 1_000;
     let audit = found.audit / 1_000;
     let beside = beside(found);
     println!(rt;
-        "| {name} | {replicas} | {blocks} | {votes} | {floor} | {one_thread} | {threads} | {reading} | {joining} | {checks} | {audit} | {beside} % |"
+        "| {name} | {replicas} | {blocks} | {votes} | {floor} | {one_thread} | {threads} | {reading} | {joining} | {checks} | {judged} | {audit} | {beside} % |"
     )
 }

@@ -6,7 +6,12 @@ use Rattle.log_format.specs.Exports.{asked_for, end_mark, frame_text}
 use Rattle.log_format.specs.declared.request.FrameRequest.{FrameRequest}
 use Rattle.vote_log.specs.Logs.{texts_of}
 use Rattle.vote_log.specs.LogExport.{frame_count}
+use Rattle.stable_log.specs.declared.disk.Disk.{Ghosts}
+use Rattle.vote_log.specs.declared.export_error.ExportError.{ExportError}
+use Rattle.vote_log.specs.declared.export_error.ExportError.TheVariants.{Memory, Sink}
 use Rattle.vote_desk.specs.Desks.{DeskView}
+use Rattle.vote_desk.specs.Exports.{RefusesExport}
+use Rattle.vote_desk.specs.SomeDesk.{SomeDeskMoves}
 use Rattle.log_handout.specs.declared.stage.Stage.{Stage}
 use Rattle.log_handout.specs.declared.stage.Stage.TheVariants.{Front, Frames, Over}
 
@@ -42,6 +47,12 @@ pub record AreFrames {D : Type 0} (bytes : D → Option (List ℕ)) (first most 
 -- all that were to go out have gone, or the desk's list has no more
 abbrev pub HasAll : {D : Type 0} → ((DeskView D → Type 0) → Type 0) → Handed → Type 0
 HasAll SomeOne h = (h.most ≤ h.sent) ⊎ SomeOne (λ d. length d.log.steps ≤ next_entry h)
+
+-- frames are not made: for want of memory, or since some desk refuses to export so many entries from one on
+abbrev pub IsUnmade : {D : Type 0} → Ghosts D → (DeskView D → Type 0) → (first most : ℕ) → ExportError → Type 0
+IsUnmade disk IsDesk first most Memory = Unit {0}
+IsUnmade disk IsDesk first most Sink = Unit {0}
+IsUnmade disk IsDesk first most e = SomeDeskMoves IsDesk (RefusesExport disk first most e)
 
 module _ {D : Type 0} (SomeOne : (DeskView D → Type 0) → Type 0) (bytes : D → Option (List ℕ)) (share : ℕ) where
   -- the frames of the next entries of a list that the desk had, of one at least

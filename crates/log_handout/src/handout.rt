@@ -1,9 +1,10 @@
 //! A log that goes out in pieces, while it grows.
 
-ghost use Rattle.std.specs.Prelude.{◌≡◌, ◌≤◌, ◌<◌, ◌++◌, ◌-◌, ◌^◌, ℕ, List, IfOk, IfSome, None, OnErr, OnOk, Some, codes, length, min, option_map};
+ghost use Rattle.std.specs.Prelude.{◌≡◌, ◌⊎◌, ◌≤◌, ◌<◌, ◌++◌, ◌-◌, ◌^◌, ℕ, List, IfErr, IfOk, IfSome, None, OnErr, OnOk, Some, codes, length, min, option_map};
 ghost use Rattle.log_format.specs.Exports.{end_mark};
+ghost use Rattle.vote_log.specs.declared.export_error.ExportError.TheVariants.{Memory, Sink};
 ghost use Rattle.vote_desk.specs.SomeDesk.{IsDeskOf, SomeDesk};
-ghost use Rattle.log_handout.specs.Handouts.{AreFrames, HasAll, IsPiece, begun};
+ghost use Rattle.log_handout.specs.Handouts.{AreFrames, HasAll, IsPiece, IsUnmade, begun, next_entry, wanted};
 
 use crate::stage::Stage;
 use log_format::FrameRequest;
@@ -76,6 +77,8 @@ impl Handout {
             IsPiece (SomeDesk (IsDeskOf D.Disk N.committee N.replica N.opening)) D.bytes share
             self.old self.new (option_map (λ v. v.items) piece)) }
         ensures err { OnErr result (self.new ≡ self.old) }
+        ensures refused { IfErr result (IsUnmade D.Disk (IsDeskOf D.Disk N.committee N.replica N.opening)
+            (next_entry self.old) (wanted self.old share)) }
     {
         match self.stage {
             Stage::Front => {
@@ -102,6 +105,8 @@ impl Handout {
             IsPiece (SomeDesk (IsDeskOf D.Disk N.committee N.replica N.opening)) D.bytes share
             self.old self.new (Some piece.items)) }
         ensures err { OnErr result (self.new ≡ self.old) }
+        ensures refused { IfErr result (IsUnmade D.Disk (IsDeskOf D.Disk N.committee N.replica N.opening)
+            (next_entry self.old) (wanted self.old share)) }
     {
         if self.sent >= self.most {
             return self.end::<N, D>(alloc, share);
@@ -129,6 +134,7 @@ impl Handout {
             IsPiece (SomeDesk (IsDeskOf D.Disk N.committee N.replica N.opening)) D.bytes share
             self.old self.new (Some piece.items)) }
         ensures err { OnErr result (self.new ≡ self.old) }
+        ensures refused { IfErr result (λ e. e ≡ Memory) }
     {
         match end_of(alloc, self.sent) {
             Ok(end) => {
@@ -148,7 +154,8 @@ fn capped(entries: usize) -> u32
 }
 
 fn copy_of(alloc: Global, bytes: &[u8]) -> Result<Vec<u8>, ExportError>
-    ensures { IfOk result (λ copy. copy.items ≡ bytes.now) }
+    ensures ok { IfOk result (λ copy. copy.items ≡ bytes.now) }
+    ensures refused { IfErr result (λ e. e ≡ Memory) }
 {
     match bytes.to_vec(alloc) {
         Ok(copy) => Ok(copy),
@@ -175,8 +182,10 @@ fn copy_frames<N: DeskNaming, T: Wait, D: Disk>(
     first: u32,
     most: u32,
 ) -> Result<(Vec<u8>, u32), ExportError>
-    ensures { IfOk result (λ r. SomeDesk (IsDeskOf D.Disk N.committee N.replica N.opening)
+    ensures copied { IfOk result (λ r. SomeDesk (IsDeskOf D.Disk N.committee N.replica N.opening)
         (AreFrames D.bytes first (min most 64) r.0.items r.1)) }
+    ensures refused { IfErr result (IsUnmade D.Disk (IsDeskOf D.Disk N.committee N.replica N.opening)
+        first (min most 64)) }
 {
     let mut copy = MemorySink::new(alloc);
     let frames = desk.export(rt, first, most, &mut copy)?;
@@ -199,6 +208,8 @@ fn copy_some<N: DeskNaming, T: Wait, D: Disk>(
     ensures none { IfOk result (λ copied. copied ≡ None
         → SomeDesk (IsDeskOf D.Disk N.committee N.replica N.opening)
         (λ d. length d.log.steps ≤ first)) }
+    ensures refused { IfErr result (IsUnmade D.Disk (IsDeskOf D.Disk N.committee N.replica N.opening)
+        first (min most 64)) }
 {
     let (piece, frames) = copy_frames(rt, alloc, desk, first, most)?;
     if frames == 0 {
@@ -209,8 +220,9 @@ fn copy_some<N: DeskNaming, T: Wait, D: Disk>(
 
 // What stands between an export's front and its end.
 fn frames_in(alloc: Global, export: &[u8]) -> Result<Vec<u8>, ExportError>
-    ensures { IfOk result (λ frames. (mid : List ℕ) (count : ℕ)
+    ensures cut { IfOk result (λ frames. (mid : List ℕ) (count : ℕ)
         → export.now ≡ codes "HSL1" ++ (mid ++ end_mark count) → frames.items ≡ mid) }
+    ensures refused { IfErr result (λ e. (e ≡ Memory) ⊎ (e ≡ Sink)) }
 {
     if export.len() < FRONT_LEN + BACK_LEN {
         return Err(ExportError::Sink);

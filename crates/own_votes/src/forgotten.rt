@@ -9,8 +9,9 @@ use crate::guard::is_familiar;
 use blocks::CommitteeView;
 use certificates::{Certificate, SignedVote, check_vote};
 
-// Whether the vote is this replica's and good, and none of these. Its signature is checked only where it is none of them.
-fn is_forgotten(
+/// Whether the vote is this replica's and good, and none of its own votes as its log has them. Its signature is checked only where
+/// it is none of them.
+pub fn is_forgotten_vote(
     committee: &CommitteeView,
     replica: u16,
     own: &[SignedVote],
@@ -36,7 +37,7 @@ pub fn first_forgotten_vote(
 {
     for k in 0..certificate.count() {
         let vote = certificate.vote(k);
-        if is_forgotten(committee, replica, own, &vote) {
+        if is_forgotten_vote(committee, replica, own, &vote) {
             return Some(vote);
         }
     }

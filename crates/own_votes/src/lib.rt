@@ -4,5 +4,5 @@
 mod forgotten;
 mod guard;
 
-pub use forgotten::first_forgotten_vote;
+pub use forgotten::{first_forgotten_vote, is_forgotten_vote};
 pub use guard::{first_foreign_vote, has_foreign_vote, shows_foreign_vote};

@@ -80,9 +80,10 @@ pub record Tally : Type 0 where
 abbrev pub tally_of : (replica frames entries : ℕ) → Tally
 tally_of replica frames entries = record { replica = replica; frames = frames; entries = entries }
 
--- frames that came from one state of the reader to another, and what was gathered of them
-pub record IsGathering (old new : ReaderState) (a b : Gathered) (came : Tally) : Type 0 where
+-- frames that came from one state of the reader to another, of which this was told, and what was gathered of them
+pub record IsGathering (Told : List (List ℕ) → Type 0) (old new : ReaderState) (a b : Gathered) (came : Tally) : Type 0 where
   pub given : List (List ℕ)
+  pub told : Told given
   pub leads : Leads old.gives new.gives old.left new.left old.place new.place given
   pub grown : Grows a b (InSome FrameHasHeader given) (InSome (FrameNamesVote came.replica) given)
   pub have : HaveEntries given came.entries

@@ -4,3 +4,6 @@ pub use Rattle.evidence.specs.Sets
 pub mod Sources
 pub mod Collections
 pub mod Parts
+pub mod Steps
+pub mod Judged
+pub mod Readings

@@ -6,7 +6,7 @@ ghost use Rattle.evidence.specs.Evidence.{IsEvidenceRefusal, IsHeaderInEvidence,
 ghost use Rattle.evidence.specs.Gathering.{Grows, IsGatheringRefusal, IsUnion};
 ghost use Rattle.evidence.specs.Logs.{ReceivedLog};
 ghost use Rattle.evidence.specs.NamedVotes.{all_votes};
-ghost use Rattle.parallel_verify.specs.Parts.{HasReport, IsJoined, IsResultOn, PartHasHeader};
+ghost use Rattle.parallel_verify.specs.Parts.{HasReport, IsJoined, IsPartOn, PartHasHeader};
 
 use crate::part::Part;
 use blocks::CommitteeView;
@@ -14,7 +14,7 @@ use evidence::{EvidenceRefusal, Gathered, Listing, Mark, SourceReport};
 use std::alloc::{AllocError, Global};
 
 // Adds what one source names.
-fn add_part<M: Mark>(
+fn merge_part<M: Mark>(
     gathered: &mut Gathered<M>,
     part: &Part<M>,
 ) -> Result<SourceReport, EvidenceRefusal>
@@ -27,22 +27,18 @@ fn add_part<M: Mark>(
     Ok(part.report)
 }
 
-// Adds what came of one source.
-fn add_result<M: Mark>(
+// The same, as what its log names.
+fn add_part<M: Mark>(
     gathered: &mut Gathered<M>,
-    part: &Result<Part<M>, EvidenceRefusal>,
+    part: &Part<M>,
 ) -> Result<SourceReport, EvidenceRefusal>
-    ensures ok { IfOk result (λ r. (l : ReceivedLog) → IsResultOn gathered.old.committee l part.now
+    ensures ok { IfOk result (λ r. (l : ReceivedLog) → IsPartOn gathered.old.committee l part.now
         → IsJoined gathered.old gathered.new l r) }
     ensures report { IfOk result (HasReport part.now) }
-    ensures err { IfErr result (λ e. (l : ReceivedLog)
-        → IsResultOn gathered.old.committee l part.now
+    ensures err { IfErr result (λ e. (l : ReceivedLog) → IsPartOn gathered.old.committee l part.now
         → IsGatheringRefusal gathered.old (PartHasHeader gathered.old.committee l) e) }
 {
-    match part {
-        Ok(part) => add_part(gathered, part),
-        Err(e) => Err(*e),
-    }
+    merge_part(gathered, part)
 }
 
 // Adds a report.
@@ -57,22 +53,22 @@ fn put(reports: &mut Vec<SourceReport>, report: SourceReport) -> Result<(), Allo
 pub(crate) fn join<'a, M: Mark>(
     alloc: Global,
     committee: &CommitteeView<'a>,
-    parts: &[Result<Part<M>, EvidenceRefusal>],
+    parts: &[Part<M>],
 ) -> Result<(Listing<'a>, Vec<SourceReport>), EvidenceRefusal>
     ensures union { IfOk result (λ joined. (logs : List ReceivedLog)
-        → AllZip (IsResultOn committee.now) logs parts.now → IsUnion committee.now logs joined.0) }
+        → AllZip (IsPartOn committee.now) logs parts.now → IsUnion committee.now logs joined.0) }
     ensures told { IfOk result (λ joined. (logs : List ReceivedLog)
-        → AllZip (IsResultOn committee.now) logs parts.now
+        → AllZip (IsPartOn committee.now) logs parts.now
         → AllZip IsReportOf logs joined.1.items) }
     ensures reports { IfOk result (λ joined. AllZip HasReport parts.now joined.1.items) }
     ensures refused { IfErr result (λ e. (logs : List ReceivedLog)
-        → AllZip (IsResultOn committee.now) logs parts.now
+        → AllZip (IsPartOn committee.now) logs parts.now
         → IsEvidenceRefusal (IsHeaderInEvidence committee.now logs) e) }
 {
     let mut gathered = Gathered::<M>::new(alloc, committee)?;
     let mut reports = Vec::new(alloc);
     for part in parts {
-        put(&mut reports, add_result(&mut gathered, part)?)?;
+        put(&mut reports, add_part(&mut gathered, part)?)?;
     }
     Ok((gathered.in_order(alloc)?, reports))
 }

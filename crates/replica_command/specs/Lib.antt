@@ -6,3 +6,4 @@ pub mod Dealing
 pub mod StayText
 pub mod Outrunning
 pub mod StayFaults
+pub mod StoreFaults

@@ -7,12 +7,13 @@ use Rattle.vote_desk.specs.DeskRefusals.{IsStartRefusal, start_error_number}
 use Rattle.vote_desk.specs.declared.start_error.StartError.{StartError}
 use Rattle.vote_desk.specs.declared.start_error.StartError.TheVariants as start
 use Rattle.replica_command.specs.declared.fault.ReplicaFault.{ReplicaFault as ReplicaFaultValue}
-use Rattle.replica_command.specs.declared.fault.ReplicaFault.TheVariants.{File, Store}
+use Rattle.replica_command.specs.declared.fault.ReplicaFault.TheVariants.{Device, File, Store}
 
--- at an open desk: no file and no store is to blame
+-- at an open desk: no file and no store is to blame, nor a disk at its opening
 abbrev pub IsWorkFault : ReplicaFaultValue → Type 0
 IsWorkFault (File file) = ⊥
 IsWorkFault (Store number) = ⊥
+IsWorkFault Device = ⊥
 IsWorkFault fault = ⊤
 
 -- .. or the desk is not opened on these parts, and the number is that of its first refusal

@@ -2,10 +2,13 @@
 
 ghost use Rattle.std.specs.Prelude.{◌≡◌, ◌≤◌, length};
 ghost use Rattle.replica_command.specs.Folders.{name_in_folder};
+ghost use Rattle.replica_command.specs.StoreFaults.{fault_of_indices, fault_of_log};
 
 use key_files::KeyFile;
+use key_index_store::IndexError;
 use put_back_file::{DISK_FAILED, PUT_BACK};
 use std::alloc::{AllocError, AllocFailed};
+use vote_log::LogError;
 
 /// A file of a replica's folder.
 #[derive(Clone, Copy, Debug, PartialEq, Eq)]
@@ -44,6 +47,8 @@ pub enum ReplicaFault {
     File(ReplicaFile),
     /// The index store, the log or the desk is refused, under this number of its own table.
     Store(u8),
+    /// A disk failed while the index store or the log was opened.
+    Device,
     /// The receipts are not those of the log, or an answer is missing.
     Receipts,
     /// The lines could not be written, or not all.
@@ -67,5 +72,27 @@ impl<T: Drop> From<AllocFailed<T>> for ReplicaFault {
 
     fn from(_error: AllocFailed<T>) -> Self {
         ReplicaFault::Memory
+    }
+}
+
+// What a refusal of the index store is of a start.
+pub(crate) fn fault_of_indices(refusal: IndexError) -> ReplicaFault
+    ensures { result ≡ fault_of_indices refusal }
+{
+    match refusal {
+        IndexError::Memory => ReplicaFault::Memory,
+        IndexError::Device => ReplicaFault::Device,
+        _ => ReplicaFault::Store(refusal.number()),
+    }
+}
+
+// .. of the log.
+pub(crate) fn fault_of_log(refusal: LogError) -> ReplicaFault
+    ensures { result ≡ fault_of_log refusal }
+{
+    match refusal {
+        LogError::Memory => ReplicaFault::Memory,
+        LogError::Device => ReplicaFault::Device,
+        _ => ReplicaFault::Store(refusal.number()),
     }
 }

@@ -5,7 +5,7 @@ ghost use Rattle.blocks.specs.Headers.{IsGenesis};
 ghost use Rattle.wire.specs.declared.limits.TheConstants.{MOST_KEYS};
 ghost use Rattle.replica_command.specs.Outrunning.{NoneOutruns};
 
-use crate::fault::{ReplicaFault, ReplicaFile};
+use crate::fault::{ReplicaFault, ReplicaFile, fault_of_indices, fault_of_log};
 use crate::outrunning::log_outruns;
 use blocks::{CommitteeView, Header};
 use key_files::KeyFile;
@@ -23,7 +23,7 @@ use std::io::ErrorKind;
 use std::os::unix::fs::{OpenOptionsExt, PermissionsExt};
 use std::thread::Threads;
 use vote_desk::Parts;
-use vote_log::{LogError, VoteLog};
+use vote_log::VoteLog;
 use wire::KeyNumber;
 
 /// The mode of a file that its owner alone may read and write.
@@ -75,7 +75,8 @@ impl<F: Files<File = File>> ReplicaFolder<'_, F> {
     /// then the index store and the log, each recovered as soon as it is opened. The keys are computed last, in as many
     /// threads as there are processors, which takes some seconds of theirs each. Where the committee has no such replica it is
     /// one key, and the desk refuses. An index store that is older than the log is refused as `IndexError::BadEntry`: it would
-    /// give out one-time keys that signed already.
+    /// give out one-time keys that signed already. `Device` where a disk failed: opened once more it may seem sound, and lack what
+    /// was not synced.
     pub fn open_parts<T: Threads + Sync>(
         &self,
         rt: &T,
@@ -151,8 +152,7 @@ impl<F: Files<File = File>> ReplicaFolder<'_, F> {
     {
         match IndexStore::recover(self.alloc, self.open_disk(KeyFile::Indices)?, keys) {
             Ok(store) => Ok(store),
-            Err((IndexError::Memory, _)) => Err(ReplicaFault::Memory),
-            Err((refusal, _)) => Err(ReplicaFault::Store(refusal.number())),
+            Err((refusal, _)) => Err(fault_of_indices(refusal)),
         }
     }
 
@@ -162,8 +162,7 @@ impl<F: Files<File = File>> ReplicaFolder<'_, F> {
     {
         match VoteLog::recover(self.alloc, self.open_disk(KeyFile::Log)?, genesis) {
             Ok(log) => Ok(log),
-            Err((LogError::Memory, _)) => Err(ReplicaFault::Memory),
-            Err((refusal, _)) => Err(ReplicaFault::Store(refusal.number())),
+            Err((refusal, _)) => Err(fault_of_log(refusal)),
         }
     }
 
@@ -209,7 +208,6 @@ fn refuse_older<D: Disk>(
     match log_outruns(log, committee, replica, boundary) {
         Ok(false) => Ok(()),
         Ok(true) => Err(ReplicaFault::Store(IndexError::BadEntry.number())),
-        Err(LogError::Memory) => Err(ReplicaFault::Memory),
-        Err(refusal) => Err(ReplicaFault::Store(refusal.number())),
+        Err(refusal) => Err(fault_of_log(refusal)),
     }
 }

@@ -3,3 +3,4 @@ pub mod Trees
 pub mod Planned
 pub mod Known
 pub mod Linked
+pub mod Marked

@@ -3,3 +3,4 @@ pub mod Cores
 pub mod Plans
 pub mod Admission
 pub mod Restarts
+pub mod Marks

@@ -3,6 +3,7 @@
 #![tactic(auto)]
 
 mod durable;
+mod marks;
 mod plan;
 mod refusal;
 mod replica;
@@ -11,6 +12,7 @@ mod stored;
 mod table;
 
 pub use durable::{Durable, Lock};
+pub use marks::{MARK_LEN, is_marked};
 pub use plan::{Act, Plan};
 pub use refusal::CoreRefusal;
 pub use replica::{Core, MOST_HEADERS};

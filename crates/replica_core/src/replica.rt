@@ -9,12 +9,14 @@ ghost use Rattle.blocks.specs.Replica.{Raise, Vote, after, first_state, timed_ou
 ghost use Rattle.wire.specs.declared.limits.TheConstants.{MOST_ENTRIES};
 ghost use Rattle.replica_core.specs.Admission.{HasPlace, IsAdmissible, IsCoreRefusal};
 ghost use Rattle.replica_core.specs.Cores.{IsHeaderTree, IsSameCore, restarted_with};
+ghost use Rattle.replica_core.specs.Marks.{HasNoMarked, HasNoMarkedIn, IsFirstMarked, IsFirstMarkedIn};
 ghost use Rattle.replica_core.specs.Plans.{CommitsBy, HasRoomFor, HoldsAlso, IsActOn, IsChainOf, IsHeldParent, IsPlan, TakesEvent, event_of, is_three_chain};
 ghost use Rattle.replica_core.specs.Restarts.{HoldsLinked};
 ghost use Rattle.blocks.specs.Chains.{HasNone};
 ghost use Rattle.replica_core.specs.Tables.{HasId};
 
 use crate::durable::{Durable, Lock};
+use crate::marks::{MARK_LEN, is_marked};
 use crate::plan::{Act, Plan};
 use crate::refusal::CoreRefusal;
 use crate::restart::{replay, restored_headers};
@@ -172,6 +174,35 @@ impl Core {
             return None;
         }
         self.find(&header.parent)
+    }
+
+    // The first marked header in the chain of a held one, that one among them.
+    fn first_from(&self, tip: &Header, mark: &[u8; MARK_LEN]) -> Option<Header>
+        requires { Contains self.now.headers tip.now }
+        ensures { MatchOption result (HasNoMarked self.now mark.now tip.now)
+            (IsFirstMarked self.now mark.now tip.now) }
+    {
+        // For the proof: each held header has its chain.
+        let _tree = self.genesis();
+        let mut at = *tip;
+        let mut first = None;
+        while let Some(parent) = self.parent_of(&at) {
+            if is_marked(&at, mark) {
+                first = Some(at);
+            }
+            at = *parent;
+        }
+        first
+    }
+
+    /// The first marked header in the chain of the held header of this id, that one among them: none below it is marked.
+    /// None if there is none, or no header of this id is held.
+    pub fn first_in_chain(&self, id: &Id, mark: &[u8; MARK_LEN]) -> Option<Header>
+        ensures { MatchOption result (HasNoMarkedIn self.now mark.now id.now)
+            (IsFirstMarkedIn self.now mark.now id.now) }
+    {
+        let tip = *self.find(id)?;
+        self.first_from(&tip, mark)
     }
 
     // The id of the block that a certificate on this held header commits.

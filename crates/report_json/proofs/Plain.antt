@@ -9,6 +9,7 @@ use Rattle.culprit_search.specs.Reports.{Report}
 use Rattle.culprit_search.specs.declared.report.Commit.{Commit}
 use Rattle.culprit_search.specs.declared.report.Conflict.{Conflict}
 use Rattle.report_json.specs.Data.{commit_data, conflict_data, culprit_data, reason_data, report_data, source_data}
+use Rattle.report_json.specs.declared.told.AuditTold.{AuditTold}
 use Rattle.report_json.specs.declared.told.SourceTold.{SourceTold}
 
 pub record IsPlain (n : ℕ) (d : Data) : Type 0 where
@@ -45,11 +46,11 @@ plain_source s =
 plain_culprit : (folder : List ℕ) (verdict : List ℕ) → IsPlain 3 (culprit_data folder verdict)
 plain_culprit folder verdict = record { float = refl; flat = omega arith }
 
-pub plain_report : (status : ℕ) (sources : List SourceTold) (r : Report) (folder : List ℕ) (total : ℕ) → IsPlain 5 (report_data status sources r folder total)
-plain_report status sources r folder total =
+pub plain_report : (t : AuditTold) (sources : List SourceTold) (r : Report) → IsPlain 5 (report_data t sources r)
+plain_report t sources r =
     let commits = all_plain 3 commit_data plain_commit r.commits in
     let conflict = plain_conflict r.conflict in
-    let culprits = all_plain 3 (culprit_data folder) (plain_culprit folder) r.verdicts in
+    let culprits = all_plain 3 (culprit_data t.folder.now) (plain_culprit t.folder.now) r.verdicts in
     let told = all_plain 3 source_data plain_source sources in
     record {
       float = rw (commits.float, conflict.float, culprits.float, told.float) refl;

@@ -11,6 +11,7 @@ use Rattle.verdict_format.specs.Verdicts.{earlier_in, later_in, replica_in, verd
 use Rattle.culprit_search.specs.Reports.{Report}
 use Rattle.culprit_search.specs.declared.report.Commit.{Commit}
 use Rattle.culprit_search.specs.declared.report.Conflict.{Conflict}
+use Rattle.report_json.specs.declared.told.AuditTold.{AuditTold}
 use Rattle.report_json.specs.declared.told.SourceTold.{SourceTold}
 
 -- ---- its parts
@@ -81,15 +82,17 @@ culprit_data folder verdict =
 abbrev pub list_data : {X : Type 0} → (X → Data) → List X → Data
 list_data f xs = array (items_of (map f xs))
 
--- what an audit that ended with this status found of these sources and reports, whose verdicts stand in this folder, where all
--- replicas count so much together
-abbrev pub report_data : ℕ → List SourceTold → Report → List ℕ → ℕ → Data
-report_data status sources r folder total =
-    object (member (codes "commits") (list_data commit_data r.commits)
+-- what an audit tells of itself, and what it found of these sources, with this report
+abbrev pub report_data : AuditTold → List SourceTold → Report → Data
+report_data t sources r =
+    object (member (codes "chain") (id_data t.chain)
+    (member (codes "commits") (list_data commit_data r.commits)
     (member (codes "conflict") (conflict_data r.conflict)
-    (member (codes "culprits") (list_data (culprit_data folder) r.verdicts)
+    (member (codes "culprits") (list_data (culprit_data t.folder.now) r.verdicts)
     (member (codes "format") (string (codes "wezhgula-report-1"))
     (member (codes "sources") (list_data source_data sources)
-    (member (codes "status") (count_data status)
-    (member (codes "total") (digits_data total)
-    (member (codes "weight") (digits_data r.weight) no_members))))))))
+    (member (codes "status") (count_data t.status)
+    (member (codes "time") (count_data t.time)
+    (member (codes "total") (digits_data t.total)
+    (member (codes "version") (string t.version.now)
+    (member (codes "weight") (digits_data r.weight) no_members)))))))))))

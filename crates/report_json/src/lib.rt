@@ -7,4 +7,4 @@ mod report;
 mod told;
 
 pub use report::report_of;
-pub use told::SourceTold;
+pub use told::{AuditTold, SourceTold};

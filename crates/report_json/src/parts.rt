@@ -19,7 +19,7 @@ pub(crate) fn digits_value(alloc: Global, number: u64) -> Result<Value, AllocErr
     Value::try_from_str(alloc, Buffer::new().format(number))
 }
 
-fn id_value(alloc: Global, id: &Id) -> Result<Value, AllocError>
+pub(crate) fn id_value(alloc: Global, id: &Id) -> Result<Value, AllocError>
     ensures { IfOk result (λ v. view v ≡ id_data id.now) }
 {
     let digits = hex::encode(alloc, id)?;

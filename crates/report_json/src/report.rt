@@ -7,8 +7,8 @@ ghost use Rattle.serde_json.specs.Written.{compact_text};
 ghost use Rattle.report_json.specs.Data.{report_data};
 
 use crate::lists::{commits_value, culprits_value, sources_value};
-use crate::parts::{conflict_value, digits_value};
-use crate::told::SourceTold;
+use crate::parts::{conflict_value, digits_value, id_value};
+use crate::told::{AuditTold, SourceTold};
 use culprit_search::Report;
 use serde_json::{Value, json};
 use std::alloc::{AllocError, Global};
@@ -18,29 +18,31 @@ const FORMAT: &str = "wezhgula-report-1";
 
 fn report_value(
     alloc: Global,
-    status: u8,
+    told: &AuditTold,
     sources: &[SourceTold],
     report: &Report,
-    folder: &str,
-    total: u64,
 ) -> Result<Value, AllocError>
     ensures { IfOk result (λ v. view v
-        ≡ report_data status sources.now report.now folder.now total) }
+        ≡ report_data told.now sources.now report.now) }
 {
+    let chain = id_value(alloc, &told.chain)?;
     let commits = commits_value(alloc, report.commits())?;
     let conflict = conflict_value(alloc, report.conflict())?;
-    let culprits = culprits_value(alloc, folder, report.verdicts())?;
+    let culprits = culprits_value(alloc, told.folder, report.verdicts())?;
     let sources = sources_value(alloc, sources)?;
     let weight = digits_value(alloc, report.weight())?;
-    let total = digits_value(alloc, total)?;
+    let total = digits_value(alloc, told.total)?;
     json!(in alloc; {
+        "chain": chain,
         "commits": commits,
         "conflict": conflict,
         "culprits": culprits,
         "format": FORMAT,
         "sources": sources,
-        "status": status,
+        "status": told.status,
+        "time": told.time,
         "total": total,
+        "version": told.version,
         "weight": weight
     })
 }
@@ -48,39 +50,35 @@ fn report_value(
 // The text, with no line feed.
 fn compact_report(
     alloc: Global,
-    status: u8,
+    told: &AuditTold,
     sources: &[SourceTold],
     report: &Report,
-    folder: &str,
-    total: u64,
 ) -> Result<String, AllocError>
     ensures text { IfOk result (λ text. string_bytes text
-        ≡ compact_text (report_data status sources.now report.now folder.now total)) }
+        ≡ compact_text (report_data told.now sources.now report.now)) }
     ensures reads_back { IfOk result (λ text. read (string_bytes text)
-        ≡ Some (report_data status sources.now report.now folder.now total)) }
+        ≡ Some (report_data told.now sources.now report.now)) }
 {
-    let value = report_value(alloc, status, sources, report, folder, total)?;
+    let value = report_value(alloc, told, sources, report)?;
     value.to_string(alloc)
 }
 
-/// The report of an audit that ended with this status, as one object of JSON, with no space, and a line feed: what was found of
-/// the sources and the evidence, for verdicts that stand in `folder`, where all replicas count `total` together.
+/// The report of an audit, as one object of JSON, with no space, and a line feed: what it tells of itself, and what was found of
+/// the sources and the evidence.
 /// docs/FORMATS.md, "Report for programs", has its members.
 pub fn report_of(
     alloc: Global,
-    status: u8,
+    told: &AuditTold,
     sources: &[SourceTold],
     report: &Report,
-    folder: &str,
-    total: u64,
 ) -> Result<String, AllocError>
     ensures text { IfOk result (λ text. string_bytes text
-        ≡ compact_text (report_data status sources.now report.now folder.now total) ++ 10 ∷ []) }
+        ≡ compact_text (report_data told.now sources.now report.now) ++ 10 ∷ []) }
     ensures reads_back { IfOk result (λ _.
-        read (compact_text (report_data status sources.now report.now folder.now total))
-        ≡ Some (report_data status sources.now report.now folder.now total)) }
+        read (compact_text (report_data told.now sources.now report.now))
+        ≡ Some (report_data told.now sources.now report.now)) }
 {
-    let mut text = compact_report(alloc, status, sources, report, folder, total)?;
+    let mut text = compact_report(alloc, told, sources, report)?;
     text.push_str("\n")?;
     Ok(text)
 }

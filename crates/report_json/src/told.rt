@@ -1,6 +1,7 @@
-//! What an audit tells of a source.
+//! What an audit tells of itself, and of a source.
 
-use held_logs::Judgement;
+use blocks::Id;
+use parallel_verify::Judgement;
 use source_reasons::Reason;
 
 /// What an audit tells of a source.
@@ -12,4 +13,21 @@ pub struct SourceTold<'a> {
     pub judged: Judgement,
     /// Why its log is not sound, where it is not.
     pub reason: Option<Reason>,
+}
+
+/// What an audit tells of itself.
+#[derive(Clone, Copy, Debug)]
+pub struct AuditTold<'a> {
+    /// Its exit status.
+    pub status: u8,
+    /// The chain's id.
+    pub chain: Id,
+    /// How much all replicas count together.
+    pub total: u64,
+    /// The version of the program.
+    pub version: &'a str,
+    /// When it ended, in seconds since 1970.
+    pub time: u64,
+    /// The folder in which its verdicts stand.
+    pub folder: &'a str,
 }

@@ -10,7 +10,7 @@ use std::thread::Threads;
 use std::time::{Clock, Duration};
 use std::{fs, io, thread};
 use streams::{MemoryFeed, MemorySink};
-use tool_commands::{Host, run_tool};
+use tool_commands::{Extras, Host, SystemFiles, run_tool};
 
 /// How often a connection is tried until a replica listens.
 const MOST_KNOCKS: u32 = 600;
@@ -124,7 +124,10 @@ impl Job<'_> {
             &mut MemoryFeed::new(input),
             &mut out,
             &mut faults,
-            &mut MemorySink::new(alloc),
+            &mut Extras {
+                whys: MemorySink::new(alloc),
+                files: SystemFiles::of(rt, alloc),
+            },
         );
         let text = told(alloc, out.bytes(), faults.bytes(), status)?;
         Ok(Transcript { text })

@@ -5,7 +5,7 @@ use key_files::KnownSeed;
 use runs_script::run_script;
 use std::io;
 use streams::{MemoryFeed, MemorySink};
-use tool_commands::{Host, run_tool};
+use tool_commands::{Extras, Host, SystemFiles, run_tool};
 
 fn main(rt: HostRuntime) -> io::Result<()> {
     run_script(
@@ -27,7 +27,10 @@ fn main(rt: HostRuntime) -> io::Result<()> {
                         &mut MemoryFeed::new(input),
                         out,
                         faults,
-                        &mut MemorySink::new(rt.alloc()),
+                        &mut Extras {
+                            whys: MemorySink::new(rt.alloc()),
+                            files: SystemFiles::of(&rt, rt.alloc()),
+                        },
                     ))
                 }
                 _ => None,

@@ -15,7 +15,7 @@ use std::sync::Wait;
 use std::thread::Threads;
 use std::time::Clock;
 use streams::{MemoryFeed, MemorySink, write_all};
-use tool_commands::{FAULT, Host, run_tool};
+use tool_commands::{Extras, FAULT, Host, SystemFiles, run_tool};
 
 // What the random source gives: the seed of replica 2 of the trial committee.
 const DRAWN: [u8; 48] = [
@@ -92,11 +92,14 @@ where
         return FAULT;
     };
     let mut lines = MemoryFeed::new(input);
-    let mut whys = MemorySink::new(alloc);
+    let mut extras = Extras {
+        whys: MemorySink::new(alloc),
+        files: SystemFiles::of(files, alloc),
+    };
     let seeds = KnownSeed::of(DRAWN);
-    let status = run_tool(&host, &seeds, words, &mut lines, out, faults, &mut whys);
+    let status = run_tool(&host, &seeds, words, &mut lines, out, faults, &mut extras);
     // Both go to standard error.
-    match write_all(faults, whys.bytes()) {
+    match write_all(faults, extras.whys.bytes()) {
         Ok(()) => status,
         Err(_) => FAULT,
     }

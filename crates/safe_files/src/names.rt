@@ -13,21 +13,18 @@ const MODE: u32 = 0o644;
 /// The name that a file takes once it is whole. Until then its bytes stand at `PATH.new`, so that a crash leaves no part of
 /// it at PATH.
 #[derive(Drop)]
-pub struct NewName<'f, 'a, F> {
+pub struct NewName<'f, F> {
     files: &'f F,
-    path: &'a str,
+    path: String,
     beside: String,
 }
 
-impl<'f, 'a, F: Files<File = File>> NewName<'f, 'a, F> {
+impl<'f, F: Files<File = File>> NewName<'f, F> {
     /// A new file for reading and writing, at `PATH.new`, and the name that it is to take. Fails where `PATH.new` is there
     /// already, which then stays.
-    pub fn begin(
-        files: &'f F,
-        alloc: Global,
-        path: &'a str,
-    ) -> io::Result<(NewName<'f, 'a, F>, File)> {
+    pub fn begin(files: &'f F, alloc: Global, path: &str) -> io::Result<(NewName<'f, F>, File)> {
         let beside = format!(in alloc; "{path}.new")?;
+        let path = path.to_string(alloc)?;
         let mut how = OpenOptions::new();
         how.read(true).write(true).create_new(true).mode(MODE);
         let file = how.open(files, &beside)?;
@@ -44,27 +41,27 @@ impl<'f, 'a, F: Files<File = File>> NewName<'f, 'a, F> {
     /// The file takes its name, in place of a file of that name. It has to be synced before. After a failure `PATH.new` is
     /// gone, and PATH as it was.
     pub fn take(self) -> io::Result<()> {
-        let taken = fs::rename(self.files, self.beside.as_str(), self.path);
+        let taken = fs::rename(self.files, self.beside.as_str(), self.path.as_str());
         if taken.is_err() {
             self.remove();
         }
-        sync_folder_of(self.files, self.path);
+        sync_folder_of(self.files, &self.path);
         taken
     }
 
     /// The file takes its name, where nothing else has it. What took it meanwhile stays, and that is a failure; `PATH.new` is
     /// gone then, too.
     pub fn take_new(self) -> io::Result<()> {
-        let taken = fs::hard_link(self.files, self.beside.as_str(), self.path);
+        let taken = fs::hard_link(self.files, self.beside.as_str(), self.path.as_str());
         self.remove();
-        sync_folder_of(self.files, self.path);
+        sync_folder_of(self.files, &self.path);
         taken
     }
 
     /// Gives the name up: `PATH.new` goes.
     pub fn give_up(self) {
         self.remove();
-        sync_folder_of(self.files, self.path);
+        sync_folder_of(self.files, &self.path);
     }
 
     fn remove(&self) {

@@ -1,7 +1,8 @@
 -- What may come of a request where some blocks are not voted for, and a log that was put back is found out.
-use Rattle.std.specs.Prelude.{◌≡◌, ◌≢◌, ◌⊎◌, ℕ, List}
+use Rattle.std.specs.Prelude.{◌≡◌, ◌≢◌, ◌⊎◌, ℕ, List, Option}
 use Rattle.blocks.specs.Headers.{Header}
 use Rattle.blocks.specs.Replica.{Stored}
+use Rattle.handover.specs.Handovers.{handover_mark}
 use Rattle.certificates.specs.BlockChecks.{IsBlockRefusal, IsChecked}
 use Rattle.certificates.specs.Certificates.{Certificate}
 use Rattle.replica_core.specs.declared.plan.Act.TheVariants.{Vote}
@@ -10,7 +11,8 @@ use Rattle.vote_log.specs.declared.log_error.LogError.{LogError}
 use Rattle.vote_desk.specs.Deliveries.{IsGoodReply, act_of}
 use Rattle.vote_desk.specs.DeskRefusals.{from_log}
 use Rattle.vote_desk.specs.Desks.{DeskView}
-use Rattle.vote_desk.specs.SomeDesk.{IsDeskOf, Refuses, RefusesUnvoted, Replies, RepliesUnvoted, SomeDeskMoves}
+use Rattle.vote_desk.specs.Firsts.{RefusesOnce, RepliesOnce}
+use Rattle.vote_desk.specs.SomeDesk.{IsDeskOf, RefusesUnvoted, RepliesUnvoted, SomeDeskMoves}
 use Rattle.vote_desk.specs.declared.desk_error.DeskError.{DeskError}
 use Rattle.vote_desk.specs.declared.reply.Answer.{Answer}
 use Rattle.vote_desk.specs.declared.reply.Answer.TheVariants.{Held}
@@ -22,7 +24,7 @@ use Rattle.replica_answers.specs.declared.request.Request.{Request}
 use Rattle.replica_answers.specs.declared.request.Request.TheVariants as asks
 use Rattle.replica_answers.specs.Answers.{IsAnswerTo, block_of}
 use Rattle.signer_answers.specs.Approvals.{IsApproved, IsWithheld, Telling}
-use Rattle.signer_answers.specs.Guards.{IsNotVotedBefore, IsPutBack, IsRemembered, IsUnread, IsUnreadable, IsVotedBefore}
+use Rattle.signer_answers.specs.Guards.{IsNotVotedBefore, IsUndecided, IsPutBack, IsRemembered, IsUnreadAs, IsUnreadable, IsVotedBefore}
 use Rattle.signer_answers.specs.declared.told.Told.{Told}
 use Rattle.signer_answers.specs.declared.told.Told.TheVariants as told
 
@@ -33,18 +35,18 @@ module _ {D : Type 0} (disk : Ghosts D) (committee : List ℕ) (replica : ℕ) (
 
   -- ---- a block
 
-  -- the block is approved, and some desk moved by its one event with this reply; or it is withheld, and that desk gave up on its
-  -- view before, so that the reply is no vote
+  -- the block is approved, and some desk moved by its one event with this reply, which is no vote for a handover above another; or
+  -- it is withheld, and that desk gave up on its view before, so that the reply is no vote
   abbrev pub IsReplied : Telling → Header → Certificate → Reply → Type 0
   IsReplied tells header certificate reply =
-      (IsApproved tells header × SomeMove (Replies disk committee replica (block_of committee header certificate) reply))
+      (IsApproved tells header × SomeMove (RepliesOnce disk committee replica handover_mark (block_of committee header certificate) reply))
       ⊎ (IsWithheld tells header × (act_of reply.act ≢ Vote)
       × SomeMove (RepliesUnvoted disk committee replica (block_of committee header certificate) reply))
 
   -- .. and some desk refuses it so, and is left so
   abbrev pub IsRefused : Telling → Header → DeskError → Type 0
   IsRefused tells header refusal =
-      (IsApproved tells header × SomeMove (Refuses disk header refusal))
+      (IsApproved tells header × SomeMove (RefusesOnce disk handover_mark header refusal))
       ⊎ (IsWithheld tells header × SomeMove (RefusesUnvoted disk header refusal))
 
   -- the certificate is good and remembered, and the desk replies so
@@ -54,7 +56,7 @@ module _ {D : Type 0} (disk : Ghosts D) (committee : List ℕ) (replica : ℕ) (
     pub good : IsGoodReply committee replica header reply
     pub event : IsReplied tells header certificate reply
 
-  -- a block is told as held only where the log has no vote for it, as far as it can be read
+  -- a block is told as held only where the log has no vote for it, or can't be read though it runs
   abbrev pub IsToldPlainly : List Receipt → Header → Answer → Type 0
   IsToldPlainly receipts header Held = IsNotVotedBefore disk committee replica opening receipts header
   IsToldPlainly receipts header _ = Unit {0}
@@ -65,15 +67,21 @@ module _ {D : Type 0} (disk : Ghosts D) (committee : List ℕ) (replica : ℕ) (
     pub remembered : IsRemembered disk committee replica opening receipts certificate
     pub refused : IsRefused tells header refusal
 
-  -- the certificate is good, and what the log has in its view can't be read: nothing is delivered
+  -- the certificate is good, and what the log has in its view can't be read, or is spoilt: nothing is delivered
   pub record IsUnreadWithin (receipts : List Receipt) (header : Header) (certificate : Certificate) (e : LogError) : Type 0 where
     pub checked : IsChecked committee header certificate
-    pub unread : IsUnread disk committee replica opening receipts certificate.view e
+    pub unread : IsUndecided disk committee replica opening receipts certificate e
 
   -- .. for want of memory, or since the log is stopped
   abbrev pub IsUnreadFor : List Receipt → Header → Certificate → DeskError → Type 0
   IsUnreadFor receipts header certificate refusal =
       (e : LogError) × IsUnreadWithin receipts header certificate e × (IsUnreadable e → ⊥) × (refusal ≡ from_log e)
+
+  -- the block is held, and what the log has in its view can't be read, for want of memory or since the log is stopped
+  pub record IsHeldUnread (tells : Telling) (receipts : List Receipt) (header : Header) (certificate : Certificate) (refusal : DeskError) : Type 0 where
+    pub committed : Option (List ℕ)
+    pub held : IsReplyWithin tells receipts header certificate (record { act = Held; committed = committed })
+    pub unread : IsUnreadAs disk committee replica opening receipts header.view refusal
 
   -- what may come of a block: its certificate is judged, and if it is good and remembered, the block goes to the desk
   abbrev pub IsBlockAnswer : Telling → List Receipt → Header → Certificate → Outcome → Type 0
@@ -82,6 +90,7 @@ module _ {D : Type 0} (disk : Ghosts D) (committee : List ℕ) (replica : ℕ) (
   IsBlockAnswer tells receipts header certificate (came.RefusedBlock refusal) = IsBlockRefusal refusal committee header certificate
   IsBlockAnswer tells receipts header certificate (came.RefusedByDesk refusal) =
       IsRefusalWithin tells receipts header certificate refusal ⊎ IsUnreadFor receipts header certificate refusal
+      ⊎ IsHeldUnread tells receipts header certificate refusal
   IsBlockAnswer tells receipts header certificate _ = ⊥
 
   -- what may be told of a block beside: that the desk holds it, and the log's vote for it; or that the log can't be read

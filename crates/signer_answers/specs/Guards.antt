@@ -7,15 +7,17 @@ use Rattle.blocks.specs.Replica.{Stored}
 use Rattle.blocks.specs.declared.ballot.Ballot.{Ballot}
 use Rattle.certificates.specs.Certificates.{Certificate, vote_of}
 use Rattle.certificates.specs.GoodCertificates.{IsGoodCertificate}
-use Rattle.certificates.specs.Votes.{ballot_of}
+use Rattle.certificates.specs.Votes.{IsGoodVote, ballot_of}
 use Rattle.certificates.specs.declared.certificate.Endorsement.{Endorsement}
 use Rattle.certificates.specs.declared.vote.SignedVote.{SignedVote}
 use Rattle.stable_log.specs.declared.disk.Disk.{Ghosts}
 use Rattle.vote_log.specs.declared.log_error.LogError.{LogError}
 use Rattle.vote_log.specs.declared.log_error.LogError.TheVariants.{Device, BadEntry}
+use Rattle.vote_desk.specs.DeskRefusals.{from_log}
 use Rattle.vote_desk.specs.Released.{RefusesVoteWith}
 use Rattle.vote_desk.specs.SomeDesk.{IsDeskOf, SomeDesk}
 use Rattle.vote_desk.specs.Votes.{AreFound, IsFoundAsOpened, IsNoneFoundBelow, IsVoteFound}
+use Rattle.vote_desk.specs.declared.desk_error.DeskError.{DeskError}
 use Rattle.vote_desk.specs.declared.reply.Receipt.{Receipt}
 use Rattle.own_votes.specs.Forgotten.{IsForgottenVote}
 use Rattle.own_votes.specs.OwnVotes.{ShowsForeignVote}
@@ -32,6 +34,18 @@ IsUnreadable Device = Unit {0}
 IsUnreadable (BadEntry number) = Unit {0}
 IsUnreadable _ = ⊥
 
+-- ---- whether what a log has can tell of another vote on a block
+
+-- what was found is on another block, or is a good vote, or there is none
+abbrev pub IsSound : (committee id : List ℕ) → Option Receipt → Type 0
+IsSound committee id (Some receipt) = receipt.vote.id ≡ id → IsGoodVote committee receipt.vote
+IsSound committee id None = Unit {0}
+
+-- it is a vote on this block that is not good, so that bytes of it changed on the disk: its entry is bad
+abbrev pub IsSpoilt : (committee id : List ℕ) → Option Receipt → LogError → Type 0
+IsSpoilt committee id (Some receipt) e = (receipt.vote.id ≡ id) × (IsGoodVote committee receipt.vote → ⊥) × (e ≡ BadEntry receipt.number)
+IsSpoilt committee id None e = ⊥
+
 module _ {D : Type 0} (disk : Ghosts D) (committee : List ℕ) (replica : ℕ) (opening : List Stored) where
   -- ---- what a log has in a view
 
@@ -47,13 +61,29 @@ module _ {D : Type 0} (disk : Ghosts D) (committee : List ℕ) (replica : ℕ) (
   abbrev pub IsUnread : List Receipt → ℕ → LogError → Type 0
   IsUnread receipts view e = RefusesVoteWith disk (IsDeskOf disk committee replica opening) replica view receipts e
 
+  -- .. for want of memory, or since it is stopped, so that the desk refuses
+  abbrev pub IsUnreadAs : List Receipt → ℕ → DeskError → Type 0
+  IsUnreadAs receipts view refusal = (e : LogError) × IsUnread receipts view e × (IsUnreadable e → ⊥) × (refusal ≡ from_log e)
+
   -- ---- in a certificate
 
-  -- the certificate has a vote of this replica that is not the one in the log
+  -- the certificate has a vote of this replica that is not the one in the log, which is sound
   pub record IsForgotten (receipts : List Receipt) (c : Certificate) : Type 0 where
     pub found : Option Receipt
     pub read : IsFoundIn receipts c.view found
     pub foreign : ShowsForeignVote replica (votes_found found) c
+    pub sound : IsSound committee c.id found
+
+  -- .. which is spoilt
+  pub record IsSpoiltBeside (receipts : List Receipt) (c : Certificate) (e : LogError) : Type 0 where
+    pub found : Option Receipt
+    pub read : IsFoundIn receipts c.view found
+    pub foreign : ShowsForeignVote replica (votes_found found) c
+    pub spoilt : IsSpoilt committee c.id found e
+
+  -- it can't be told whether the certificate is remembered: the log can't be read in its view, or what it has there is spoilt
+  abbrev pub IsUndecided : List Receipt → Certificate → LogError → Type 0
+  IsUndecided receipts c e = IsUnread receipts c.view e ⊎ IsSpoiltBeside receipts c e
 
   -- it has no vote of this replica, or the one in the log
   abbrev pub IsRemembered : List Receipt → Certificate → Type 0
@@ -77,17 +107,26 @@ module _ {D : Type 0} (disk : Ghosts D) (committee : List ℕ) (replica : ℕ) (
   abbrev pub AForgottenVoteIsNotTheCallers : Type 0
   AForgottenVoteIsNotTheCallers = (receipts : List Receipt) (c : Certificate) → IsForgotten receipts c → HasVoteNotOf receipts c
 
-  -- ---- in another log
+  -- ---- in a log that others hand out
 
-  -- a good vote on what this ballot names, which is not the one in the log
+  -- a good vote on what this ballot names, which is not the one in the log, which is sound
   pub record IsForgottenOn (ballot : Ballot) : Type 0 where
     pub vote : SignedVote
     pub found : Option Receipt
     pub read : IsFoundIn [] vote.view found
     pub forgotten : IsForgottenVote committee replica (votes_found found) vote
+    pub sound : IsSound committee vote.id found
     pub on : ballot ≡ ballot_of vote
 
-  -- a good certificate showed it to a caller, or such a vote in another log
+  -- beside a good vote the one in the log, which is another, is spoilt
+  pub record IsSpoiltBesideVote (e : LogError) : Type 0 where
+    pub vote : SignedVote
+    pub found : Option Receipt
+    pub read : IsFoundIn [] vote.view found
+    pub forgotten : IsForgottenVote committee replica (votes_found found) vote
+    pub spoilt : IsSpoilt committee vote.id found e
+
+  -- a good certificate showed it to a caller, or such a vote in a log
   abbrev pub WasPutBack : Ballot → Type 0
   WasPutBack ballot = ((receipts : List Receipt) × IsPutBack receipts ballot) ⊎ IsForgottenOn ballot
 
@@ -103,8 +142,8 @@ module _ {D : Type 0} (disk : Ghosts D) (committee : List ℕ) (replica : ℕ) (
     pub found : IsFoundIn receipts b.view (Some receipt)
     pub on : receipt.vote.id ≡ header_id b
 
-  -- it has none for it, or can't be read
+  -- it has none for it, or can't be read, though it runs and there is memory
   abbrev pub IsNotVotedBefore : List Receipt → Header → Type 0
   IsNotVotedBefore receipts b =
       ((found : Option Receipt) × IsFoundIn receipts b.view found × (IsVoteFor b found → ⊥))
-      ⊎ ((e : LogError) × IsUnread receipts b.view e)
+      ⊎ ((e : LogError) × IsUnread receipts b.view e × IsUnreadable e)

@@ -16,7 +16,7 @@ use crate::office::Office;
 use crate::told::Told;
 use blocks::Header;
 use certificates::{Certificate, CheckedBlock, Verifier, check_block};
-use handover::is_handover;
+use handover::{HANDOVER_MARK, is_handover};
 use replica_answers::{Outcome, Request, time_out};
 use stable_log::Disk;
 use std::sync::Wait;
@@ -27,8 +27,10 @@ use vote_desk::{Answer, DeskError, DeskNaming, Reply, Session};
 /// certificate was found good: if another payload is approved, or none, the block is raised or held, and never voted for.
 /// A good certificate that has a vote of this replica, other than the one in the log, stops the callers of the desk: the block
 /// is not delivered, and `PutBack` is answered, behind what the keeper does where it is the first. The caller then has what shows
-/// it, and must not ask any more. That callers which come later are stopped is up to who calls this. Where the desk holds a block
-/// for which the log has this replica's vote, that vote is told `Again`.
+/// it, and must not ask any more. That callers which come later are stopped is up to who calls this. Where the one in the log is on
+/// the same block and not good, bytes of it changed on the disk: nobody is stopped, and `Unread` is told. Where the desk holds a block
+/// for which the log has this replica's vote, that vote is told `Again`; the desk's refusal, where the log can't be read then for
+/// want of memory or since another call stopped it; and that the block is held, where it can't be read otherwise.
 pub fn answer<'a, N: DeskNaming, T: Wait, D: Disk, V: Verifier, K: Approver + Keeper>(
     rt: &T,
     office: &Office<'a, N, D, K>,
@@ -89,7 +91,8 @@ fn judge<'a, N: DeskNaming, T: Wait, D: Disk, V: Verifier, K: Approver + Keeper>
     }
 }
 
-// Delivers a block whose certificate is remembered. Where it is held, the log's vote for it is told.
+// Delivers a block whose certificate is remembered. Where it is held, the log's vote for it is told; where the log can't be read for
+// want of memory, or since another call stopped it, the desk's refusal.
 fn hand_in<N: DeskNaming, T: Wait, D: Disk, K: Approver + Keeper>(
     rt: &T,
     office: &Office<'_, N, D, K>,
@@ -113,12 +116,13 @@ fn hand_in<N: DeskNaming, T: Wait, D: Disk, K: Approver + Keeper>(
         return Told::Came(Outcome::Replied(reply));
     }
     match vote_for(rt, office, session.receipts(), &named) {
-        Some(receipt) => Told::Again(receipt, reply.committed),
-        None => Told::Came(Outcome::Replied(reply)),
+        Ok(Some(receipt)) => Told::Again(receipt, reply.committed),
+        Ok(None) => Told::Came(Outcome::Replied(reply)),
+        Err(refusal) => Told::Came(Outcome::RefusedByDesk(refusal)),
     }
 }
 
-// Delivers a block, to be voted for only if it may be.
+// Delivers a block, to be voted for only if it may be: no handover is that is not approved, or above another in its chain.
 #[tactic(auto, using(crate::proofs::Unvoted::unvoted_adds_none))]
 fn deliver<N: DeskNaming, T: Wait, D: Disk, K: Approver + Keeper>(
     rt: &T,
@@ -143,7 +147,10 @@ fn deliver<N: DeskNaming, T: Wait, D: Disk, K: Approver + Keeper>(
             Err(refusal) => Err(refusal),
         }
     } else {
-        match office.desk.deliver(rt, session, block) {
+        match office
+            .desk
+            .deliver_marked_once(rt, session, block, HANDOVER_MARK)
+        {
             Ok(reply) => Ok(reply),
             Err(refusal) => Err(refusal),
         }

@@ -2,7 +2,7 @@
 
 ghost use Rattle.std.specs.Prelude.{◌≡◌};
 ghost use Rattle.signer_answers.specs.Guards.{WasPutBack};
-ghost use Rattle.signer_answers.specs.Showings.{IsOfCertificate, WasKept};
+ghost use Rattle.signer_answers.specs.Showings.{IsOfEither, WasKept};
 
 use crate::keeper::Keeper;
 use blocks::{Ballot, Header};
@@ -34,7 +34,7 @@ impl<N: DeskNaming, D: Disk, K: Keeper> Model for Found<N, D, K> {
 }
 
 impl<N: DeskNaming, D: Disk, K: Keeper> Found<N, D, K> {
-    // Behind the keeper's call, with the certificate that showed it.
+    // Behind the keeper's call, with the block and the certificate that showed it.
     pub fn new(
         keeper: &K,
         ballot: Ballot,
@@ -43,7 +43,7 @@ impl<N: DeskNaming, D: Disk, K: Keeper> Found<N, D, K> {
         entries: usize,
     ) -> Found<N, D, K>
         requires found { WasPutBack D.Disk N.committee N.replica N.opening ballot }
-        requires certificate { IsOfCertificate certificate.now ballot }
+        requires on { IsOfEither header.now certificate.now ballot }
         ensures { result ≡ ballot }
     {
         keeper.keep(header, certificate, entries);

@@ -6,6 +6,7 @@ ghost use Rattle.signer_answers.specs.Hearings.{HasHeard, IsGivenUp, IsHearingRe
 
 use crate::approver::Approver;
 use crate::giving_up::{GivenUp, give_up};
+use crate::heard::Heard;
 use crate::keeper::Keeper;
 use crate::office::Office;
 use crate::opened::Opened;
@@ -55,23 +56,24 @@ impl<N: DeskNaming, D: Disk> Gate<N, D> {
     /// desk gives up on all views up to the one above the greatest that was found to be certified. Answers what shows that it is
     /// open, or none where they are not enough. Where it was opened before, the desk gives up all the same. `Memory`, where what
     /// was heard could not be copied, or `Stopped`, by a stopped desk: then the gate stays as it was.
-    pub fn hear<R: Wait, K: Approver + Keeper>(
+    pub fn hear<R: Wait, K: Approver + Keeper, H: Heard>(
         &self,
         rt: &R,
         alloc: Global,
         office: &Office<'_, N, D, K>,
-        whole: &[bool],
-        greatest: Option<u64>,
+        heard: &H,
     ) -> Result<Option<Opened<'_, N, D>>, DeskError>
-        ensures few { IfOk result (λ opened. opened ≡ None → AreEnough N.committee N.replica whole.now → ⊥) }
+        ensures few { IfOk result (λ opened. opened ≡ None
+            → AreEnough N.committee N.replica (H.hearing heard.now).whole → ⊥) }
         ensures given_up { IfOk result (λ opened. IfSome opened (λ it.
-            IsGivenUp D.Disk N.committee N.replica N.opening (record { whole = whole.now; greatest = greatest }))) }
+            IsGivenUp D.Disk N.committee N.replica N.opening
+            (H.hearing heard.now))) }
         ensures opened { IfOk result (λ opened. IfSome opened (λ it. it.of ≡ self.now.heard.id)) }
         ensures by_this { IfOk result (λ opened. IfSome opened (λ it. IsTrue it.is_first →
-            it.heard ≡ record { whole = whole.now; greatest = greatest })) }
+            it.heard ≡ H.hearing heard.now)) }
         ensures refused { IfErr result (IsHearingRefusal D.Disk N.committee N.replica N.opening) }
     {
-        let Some(given_up) = give_up(rt, alloc, office, whole, greatest)? else {
+        let Some(given_up) = give_up(rt, alloc, office, heard)? else {
             return Ok(None);
         };
         given_up.heard();

@@ -5,6 +5,7 @@ ghost use Rattle.asked_logs.specs.Enough.{AreEnough};
 ghost use Rattle.signer_answers.specs.Hearings.{IsGivenUp, IsHearingRefusal, IsTimedOut};
 
 use crate::approver::Approver;
+use crate::heard::Heard;
 use crate::keeper::Keeper;
 use crate::office::Office;
 use asked_logs::are_enough;
@@ -70,23 +71,23 @@ fn time_out<N: DeskNaming, R: Wait, D: Disk, K: Approver + Keeper>(
     }
 }
 
-// Gives up on all views up to the one above the greatest, where these are enough.
-pub(crate) fn give_up<N: DeskNaming, R: Wait, D: Disk, K: Approver + Keeper>(
+// Gives up on all views up to the one above the greatest, where enough were heard.
+pub(crate) fn give_up<N: DeskNaming, R: Wait, D: Disk, K: Approver + Keeper, H: Heard>(
     rt: &R,
     alloc: Global,
     office: &Office<'_, N, D, K>,
-    whole: &[bool],
-    greatest: Option<u64>,
+    heard: &H,
 ) -> Result<Option<GivenUp<N, D>>, DeskError>
     ensures heard { IfOk result (λ given_up. MatchOption given_up
-        (AreEnough N.committee N.replica whole.now → ⊥)
-        (λ it. it ≡ record { whole = whole.now; greatest = greatest })) }
+        (AreEnough N.committee N.replica (H.hearing heard.now).whole → ⊥)
+        (λ it. it ≡ H.hearing heard.now)) }
     ensures refused { IfErr result (IsHearingRefusal D.Disk N.committee N.replica N.opening) }
 {
-    if !are_enough(office.committee, office.replica, whole) {
+    if !are_enough(office.committee, office.replica, heard.whole()) {
         return Ok(None);
     }
-    let whole = copy_of(alloc, whole)?;
+    let whole = copy_of(alloc, heard.whole())?;
+    let greatest = heard.greatest();
     time_out(rt, office, greatest)?;
     Ok(Some(GivenUp {
         whole,

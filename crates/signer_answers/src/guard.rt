@@ -1,17 +1,17 @@
 //! Whether a certificate shows a vote of this replica that its log lacks.
 
-ghost use Rattle.std.specs.Prelude.{◌≡◌, ◌↔◌, IfErr, IfOk, IsFalse, IsTrue, MatchOption, [], ◌∷◌};
+ghost use Rattle.std.specs.Prelude.{◌≡◌, ◌↔◌, IfErr, IfOk, IsFalse, IsTrue, MatchOption, OnOk, [], ◌∷◌};
 ghost use Rattle.certificates.specs.BlockChecks.{IsChecked};
 ghost use Rattle.own_votes.specs.OwnVotes.{ShowsForeignVote};
 ghost use Rattle.vote_desk.specs.DeskRefusals.{from_log};
-ghost use Rattle.signer_answers.specs.Guards.{IsForgotten, IsFoundIn, IsNotVotedBefore, IsPutBack, IsRemembered, IsUnread, IsUnreadable, IsVotedBefore, votes_found};
+ghost use Rattle.signer_answers.specs.Guards.{IsForgotten, IsFoundIn, IsNotVotedBefore, IsUndecided, IsPutBack, IsRemembered, IsSound, IsSpoilt, IsUnread, IsUnreadAs, IsUnreadable, IsVotedBefore, votes_found};
 
 use crate::approver::Approver;
 use crate::keeper::Keeper;
 use crate::office::Office;
 use crate::shown::Shown;
-use blocks::{Ballot, NamedHeader};
-use certificates::CheckedBlock;
+use blocks::{Ballot, CommitteeView, Id, NamedHeader};
+use certificates::{CheckedBlock, check_vote};
 use own_votes::shows_foreign_vote;
 use stable_log::Disk;
 use std::sync::Wait;
@@ -57,6 +57,28 @@ fn has_other_vote(replica: u16, found: &Option<Receipt>, block: &CheckedBlock) -
     }
 }
 
+// Sees that what was found can tell of another vote on the block of this id. Where it is itself a vote on that block and is not good,
+// bytes of it changed on the disk, and another signature on the same block tells nothing.
+pub(crate) fn see_sound(
+    committee: &CommitteeView,
+    id: &Id,
+    found: &Option<Receipt>,
+) -> Result<(), LogError>
+    ensures sound { OnOk result (IsSound committee.now id.now found.now) }
+    ensures spoilt { IfErr result (IsSpoilt committee.now id.now found.now) }
+{
+    let Some(receipt) = found else {
+        return Ok(());
+    };
+    if receipt.vote.id != *id {
+        return Ok(());
+    }
+    match check_vote(committee, &receipt.vote) {
+        Ok(()) => Ok(()),
+        Err(_) => Err(LogError::BadEntry(receipt.number as usize)),
+    }
+}
+
 // Whether the block's certificate has a vote of this replica that the log lacks. The log is read only where it has a vote of
 // this replica at all.
 pub(crate) fn forgets<N: DeskNaming, T: Wait, D: Disk, K: Approver + Keeper>(
@@ -69,14 +91,22 @@ pub(crate) fn forgets<N: DeskNaming, T: Wait, D: Disk, K: Approver + Keeper>(
         → IsForgotten D.Disk N.committee N.replica N.opening receipts.now block.now.certificate) }
     ensures remembered { IfOk result (λ is_so. IsFalse is_so
         → IsRemembered D.Disk N.committee N.replica N.opening receipts.now block.now.certificate) }
-    ensures refused { IfErr result (IsUnread D.Disk N.committee N.replica N.opening
-        receipts.now block.now.certificate.view) }
+    ensures refused { IfErr result (IsUndecided D.Disk N.committee N.replica N.opening
+        receipts.now block.now.certificate) }
 {
     if !has_other_vote(office.replica, &None, block) {
         return Ok(false);
     }
-    match read(rt, office, receipts, block.certificate().view()) {
-        Ok(found) => Ok(has_other_vote(office.replica, &found, block)),
+    let certificate = block.certificate();
+    let found = match read(rt, office, receipts, certificate.view()) {
+        Ok(found) => found,
+        Err(error) => return Err(error),
+    };
+    if !has_other_vote(office.replica, &found, block) {
+        return Ok(false);
+    }
+    match see_sound(office.committee, certificate.id(), &found) {
+        Ok(()) => Ok(true),
         Err(error) => Err(error),
     }
 }
@@ -109,26 +139,32 @@ pub(crate) fn stop<'a, N: DeskNaming, T: Wait, D: Disk, K: Approver + Keeper>(
     (ballot, shown)
 }
 
-// The log's vote for the block, if it has one and can be read.
+// The log's vote for the block, if it has one. None, too, where it can't be read though it runs and there is memory: else the desk's
+// refusal is answered.
 pub(crate) fn vote_for<N: DeskNaming, T: Wait, D: Disk, K: Approver + Keeper>(
     rt: &T,
     office: &Office<'_, N, D, K>,
     receipts: &[Receipt],
     block: &NamedHeader,
-) -> Option<Receipt>
-    ensures { MatchOption result
+) -> Result<Option<Receipt>, DeskError>
+    ensures told { IfOk result (λ found. MatchOption found
         (IsNotVotedBefore D.Disk N.committee N.replica N.opening receipts.now block.now)
-        (IsVotedBefore D.Disk N.committee N.replica N.opening receipts.now block.now) }
+        (IsVotedBefore D.Disk N.committee N.replica N.opening receipts.now block.now)) }
+    ensures refused { IfErr result (IsUnreadAs D.Disk N.committee N.replica N.opening
+        receipts.now block.now.view) }
 {
     match read(rt, office, receipts, block.header().view) {
         Ok(Some(receipt)) => {
             if receipt.vote.id == *block.id() {
-                Some(receipt)
+                Ok(Some(receipt))
             } else {
-                None
+                Ok(None)
             }
         }
-        Ok(None) => None,
-        Err(_) => None,
+        Ok(None) => Ok(None),
+        Err(error) => match refusal_of(error) {
+            Some(refusal) => Err(refusal),
+            None => Ok(None),
+        },
     }
 }

@@ -2,7 +2,7 @@
 
 ghost use Rattle.std.specs.Prelude.{◌≡◌, IfSome, IsSome};
 ghost use Rattle.signer_answers.specs.Guards.{WasPutBack};
-ghost use Rattle.signer_answers.specs.Showings.{IsOfCertificate};
+ghost use Rattle.signer_answers.specs.Showings.{IsOfEither};
 
 use crate::found::Found;
 use crate::keeper::Keeper;
@@ -29,7 +29,8 @@ impl<N: DeskNaming, D: Disk, K: Keeper> PutBack<N, D, K> {
         }
     }
 
-    /// What the certificate or the vote was on that showed it first, if one did. Who hands in what shows it is always told.
+    /// What the certificate or the vote was on that showed it first, if one did. Who hands in what shows it is always told; who has
+    /// nothing to hand in may keep what `look` answers.
     pub fn found<R: Wait>(&self, rt: &R, shown: &Option<Shown<'_, N, D, K>>) -> Option<Ballot>
         ensures found { IfSome result (WasPutBack D.Disk N.committee N.replica N.opening) }
         ensures shown { IsSome shown.now → IsSome result }
@@ -37,12 +38,24 @@ impl<N: DeskNaming, D: Disk, K: Keeper> PutBack<N, D, K> {
         if let Some(shown) = shown {
             return Some(shown.ballot());
         }
-        let _turn = self.turn.lock(rt);
-        let found = self.cell.get()?;
-        Some(found.ballot())
+        match self.look(rt) {
+            Some(shown) => Some(shown.ballot()),
+            None => None,
+        }
     }
 
-    // It was found, by this certificate, which came with the block of this header. Where it is for the first time the keeper
+    /// What shows it, if it was found by whatever caller. It may wait while the keeper puts it down.
+    pub fn look<R: Wait>(&self, rt: &R) -> Option<Shown<'_, N, D, K>>
+        ensures { IfSome result (λ shown. shown.of ≡ self.now.cell.id) }
+    {
+        let _turn = self.turn.lock(rt);
+        match self.cell.witness() {
+            Some(token) => Some(Shown::new(&self.cell, token)),
+            None => None,
+        }
+    }
+
+    // It was found, by this certificate or the block of this header, which came together. Where it is for the first time the keeper
     // puts it down, and only then it is told: the lock is held meanwhile, so whoever asks waits for that, and no caller is let
     // past. Answers what shows it.
     pub(crate) fn find<R: Wait>(
@@ -55,7 +68,7 @@ impl<N: DeskNaming, D: Disk, K: Keeper> PutBack<N, D, K> {
         entries: usize,
     ) -> Shown<'_, N, D, K>
         requires found { WasPutBack D.Disk N.committee N.replica N.opening ballot }
-        requires certificate { IsOfCertificate certificate.now ballot }
+        requires on { IsOfEither header.now certificate.now ballot }
         ensures { result.of ≡ self.now.cell.id }
     {
         let _turn = self.turn.lock(rt);

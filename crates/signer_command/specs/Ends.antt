@@ -1,5 +1,6 @@
 -- How a signer ends, and what it has printed by then.
-use Rattle.std.specs.Prelude.{◌≡◌, ℕ, List, ◌++◌, Option, length, if◌then◌else◌, ◌||◌}
+use Rattle.std.specs.Prelude.{◌≡◌, ℕ, List, ◌++◌, Option, Some, length, if◌then◌else◌, ◌||◌}
+use Rattle.std.specs.Borrow.{Bor}
 use Rattle.stable_log.specs.declared.disk.Disk.{Ghosts}
 use Rattle.streams.specs.Streams.{Wrote, WrotePart}
 use Rattle.program_parts.specs.declared.program_fault.ProgramFault.{ProgramFault}
@@ -10,8 +11,12 @@ use Rattle.vote_desk.specs.declared.parts.Closed.{Closed}
 use Rattle.signer_command.specs.Lines.{Places, closed_line, listening_text}
 use Rattle.signer_command.specs.declared.fault.SignerFault.{SignerFault}
 use Rattle.signer_command.specs.declared.fault.SignerFault.TheVariants.{DiskFailed, FileIn, Receipts}
+use Rattle.signer_command.specs.declared.marks.MarkAt.{MarkAt}
+use Rattle.signer_command.specs.declared.marks.MarkAt.TheVariants as mark
 use Rattle.signer_command.specs.declared.program.Ended.{Ended}
 use Rattle.signer_command.specs.declared.program.Ended.TheVariants.{Done, Stopped}
+use Rattle.signer_command.specs.declared.words.Where.{Where}
+use Rattle.signer_command.specs.declared.words.Where.TheVariants as asked
 
 abbrev pub Fault : Type 0
 Fault = ProgramFault SignerFault
@@ -37,6 +42,11 @@ fault_status (program.Own (FileIn folder PutBack)) = 4
 fault_status (program.Own (FileIn folder FailedInFolder)) = 4
 fault_status (program.Own (DiskFailed socket)) = 4
 fault_status fault = 2
+
+-- of a disk that failed: the mark beside the socket where it stands there alone, else that in the folder
+abbrev pub disk_fault : (folder : Bor (List ℕ)) → Where → Option MarkAt → Fault
+disk_fault folder (asked.Unix socket) (Some mark.Socket) = program.Own (DiskFailed socket)
+disk_fault folder place at = program.Own (FileIn folder FailedInFolder)
 
 -- ---- ends in order
 

@@ -44,5 +44,6 @@ abbrev pub fault_in_folder : Bor (List ℕ) → ReplicaFault → ProgramFault Si
 fault_in_folder path replica.Memory = program.Memory
 fault_in_folder path (replica.File it) = program.Own (FileIn path it)
 fault_in_folder path (replica.Store number) = program.Own (Store number)
+fault_in_folder path replica.Device = program.Own (FileIn path file.DiskFailed)
 fault_in_folder path replica.Receipts = program.Own Receipts
 fault_in_folder path replica.Output = program.Output

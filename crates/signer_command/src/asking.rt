@@ -21,6 +21,7 @@ use std::thread::Threads;
 use std::time::Clock;
 use streams::Sink;
 use vote_desk::DeskNaming;
+use vote_log::LogError;
 use wire::MOST_ENTRIES;
 
 /// How long a source is left alone, in ticks of a quarter of a second: a second while blocks wait for it, else a minute.
@@ -61,16 +62,13 @@ struct Given {
 enum Look {
     // More of it is there at once.
     More,
-    // Nothing more is there now, and it is told so.
+    // Nothing more is there now, or it could not be looked at, and it is told so.
     Ended(Word),
-    // Memory was refused, or the replica's own log could not be read.
-    Failed,
     // The replica's log was put back.
     PutBack,
 }
 
-/// Reads a source again and again until the signer ends, or its log is found to be put back.
-pub(crate) fn ask_on<
+impl<
     N: DeskNaming,
     T: Threads
         + Wait
@@ -81,161 +79,153 @@ pub(crate) fn ask_on<
     D: Disk,
     K: Approver + Keeper,
     W: Witness,
->(shop: &Shop<'_, '_, N, T, S, D, K, W>, number: usize) {
-    let Some(source) = shop.room.words.sources.get(number) else {
-        return;
-    };
-    let mut so_far = ReadSoFar::nothing();
-    let mut telling = Telling::new();
-    for _ in shop.rt.forever() {
-        if shop.start.is_ending() || shop.room.notes.has_told_put_back() {
-            break;
-        }
-        match look_at(shop, source, &mut so_far).unwrap_or(Look::Failed) {
-            Look::More => {}
-            Look::PutBack => break,
-            Look::Failed => pause(shop, SHORT_PAUSE),
-            Look::Ended(word) => {
-                note(shop, number, source.replica, word, &mut telling);
-                pause(shop, pause_behind(shop, word));
+> Shop<'_, '_, N, T, S, D, K, W> {
+    /// Reads a source again and again until the signer ends, or its log is found to be put back.
+    pub(crate) fn ask_on(&self, number: usize) {
+        let Some(source) = self.room.words.sources.get(number) else {
+            return;
+        };
+        let mut so_far = ReadSoFar::nothing();
+        let mut telling = Telling::new();
+        for _ in self.rt.forever() {
+            if self.start.is_ending() || self.room.notes.has_told_put_back() {
+                break;
+            }
+            let look = self.look_at(source, &mut so_far);
+            match look.unwrap_or(Look::Ended(Word::Memory)) {
+                Look::More => {}
+                Look::PutBack => break,
+                Look::Ended(word) => {
+                    self.note(number, source.replica, word, &mut telling);
+                    self.pause(self.pause_behind(word));
+                }
             }
         }
     }
-}
 
-// How long a source is left alone that gave this.
-fn pause_behind<
-    N: DeskNaming,
-    T: Threads + Wait,
-    S: Sink,
-    D: Disk,
-    K: Approver + Keeper,
-    W: Witness,
->(shop: &Shop<'_, '_, N, T, S, D, K, W>, word: Word) -> u32 {
-    if word == Word::Read(Status::Whole) || shop.gate.is_open() {
-        LONG_PAUSE
-    } else {
-        SHORT_PAUSE
-    }
-}
-
-// Notes what a source gave: where all of it was read it is heard, and while blocks wait for others it is told.
-fn note<
-    N: DeskNaming,
-    T: Threads + Wait + Clock,
-    S: Sink,
-    D: Disk,
-    K: Approver + Keeper,
-    W: Witness,
->(
-    shop: &Shop<'_, '_, N, T, S, D, K, W>,
-    number: usize,
-    replica: u16,
-    word: Word,
-    telling: &mut Telling,
-) {
-    let is_whole = word == Word::Read(Status::Whole);
-    shop.sources.set(number, is_whole);
-    if is_whole {
-        hear(shop, replica);
-    }
-    if !shop.gate.is_open() && telling.is_due(shop.rt, word) {
-        shop.room.notes.tell_asking(number, word);
-    }
-}
-
-// One look at a source. Where another frame stands in the place of the last that was read, all of it is read again at the next.
-fn look_at<
-    N: DeskNaming,
-    T: Threads
-        + Wait
-        + Clock
-        + Files<File = File>
-        + Net<Listener = TcpListener, Stream = TcpStream>,
-    S: Sink,
-    D: Disk,
-    K: Approver + Keeper,
-    W: Witness,
->(
-    shop: &Shop<'_, '_, N, T, S, D, K, W>,
-    source: &SourceWord<'_>,
-    so_far: &mut ReadSoFar,
-) -> Result<Look, AllocError> {
-    let Some(given) = given_by(shop, source, so_far)? else {
-        return Ok(Look::Ended(Word::Unresolved));
-    };
-    let frames = Frames::of(shop.alloc, &given.answer.text)?;
-    let ended = status_of(frames.status(), given.answer.end);
-    // The place of the first frame that was not read yet.
-    let from = so_far.frames.saturating_sub(given.first);
-    if from > 0 && !has_last(&frames, from, so_far) {
-        // Of a file all is there, so what it lacks is gone.
-        if given.is_all || frames.len() >= from || ended == Status::Whole {
-            *so_far = ReadSoFar::nothing();
+    // How long a source is left alone that gave this.
+    fn pause_behind(&self, word: Word) -> u32 {
+        if word == Word::Read(Status::Whole) || self.gate.is_open() {
+            LONG_PAUSE
+        } else {
+            SHORT_PAUSE
         }
-        return Ok(Look::Ended(Word::Read(unless_whole(ended))));
     }
-    match look_through(shop.rt, shop.alloc, &shop.office, &frames, from) {
-        Ok(Some((ballot, _shown))) => {
-            shop.room.notes.tell_put_back(&ballot);
-            return Ok(Look::PutBack);
-        }
-        Ok(None) => {}
-        Err(_) => return Ok(Look::Failed),
-    }
-    if given.first == 0 && is_of_other_chain(shop.alloc, shop.room.committee, &frames)? {
-        return Ok(Look::Ended(Word::OtherChain));
-    }
-    shop.hearing
-        .note_certified(shop.rt, shop.alloc, shop.room.committee, &frames, from)?;
-    Ok(read_on(&frames, from, &given, ended, so_far))
-}
 
-// What a source gives: a file all of it, a server what stands behind the last frame that was read, which comes first then. None where
-// the name of a server has no address.
-fn given_by<
-    N: DeskNaming,
-    T: Threads
-        + Wait
-        + Clock
-        + Files<File = File>
-        + Net<Listener = TcpListener, Stream = TcpStream>,
-    S: Sink,
-    D: Disk,
-    K: Approver + Keeper,
-    W: Witness,
->(
-    shop: &Shop<'_, '_, N, T, S, D, K, W>,
-    source: &SourceWord<'_>,
-    so_far: &ReadSoFar,
-) -> Result<Option<Given>, AllocError> {
-    let name = match source.origin {
-        Origin::File(path) => {
-            let answer = read_file(shop.rt, shop.alloc, path)?;
-            return Ok(Some(Given {
-                answer,
-                first: 0,
-                is_all: true,
-            }));
+    // Notes what a source gave: where all of it was read it is heard, and while blocks wait for others it is told.
+    fn note(&self, number: usize, replica: u16, word: Word, telling: &mut Telling) {
+        let is_whole = word == Word::Read(Status::Whole);
+        self.sources.set(number, is_whole);
+        if is_whole {
+            self.hear(replica);
         }
-        Origin::Tcp(name) => name,
-    };
-    let Ok(addresses) = Addresses::of(shop.rt, name) else {
-        return Ok(None);
-    };
-    let dialer = Dialer {
-        net: shop.rt,
-        addresses,
-        ending: &shop.start.ending,
-    };
-    let mut connector = ServerConnector::over(shop.rt, dialer);
-    let first = so_far.frames.saturating_sub(1);
-    let asked = u32::try_from(first).unwrap_or(u32::MAX);
-    Ok(Some(Given {
-        answer: ask(shop.alloc, &mut connector, asked)?,
-        first,
-        is_all: false,
-    }))
+        if !self.gate.is_open() && telling.is_due(self.rt, word) {
+            self.room.notes.tell_asking(number, word);
+        }
+    }
+
+    // One look at a source. Where another frame stands in the place of the last that was read, all of it is read again at the next.
+    fn look_at(&self, source: &SourceWord<'_>, so_far: &mut ReadSoFar) -> Result<Look, AllocError> {
+        let Some(given) = self.given_by(source, so_far)? else {
+            return Ok(Look::Ended(Word::Unresolved));
+        };
+        let frames = Frames::of(self.alloc, &given.answer.text)?;
+        let ended = status_of(frames.status(), given.answer.end);
+        // The place of the first frame that was not read yet.
+        let from = so_far.frames.saturating_sub(given.first);
+        if from > 0 && !has_last(&frames, from, so_far) {
+            // Of a file all is there, so what it lacks is gone.
+            if given.is_all || frames.len() >= from || ended == Status::Whole {
+                *so_far = ReadSoFar::nothing();
+            }
+            return Ok(Look::Ended(Word::Read(unless_whole(ended))));
+        }
+        match look_through(
+            self.rt,
+            self.alloc,
+            &self.office,
+            source.replica,
+            &frames,
+            from,
+        ) {
+            Ok(Some((ballot, _shown))) => {
+                self.room.notes.tell_put_back(&ballot);
+                return Ok(Look::PutBack);
+            }
+            Ok(None) => {}
+            Err(LogError::Memory) => return Ok(Look::Ended(Word::Memory)),
+            Err(_) => return Ok(Look::Ended(Word::OwnLog)),
+        }
+        if given.first == 0 && is_of_other_chain(self.alloc, self.room.committee, &frames)? {
+            return Ok(Look::Ended(Word::OtherChain));
+        }
+        self.hearing
+            .note_certified(self.rt, self.alloc, self.room.committee, &frames, from)?;
+        Ok(read_on(&frames, from, &given, ended, so_far))
+    }
+
+    // What a source gives: a file all of it, a server what stands behind the last frame that was read, which comes first then. None where
+    // the name of a server has no address.
+    fn given_by(
+        &self,
+        source: &SourceWord<'_>,
+        so_far: &ReadSoFar,
+    ) -> Result<Option<Given>, AllocError> {
+        let name = match source.origin {
+            Origin::File(path) => {
+                let answer = read_file(self.rt, self.alloc, path)?;
+                return Ok(Some(Given {
+                    answer,
+                    first: 0,
+                    is_all: true,
+                }));
+            }
+            Origin::Tcp(name) => name,
+        };
+        let Ok(addresses) = Addresses::of(self.rt, name) else {
+            return Ok(None);
+        };
+        let dialer = Dialer {
+            net: self.rt,
+            addresses,
+            ending: &self.start.ending,
+        };
+        let mut connector = ServerConnector::over(self.rt, dialer);
+        let first = so_far.frames.saturating_sub(1);
+        let asked = u32::try_from(first).unwrap_or(u32::MAX);
+        Ok(Some(Given {
+            answer: ask(self.alloc, &mut connector, asked)?,
+            first,
+            is_all: false,
+        }))
+    }
+
+    // The log of this replica was read whole: where enough were, blocks are taken from here on.
+    fn hear(&self, replica: u16) {
+        if self.gate.is_open() {
+            return;
+        }
+        let mut heard = self.hearing.heard.lock(self.rt);
+        let heard = &mut *heard;
+        if let Some(place) = heard.whole.get_mut(usize::from(replica)) {
+            *place = true;
+        }
+        // Who held the lock before may have opened it: blocks are taken then, and no more views are given up.
+        if self.gate.is_open() {
+            return;
+        }
+        // Where the desk is stopped the gate stays shut.
+        let _ = self.gate.hear(self.rt, self.alloc, &self.office, &*heard);
+    }
+
+    fn pause(&self, ticks: u32) {
+        for _ in 0..ticks {
+            if self.start.is_ending() {
+                return;
+            }
+            thread::sleep(self.rt, tick());
+        }
+    }
 }
 
 // All bytes of a file, as far as a log may be long.
@@ -321,47 +311,4 @@ fn read_on(
         return Look::More;
     }
     Look::Ended(Word::Read(ended))
-}
-
-// The log of this replica was read whole: where enough were, blocks are taken from here on.
-fn hear<N: DeskNaming, T: Threads + Wait, S: Sink, D: Disk, K: Approver + Keeper, W: Witness>(
-    shop: &Shop<'_, '_, N, T, S, D, K, W>,
-    replica: u16,
-) {
-    if shop.gate.is_open() {
-        return;
-    }
-    let mut heard = shop.hearing.heard.lock(shop.rt);
-    let heard = &mut *heard;
-    if let Some(place) = heard.whole.get_mut(usize::from(replica)) {
-        *place = true;
-    }
-    // Who held the lock before may have opened it: blocks are taken then, and no more views are given up.
-    if shop.gate.is_open() {
-        return;
-    }
-    // Where the desk is stopped the gate stays shut.
-    let _ = shop.gate.hear(
-        shop.rt,
-        shop.alloc,
-        &shop.office,
-        &heard.whole,
-        heard.greatest,
-    );
-}
-
-fn pause<
-    N: DeskNaming,
-    T: Threads + Wait + Clock,
-    S: Sink,
-    D: Disk,
-    K: Approver + Keeper,
-    W: Witness,
->(shop: &Shop<'_, '_, N, T, S, D, K, W>, ticks: u32) {
-    for _ in 0..ticks {
-        if shop.start.is_ending() {
-            return;
-        }
-        thread::sleep(shop.rt, tick());
-    }
 }

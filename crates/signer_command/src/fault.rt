@@ -12,14 +12,14 @@ use program_parts::{FaultLine, ProgramFault};
 use replica_command::{ReplicaFault, ReplicaFile};
 use streams::{Sink, write_all};
 
-/// Why the signer gives up. Each has exit status 2, but for what an earlier run wrote down: that the log was put back, or that a disk
-/// failed. Those have 4.
+/// Why the signer gives up. Each has exit status 2, but for what is written down: by an earlier run that the log was put back, or that
+/// a disk failed, or by this start, under which a disk failed. Those have 4.
 pub type Fault<'a> = ProgramFault<'a, SignerFault<'a>>;
 
 /// What this program alone gives up for.
 #[derive(Clone, Copy, Debug)]
 pub enum SignerFault<'a> {
-    /// This file of the folder at this path can't be read or locked, or is not as it must be.
+    /// This file of the folder at this path can't be read or locked, is not as it must be, or says that a disk failed.
     FileIn(&'a str, ReplicaFile),
     /// The replica's index store, log or desk is refused, under this number of its own table.
     Store(u8),
@@ -111,6 +111,7 @@ pub(crate) fn in_folder<'a>(path: &'a str, fault: ReplicaFault) -> Fault<'a>
         ReplicaFault::Memory => Fault::Memory,
         ReplicaFault::File(file) => Fault::Own(SignerFault::FileIn(path, file)),
         ReplicaFault::Store(number) => Fault::Own(SignerFault::Store(number)),
+        ReplicaFault::Device => Fault::Own(SignerFault::FileIn(path, ReplicaFile::DiskFailed)),
         ReplicaFault::Receipts => Fault::Own(SignerFault::Receipts),
         ReplicaFault::Output => Fault::Output,
     }

@@ -3,6 +3,7 @@
 use asked_logs::greatest_certified;
 use blocks::CommitteeView;
 use log_format::{Frames, Status};
+use signing_service::Heard;
 use std::alloc::{AllocError, Global};
 use std::sync::{Mutex, Wait};
 use std::time::{Clock, Instant};
@@ -19,6 +20,10 @@ pub(crate) enum Word {
     Unresolved,
     /// It is the log of another chain.
     OtherChain,
+    /// It shows a vote of this replica, in whose view the replica's own log can't be read, or has another one that is not good.
+    OwnLog,
+    /// Memory was refused.
+    Memory,
 }
 
 impl Word {
@@ -28,6 +33,8 @@ impl Word {
             Word::Read(status) => status.name(),
             Word::Unresolved => "Unresolved",
             Word::OtherChain => "OtherChain",
+            Word::OwnLog => "OwnLog",
+            Word::Memory => "Memory",
         }
     }
 }
@@ -72,14 +79,26 @@ impl Telling {
 /// What was heard of all sources so far.
 #[derive(Drop)]
 pub(crate) struct Hearing {
-    pub heard: Mutex<Heard>,
+    pub heard: Mutex<HeardSoFar>,
 }
 
 /// Whose logs were read whole, by the replicas' numbers, and the greatest view that any certifies.
 #[derive(Drop)]
-pub(crate) struct Heard {
+pub(crate) struct HeardSoFar {
     pub whole: Vec<bool>,
     pub greatest: Option<u64>,
+}
+
+impl Heard for HeardSoFar {
+    ghost hearing = { λ h. record { whole = h.whole.items; greatest = h.greatest } };
+
+    fn whole(&self) -> &[bool] {
+        &self.whole
+    }
+
+    fn greatest(&self) -> Option<u64> {
+        self.greatest
+    }
 }
 
 impl Hearing {
@@ -88,7 +107,7 @@ impl Hearing {
         let mut whole = Vec::new(alloc);
         whole.resize(usize::from(replicas), false)?;
         Ok(Hearing {
-            heard: Mutex::new(Heard {
+            heard: Mutex::new(HeardSoFar {
                 whole,
                 greatest: None,
             }),

@@ -12,7 +12,7 @@ use std::os::unix::fs::OpenOptionsExt;
 const OWNER_ALONE: u32 = 0o600;
 
 /// What stands in the file that says that a disk failed, for the operator who finds it.
-const DISK_FAILED_TEXT: &[u8] = b"A disk failed under a vote. See to it, then remove this file.\n";
+const DISK_FAILED_TEXT: &[u8] = b"A disk failed. See to it, then remove this file.\n";
 
 /// Writes a file, for its owner alone, and syncs it. One that is there stays as it is: that it is there says all. Its folder is synced
 /// in each case, since an empty file is enough.
@@ -38,6 +38,15 @@ fn write_new<F: Files<File = File>>(files: &F, path: &str, text: &[u8]) -> io::R
     file.sync_all()
 }
 
+/// At which of the places it stands.
+#[derive(Clone, Copy, Debug, PartialEq, Eq)]
+pub(crate) enum MarkAt {
+    /// In the replica's folder.
+    Folder,
+    /// Beside the socket.
+    Socket,
+}
+
 /// Where it is written down that a disk failed: in the replica's folder, which may lie on that disk, and beside the socket of the
 /// calls, where that has a path of its own.
 #[derive(Clone, Copy, Debug)]
@@ -47,12 +56,17 @@ pub(crate) struct DiskFailedPlaces<'a> {
 }
 
 impl DiskFailedPlaces<'_> {
-    /// Writes it down. Answers whether it stands at one of the places. The one beside the socket comes first, since a disk that
-    /// failed may let nobody write for long.
-    pub fn put_down<F: Files<File = File>>(&self, files: &F, alloc: Global) -> bool {
+    /// Writes it down at both, and answers at which of them a later start finds it first, if it stands at one. The one beside the
+    /// socket is written first, since a disk that failed may let nobody write for long.
+    pub fn put_down<F: Files<File = File>>(&self, files: &F, alloc: Global) -> Option<MarkAt> {
         let beside = self.put_beside(files, alloc);
-        let inside = self.put_inside(files, alloc);
-        matches!(beside, Ok(true)) || inside.is_ok()
+        if self.put_inside(files, alloc).is_ok() {
+            return Some(MarkAt::Folder);
+        }
+        if matches!(beside, Ok(true)) {
+            return Some(MarkAt::Socket);
+        }
+        None
     }
 
     fn put_inside<F: Files<File = File>>(&self, files: &F, alloc: Global) -> io::Result<()> {

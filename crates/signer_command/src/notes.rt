@@ -5,7 +5,7 @@ ghost use Rattle.printed_lines.specs.Printed.{printed};
 ghost use Rattle.signer_command.specs.Notes.{IsCallLine, IsShortLine, asking_line, unwritten_line};
 
 use crate::heard::Word;
-use crate::marks::DiskFailedPlaces;
+use crate::marks::{DiskFailedPlaces, MarkAt};
 use blocks::Ballot;
 use itoa::Buffer;
 use printed_lines::write_printed;
@@ -18,6 +18,9 @@ use streams::{MemorySink, Sink, write_all};
 
 /// How long a body may be that is told itself.
 const LONGEST_BODY: usize = 80;
+
+/// What is told where it could be written down nowhere that a disk failed.
+const NOT_WRITTEN: &[u8] = b"disk-failed not written\n";
 
 /// Tells of calls, of sources, and once that a disk stopped the desk or the log was put back. What the sink does not take is lost.
 #[derive(Drop)]
@@ -54,9 +57,7 @@ impl<'a, T: Wait, S: Sink> Notes<'a, T, S> {
     /// Tells a line.
     pub fn tell(&self, line: &[u8]) {
         let mut sink = self.sink.lock(self.rt);
-        if write_all(&mut *sink, line).is_err() {
-            // Nothing is left to tell it by.
-        }
+        write(&mut *sink, line);
     }
 
     // Tells a line that was made, if memory was there.
@@ -68,8 +69,9 @@ impl<'a, T: Wait, S: Sink> Notes<'a, T, S> {
 
     /// Tells once that the log was put back.
     pub fn tell_put_back(&self, ballot: &Ballot) {
+        let mut sink = self.sink.lock(self.rt);
         if !self.was_put_back.swap(true, Ordering::SeqCst) {
-            self.tell(&put_back_line(ballot));
+            write(&mut *sink, &put_back_line(ballot));
         }
     }
 
@@ -83,34 +85,56 @@ impl<'a, T: Wait, S: Sink> Notes<'a, T, S> {
         self.tell_made(unwritten_line(self.alloc, folder));
     }
 
-    /// Tells what the source of this number gave, while others are asked before blocks are taken.
+    /// Tells what the source of this number gave, while others are asked before blocks are taken: not once it was told that the log
+    /// was put back.
     pub fn tell_asking(&self, number: usize, word: Word) {
-        self.tell_made(asking_line(self.alloc, number, word.name()));
+        let Ok(line) = asking_line(self.alloc, number, word.name()) else {
+            return;
+        };
+        let mut sink = self.sink.lock(self.rt);
+        if !self.has_told_put_back() {
+            write(&mut *sink, &line);
+        }
     }
 }
 
 impl<T: Wait + Files<File = File>, S: Sink> Notes<'_, T, S> {
-    // Tells once that a disk stopped the desk, and writes it down.
+    /// Writes down that a disk failed, and answers where it stands. Tells where it could be written nowhere.
+    pub fn put_down_failure(&self) -> Option<MarkAt> {
+        let at = self.places.put_down(self.rt, self.alloc);
+        if at.is_none() {
+            self.tell(NOT_WRITTEN);
+        }
+        at
+    }
+
+    // Tells once that a disk stopped the desk. It is written down before that is told.
     fn tell_stopped(&self) {
         if self.has_stopped.swap(true, Ordering::SeqCst) {
             return;
         }
+        let at = self.places.put_down(self.rt, self.alloc);
         self.tell(b"stopped desk 5\n");
-        if !self.places.put_down(self.rt, self.alloc) {
-            self.tell(b"disk-failed not written\n");
+        if at.is_none() {
+            self.tell(NOT_WRITTEN);
         }
     }
 }
 
+// Writes a line. What the sink does not take is lost: nothing is left to tell it by.
+fn write<S: Sink>(sink: &mut S, line: &[u8]) {
+    let _ = write_all(sink, line);
+}
+
 impl<T: Wait + Files<File = File>, S: Sink> Witness for Notes<'_, T, S> {
     fn saw(&self, call: &Seen<'_>) {
-        if self.verbose {
-            self.tell_made(line_of(self.alloc, call));
-        }
         match &call.event {
             Event::Nothing => {}
             Event::DiskFailed => self.tell_stopped(),
             Event::PutBack(ballot) => self.tell_put_back(ballot),
+        }
+        if self.verbose {
+            self.tell_made(line_of(self.alloc, call));
         }
     }
 }

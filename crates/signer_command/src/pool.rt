@@ -1,14 +1,13 @@
 //! Threads that take connections, one after the other, each with a session of its own where it calls the desk.
 
-ghost use Rattle.std.specs.Prelude.{◌≡◌};
+ghost use Rattle.std.specs.Prelude.{◌≡◌, true};
 
-use crate::asking::ask_on;
 use crate::handing_out::LogTalk;
 use crate::heard::Hearing;
 use crate::link::{Answering, Asking, Link};
 use crate::listening::{Listener, Place};
 use crate::pace::{Pace, tick};
-use crate::reading::{MOST_OF_A_CALL, Reader, config};
+use crate::reading::{MOST_OF_A_CALL, ReadTalk, Reader, config};
 use crate::stay::{Room, THREADS_BESIDE};
 use crate::{handing_out, reading};
 use good_votes::SideBySide;
@@ -69,6 +68,7 @@ pub(crate) struct Shop<
     /// Where those who call are received, and those who only read.
     pub calls: Reception<'a, N, D, W>,
     pub reads: Reception<'a, N, D, W>,
+    pub ghost reads_only: { reads.rules.now.reads_only ≡ true },
     pub gate: &'a Gate<N, D>,
     pub sources: &'a Sources,
     pub hearing: &'a Hearing,
@@ -141,15 +141,14 @@ where
     let Some(jobs) = jobs else {
         return Ok(Vec::new(shop.alloc));
     };
-    let left = thread::map_vec(shop.rt, jobs, &|job: Job<N>| { work(shop, job) });
+    let left = thread::map_vec(shop.rt, jobs, &|job: Job<N>| { shop.work(job) });
     if left.is_err() {
         shop.start.end();
     }
     Ok(left?)
 }
 
-// Takes connections until the signer ends.
-fn work<
+impl<
     N: DeskNaming,
     T: Threads
         + Wait
@@ -160,30 +159,91 @@ fn work<
     D: Disk,
     K: Approver + Keeper,
     W: Witness,
->(shop: &Shop<'_, '_, N, T, S, D, K, W>, job: Job<N>) -> Option<Session<N>> {
-    let _before = shop.start.begun.fetch_add(1, Ordering::SeqCst);
-    let all_begun = shop.start.wait_for_all(shop.rt);
-    match job {
-        Job::Calls(session) if all_begun => Some(take_calls(shop, session)),
-        Job::Reads(session) if all_begun => match &shop.room.sockets.reads {
-            Some(place) => Some(take_reads(shop, place, session)),
-            None => Some(session),
-        },
-        Job::Calls(session) | Job::Reads(session) => Some(session),
-        Job::HandsOut => {
-            if let Some(place) = &shop.room.sockets.log
-                && all_begun
-            {
-                hand_out(shop, place);
+> Shop<'_, '_, N, T, S, D, K, W> {
+    // Takes connections until the signer ends.
+    fn work(&self, job: Job<N>) -> Option<Session<N>> {
+        let _before = self.start.begun.fetch_add(1, Ordering::SeqCst);
+        let all_begun = self.start.wait_for_all(self.rt);
+        match job {
+            Job::Calls(session) if all_begun => Some(take_calls(self, session)),
+            Job::Reads(session) if all_begun => match &self.room.sockets.reads {
+                Some(place) => Some(take_reads(self, place, session)),
+                None => Some(session),
+            },
+            Job::Calls(session) | Job::Reads(session) => Some(session),
+            Job::HandsOut => {
+                if let Some(place) = &self.room.sockets.log
+                    && all_begun
+                {
+                    self.hand_out(place);
+                }
+                None
             }
-            None
-        }
-        Job::Asks(source) => {
-            if all_begun {
-                ask_on(shop, source);
+            Job::Asks(source) => {
+                if all_begun {
+                    self.ask_on(source);
+                }
+                None
             }
-            None
         }
+    }
+
+    // Hands out the log to many at once.
+    fn hand_out(&self, place: &Place) {
+        let rules = handing_out::rules(self.connections());
+        let mut talk = LogTalk {
+            rt: self.rt,
+            alloc: self.alloc,
+            desk: self.office.desk,
+        };
+        self.talk_at(place, &rules, &mut talk);
+    }
+
+    // Talks over the connections of a place until the signer ends.
+    fn talk_at<L: Talk>(&self, place: &Place, rules: &CrowdRules, talk: &mut L) {
+        if let Listener::Tcp(listener) = &place.listener {
+            talk_to_all(
+                self.rt,
+                self.alloc,
+                listener,
+                rules,
+                &self.start.ending,
+                talk,
+            );
+        }
+    }
+
+    // How many connections one thread of a socket beside that for calls keeps. Each other thread may have a stream of its own.
+    fn connections(&self) -> usize {
+        let files = most_open_files(self.rt, self.alloc);
+        let beside = &self.room.sockets;
+        let sockets = u64::from(beside.reads.is_some()) + u64::from(beside.log.is_some());
+        let all = connections_at(files, u64::from(self.start.wanted), sockets);
+        usize::try_from(all / u64::from(THREADS_BESIDE))
+            .unwrap_or(0)
+            .max(1)
+    }
+
+    // Answers the calls of one stream.
+    fn answer_stream<'c>(
+        &self,
+        signer: &mut Signer<'c, N, T, D, SideBySide<'c, T>, K, W>,
+        stream: &TcpStream,
+    ) -> io::Result<()> {
+        let link = Link {
+            stream,
+            clock: self.rt,
+            pace: Cell::new(Pace::new(self.rt)?),
+            is_refused: Cell::new(false),
+            ending: &self.start.ending,
+        };
+        let mut asking = Asking {
+            link: &link,
+            calls: CallsRead::new(self.alloc),
+        };
+        let mut answering = Answering { link: &link };
+        let mut connection = Connection::new(self.alloc, self.room.sockets.keys, config());
+        serve_calls(signer, &mut connection, &mut asking, &mut answering)
     }
 }
 
@@ -191,7 +251,11 @@ fn work<
 fn take_calls<
     'x,
     N: DeskNaming,
-    T: Threads + Wait + Clock + Files<File = File>,
+    T: Threads
+        + Wait
+        + Clock
+        + Files<File = File>
+        + Net<Listener = TcpListener, Stream = TcpStream>,
     S: Sink,
     D: Disk,
     K: Approver + Keeper,
@@ -212,7 +276,7 @@ fn take_calls<
         match shop.room.sockets.calls.listener.accept() {
             Ok(stream) => {
                 // Where it breaks off, the caller knows.
-                let _ = answer_stream(shop, &mut signer, &stream);
+                let _ = shop.answer_stream(&mut signer, &stream);
             }
             Err(_) => thread::sleep(shop.rt, tick()),
         }
@@ -234,117 +298,28 @@ fn take_reads<
     K: Approver + Keeper,
     W: Witness,
 >(shop: &'x Shop<'x, '_, N, T, S, D, K, W>, place: &Place, session: Session<N>) -> Session<N> {
-    let rules = reading::rules(connections(shop));
-    let mut talk = CallTalk {
-        alloc: shop.alloc,
-        answerer: Reader {
+    let rules = reading::rules(shop.connections());
+    let mut talk = ReadTalk {
+        calls: CallTalk {
             alloc: shop.alloc,
-            keys: shop.room.sockets.keys,
-            signer: Signer::new(
-                shop.rt,
-                shop.alloc,
-                &shop.office,
-                shop.checker,
-                &shop.reads,
-                session,
-            ),
+            answerer: Reader {
+                alloc: shop.alloc,
+                keys: shop.room.sockets.keys,
+                signer: Signer::new(
+                    shop.rt,
+                    shop.alloc,
+                    &shop.office,
+                    shop.checker,
+                    &shop.reads,
+                    session,
+                ),
+            },
+            most: MOST_OF_A_CALL,
         },
-        most: MOST_OF_A_CALL,
     };
-    talk_at(shop, place, &rules, &mut talk);
-    let CallTalk { answerer, .. } = talk;
+    shop.talk_at(place, &rules, &mut talk);
+    let ReadTalk { calls } = talk;
+    let CallTalk { answerer, .. } = calls;
     let Reader { signer, .. } = answerer;
     signer.into_session()
-}
-
-// Hands out the log to many at once.
-fn hand_out<
-    N: DeskNaming,
-    T: Threads
-        + Wait
-        + Clock
-        + Files<File = File>
-        + Net<Listener = TcpListener, Stream = TcpStream>,
-    S: Sink,
-    D: Disk,
-    K: Approver + Keeper,
-    W: Witness,
->(shop: &Shop<'_, '_, N, T, S, D, K, W>, place: &Place) {
-    let rules = handing_out::rules(connections(shop));
-    let mut talk = LogTalk {
-        rt: shop.rt,
-        alloc: shop.alloc,
-        desk: shop.office.desk,
-    };
-    talk_at(shop, place, &rules, &mut talk);
-}
-
-// Talks over the connections of a place until the signer ends.
-fn talk_at<
-    N: DeskNaming,
-    T: Threads + Wait + Clock + Net<Listener = TcpListener, Stream = TcpStream>,
-    S: Sink,
-    D: Disk,
-    K: Approver + Keeper,
-    W: Witness,
-    L: Talk,
->(shop: &Shop<'_, '_, N, T, S, D, K, W>, place: &Place, rules: &CrowdRules, talk: &mut L) {
-    if let Listener::Tcp(listener) = &place.listener {
-        talk_to_all(
-            shop.rt,
-            shop.alloc,
-            listener,
-            rules,
-            &shop.start.ending,
-            talk,
-        );
-    }
-}
-
-// How many connections one thread of a socket beside that for calls keeps. Each other thread may have a stream of its own.
-fn connections<
-    N: DeskNaming,
-    T: Threads + Wait + Files<File = File>,
-    S: Sink,
-    D: Disk,
-    K: Approver + Keeper,
-    W: Witness,
->(shop: &Shop<'_, '_, N, T, S, D, K, W>) -> usize {
-    let files = most_open_files(shop.rt, shop.alloc);
-    let beside = &shop.room.sockets;
-    let sockets = u64::from(beside.reads.is_some()) + u64::from(beside.log.is_some());
-    let all = connections_at(files, u64::from(shop.start.wanted), sockets);
-    usize::try_from(all / u64::from(THREADS_BESIDE))
-        .unwrap_or(0)
-        .max(1)
-}
-
-// Answers the calls of one stream.
-fn answer_stream<
-    'a,
-    N: DeskNaming,
-    T: Threads + Wait + Clock + Files<File = File>,
-    S: Sink,
-    D: Disk,
-    K: Approver + Keeper,
-    W: Witness,
->(
-    shop: &Shop<'_, '_, N, T, S, D, K, W>,
-    signer: &mut Signer<'a, N, T, D, SideBySide<'a, T>, K, W>,
-    stream: &TcpStream,
-) -> io::Result<()> {
-    let link = Link {
-        stream,
-        clock: shop.rt,
-        pace: Cell::new(Pace::new(shop.rt)?),
-        is_refused: Cell::new(false),
-        ending: &shop.start.ending,
-    };
-    let mut asking = Asking {
-        link: &link,
-        calls: CallsRead::new(shop.alloc),
-    };
-    let mut answering = Answering { link: &link };
-    let mut connection = Connection::new(shop.alloc, shop.room.sockets.keys, config());
-    serve_calls(signer, &mut connection, &mut asking, &mut answering)
 }

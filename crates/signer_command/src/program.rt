@@ -5,7 +5,7 @@ ghost use Rattle.streams.specs.Streams.{Wrote, WrotePart};
 ghost use Rattle.printed_lines.specs.Printed.{Told};
 ghost use Rattle.program_parts.specs.FaultLines.{fault_line};
 ghost use Rattle.program_parts.specs.Writes.{CountsOutput, CountsWrites};
-ghost use Rattle.signer_command.specs.Ends.{Fault as FaultValue, IsGivenUp, IsRun, IsStay, ended_of, fault_status, status_of};
+ghost use Rattle.signer_command.specs.Ends.{Fault as FaultValue, IsGivenUp, IsRun, IsStay, disk_fault, ended_of, fault_status, status_of};
 ghost use Rattle.signer_command.specs.FaultLines.{own_line};
 ghost use Rattle.signer_command.specs.Lines.{closed_line};
 ghost use Rattle.signer_command.specs.Ruled.{AreRuled, AreRulesOf, is_asked_over_tcp, is_heard_over_tcp, names_of};
@@ -13,7 +13,7 @@ ghost use Rattle.signer_command.specs.declared.program.Ended.TheVariants.{Done, 
 
 use crate::fault::{Fault, SignerFault, in_folder};
 use crate::listening::{Place, listen, listen_at_home};
-use crate::marks::DiskFailedPlaces;
+use crate::marks::{DiskFailedPlaces, MarkAt};
 use crate::notes::Notes;
 use crate::socket_file::{Callers, SocketFault, is_too_long, listen_at};
 use crate::stay::{Room, Sockets, THREADS_BESIDE, stay_once};
@@ -23,7 +23,7 @@ use blocks::CommitteeView;
 use itoa::Buffer;
 use printed_lines::Line;
 use program_parts::{FAULT, ProgramFault, parse_committee, read_committee, write_out};
-use replica_command::{ReplicaFile, ReplicaFolder};
+use replica_command::{ReplicaFault, ReplicaFile, ReplicaFolder};
 use signing_service::Rules;
 use stable_log::{Disk, FileDisk};
 use std::alloc::{AllocError, Global};
@@ -42,8 +42,8 @@ use vote_desk::{Closed, Parts};
 /// The input ended, and no disk had failed.
 pub const DONE: u8 = 0;
 
-/// An earlier run wrote down that the replica's log was put back to a backup, after which no start is of use, or that a disk failed,
-/// after which none is before an operator saw to it.
+/// An earlier run wrote down that the replica's log was put back to a backup, after which no start is of use; or it, or this start
+/// itself, that a disk failed, after which none is before an operator saw to it.
 pub const REFUSED: u8 = 4;
 
 /// The bits of a folder's mode by which others than its owner write in it.
@@ -89,7 +89,7 @@ impl Ended {
 
 /// Runs a signer as the words say, until its input ends where they say so, and else until it is killed. Answers the exit
 /// status: 0 where the input ended, 2 where a disk had stopped the desk by then, or at a fault, whose line then goes to `faults`,
-/// 4 where that fault is that the log was put back, or that a disk failed in an earlier run.
+/// 4 where that fault is that the log was put back, or that a disk failed, in an earlier run or while the stores were opened.
 /// What is told of calls, and of a disk that stops the desk, goes to `notes`.
 pub fn run_signer<
     T: Files<File = File>
@@ -291,7 +291,7 @@ where
     ensures given_up { IfErr result (λ fault. IsGivenUp fault (W.text out.old) (W.text out.new)) }
     ensures counted { CountsWrites result (W.failed out.old) (W.failed out.new) }
 {
-    let (lock, parts, sockets) = match opened(host, words, committee) {
+    let (lock, parts, sockets) = match opened(host, words, committee, notes) {
         Ok(opened) => opened,
         Err(fault) => return Err(fault),
     };
@@ -314,13 +314,16 @@ fn opened<
     'a,
     T: Files<File = File>
         + Threads
+        + Wait
         + Net<Listener = TcpListener, Stream = TcpStream>
         + RandomSource
         + Sync,
+    S: Sink,
 >(
     host: &Host<'_, T>,
     words: &Words<'a>,
     committee: &CommitteeView<'_>,
+    notes: &Notes<'_, T, S>,
 ) -> Result<(File, Parts<FileDisk>, Sockets), Fault<'a>>
     ensures ruled { IfOk result (λ opened. AreRuled words.now opened.2) }
     ensures refused { IfErr result (λ fault. fault ≢ ProgramFault.Output) }
@@ -336,7 +339,7 @@ fn opened<
     };
     let lock = locked(&folder, path)?;
     see_no_failure_beside(host, words)?;
-    let parts = parts_of(host.rt, &folder, path, committee, words.replica)?;
+    let parts = parts_of(&folder, words, committee, notes)?;
     let sockets = sockets_of(host, words)?;
     Ok((lock, parts, sockets))
 }
@@ -390,18 +393,32 @@ fn locked<'a, T: Files<File = File>>(
     }
 }
 
-fn parts_of<'a, T: Files<File = File> + Threads + Sync>(
-    rt: &T,
+// What is stored in the folder. Where a disk failed under it that is written down, as under a desk: another start may find the disk
+// sound, and not what was not synced.
+fn parts_of<'a, T: Files<File = File> + Threads + Wait + Sync, S: Sink>(
     folder: &ReplicaFolder<'_, T>,
-    path: &'a str,
+    words: &Words<'a>,
     committee: &CommitteeView<'_>,
-    replica: u16,
+    notes: &Notes<'_, T, S>,
 ) -> Result<Parts<FileDisk>, Fault<'a>>
     ensures { IfErr result (λ fault. fault ≢ ProgramFault.Output) }
 {
-    match folder.open_parts(rt, committee, replica) {
+    match folder.open_parts(folder.files, committee, words.replica) {
         Ok(parts) => Ok(parts),
-        Err(fault) => Err(in_folder(path, fault)),
+        Err(ReplicaFault::Device) => Err(disk_fault(words, notes.put_down_failure())),
+        Err(fault) => Err(in_folder(words.folder, fault)),
+    }
+}
+
+// The fault of a disk that failed, by where that is written down: the folder is named, too, where it is nowhere.
+fn disk_fault<'a>(words: &Words<'a>, at: Option<MarkAt>) -> Fault<'a>
+    ensures value { result ≡ disk_fault words.now.folder words.now.listen at }
+    ensures status { fault_status result ≡ 4 }
+    ensures output { result ≢ ProgramFault.Output }
+{
+    match (at, words.listen) {
+        (Some(MarkAt::Socket), Where::Unix(socket)) => Fault::Own(SignerFault::DiskFailed(socket)),
+        _ => Fault::Own(SignerFault::FileIn(words.folder, ReplicaFile::DiskFailed)),
     }
 }
 

@@ -122,12 +122,15 @@ fn shop_of<'x, 'h, N: DeskNaming, T: Threads + Wait + Clock + Files<File = File>
     shared: &'x Shared<'h, N, T, S, D>,
     checker: &'x SideBySide<'x, T>,
 ) -> Shop<'x, 'h, N, T, S, D, Home<'h, T, S>, Notes<'h, T, S>>
+    requires ruled { AreRuled room.now.words.now room.now.sockets.now }
     requires committee { room.now.committee.now ≡ N.committee }
     requires replica { room.now.words.now.replica ≡ N.replica }
     ensures calls { result.calls.rules.now ≡ room.now.sockets.now.call_rules }
     ensures reads { result.reads.rules.now ≡ room.now.sockets.now.read_rules }
     ensures gate { result.calls.gate.now ≡ shared.now.gate }
     ensures gate_of_reads { result.reads.gate.now ≡ shared.now.gate }
+    ensures keeper { result.office.keeper.now ≡ shared.now.home }
+    ensures put_back { result.office.put_back.now ≡ shared.now.put_back }
 {
     Shop {
         rt: room.rt,

@@ -1,8 +1,6 @@
 -- The calls of a connection, one after another.
-use Rattle.std.proofs.Common.{◌≡◌, ℕ, Bool, List, [], ◌∷◌, Option, Some, None, subst, sym}
+use Rattle.std.proofs.Common.{◌≡◌, ◌∙◌, ℕ, Bool, List, [], ◌∷◌, Option, Some, None, ap, subst, sym}
 use Rattle.std.specs.Prelude.{IfSome, IsSome}
-use Rattle.std.specs.List.{All}
-use Rattle.std.proofs.lemmas.List.Elements.{All-cons, All-nil, All-weaker}
 use Rattle.blocks.specs.Replica.{Stored}
 use Rattle.http.specs.declared.request.Request.{Request}
 use Rattle.http_server.specs.declared.response.Response.{Response}
@@ -16,7 +14,7 @@ use Rattle.signer_answers.specs.Showings.{Showing}
 use Rattle.signer_answers.specs.Tellings.{HasItsReceipt}
 use Rattle.signer_answers.specs.declared.told.Told.{Told}
 use Rattle.signer_answers.specs.declared.told.Told.TheVariants.{Came, Again, Unread, PutBack, Asking}
-use Rattle.signing_service.specs.CallAnswers.{IsBacked, IsServed, receipts_told}
+use Rattle.signing_service.specs.CallAnswers.{AreBacked, IsServed, receipts_told}
 use Rattle.signer_calls.specs.declared.rules.Rules.{Rules}
 
 -- ---- what was told
@@ -66,38 +64,35 @@ module _ {D S P O : Type 0} (disk : Ghosts D) (committee : List ℕ) (replica : 
   chain_shows [] old new h is = subst (λ (s : S). IsSome (shown s)) (sym h) is
   chain_shows (c ∷ calls) old new h is = chain_shows calls h.0 new h.2 (h.1.0.served.keeps is)
 
-  abbrev Backs : O → P → Option Showing → List Receipt → Exchanged → Type 0
-  Backs o p was rs = IsBacked disk committee replica opening (rules p) (asks p) (tells o) was rs
+  -- office and place stay
+  pub chain_stays : (calls : List Exchanged) (old new : S) → Chain Steps old calls new → (housed new ≡ housed old) × (placed new ≡ placed old)
+  chain_stays [] old new h = (ap housed h, ap placed h)
+  chain_stays (c ∷ calls) old new h =
+      let later = chain_stays calls h.0 new h.2 in
+      (later.0 ∙ h.1.1, later.1 ∙ h.1.2)
 
-  -- who was shown before was shown later
-  backed_before : (o : O) (p : P) (was is : Option Showing) (rs : List Receipt) → (IsSome was → IsSome is) → (x : Exchanged) → Backs o p is rs x → Backs o p was rs x
-  backed_before o p was is rs keeps x b = record {
-    asked = b.asked;
-    reads = b.reads;
-    told = b.told;
-    before = b.before;
-    answers = b.answers;
-    grown = b.grown;
-    backed = b.backed;
-    stops = λ some. b.stops (keeps some);
-  }
+  abbrev Back : O → P → Option Showing → List Exchanged → Option Showing → List Receipt → Type 0
+  Back o p before calls after rs = AreBacked disk committee replica opening (rules p) (asks p) (tells o) rs before calls after
 
-  pub chain_backs : (calls : List Exchanged) (old new : S) → Chain Steps old calls new → All (Backs (housed old) (placed old) (shown old) (receipts new)) calls
-  chain_backs [] old new h = All-nil (Backs (housed old) (placed old) (shown old) (receipts new))
+  pub chain_backs : (calls : List Exchanged) (old new : S) → Chain Steps old calls new → Back (housed old) (placed old) (shown old) calls (shown new) (receipts new)
+  chain_backs [] old new h = ap shown (sym h)
   chain_backs (c ∷ calls) old new h =
       let it = h.1.0 in
       let has = subst (λ (rs : List Receipt). IfSome it.told (HasItsReceipt rs)) (sym it.served.receipts) (has_told (receipts old) it.told) in
-      let later = subst (λ (o : O). All (Backs o (placed old) (shown h.0) (receipts new)) calls) h.1.1
-      (subst (λ (p : P). All (Backs (housed h.0) p (shown h.0) (receipts new)) calls) h.1.2 (chain_backs calls h.0 new h.2)) in
-      All-cons (Backs (housed old) (placed old) (shown old) (receipts new)) c calls
-      (record {
-        asked = it.asked;
-        reads = it.reads;
-        told = it.told;
-        before = receipts old;
-        answers = it.served.answers;
-        grown = chain_grows (c ∷ calls) old new h;
-        backed = told_among_more (receipts h.0) (receipts new) it.told (chain_grows calls h.0 new h.2) has;
-        stops = it.served.stops;
-      })
-      (All-weaker (Backs (housed old) (placed old) (shown h.0) (receipts new)) (Backs (housed old) (placed old) (shown old) (receipts new)) (backed_before (housed old) (placed old) (shown old) (shown h.0) (receipts new) it.served.keeps) calls later)
+      let later = subst (λ (o : O). Back o (placed old) (shown h.0) calls (shown new) (receipts new)) h.1.1
+      (subst (λ (p : P). Back (housed h.0) p (shown h.0) calls (shown new) (receipts new)) h.1.2 (chain_backs calls h.0 new h.2)) in (
+        shown h.0,
+        record {
+          asked = it.asked;
+          reads = it.reads;
+          told = it.told;
+          before = receipts old;
+          answers = it.served.answers;
+          grown = chain_grows (c ∷ calls) old new h;
+          backed = told_among_more (receipts h.0) (receipts new) it.told (chain_grows calls h.0 new h.2) has;
+          stops = it.served.stops;
+          keeps = it.served.keeps;
+          learns = it.served.learns;
+        },
+        later,
+      )

@@ -1,5 +1,5 @@
 -- What is answered to a call.
-use Rattle.std.specs.Prelude.{◌≡◌, ◌⊎◌, ◌<◌, ◌≤◌, ◌+◌, ◌++◌, [], ℕ, List, Bool, true, false, Option, Some, None, IfSome, IsSome, MatchOption, codes, min}
+use Rattle.std.specs.Prelude.{◌≡◌, ◌⊎◌, ◌<◌, ◌≤◌, ◌+◌, ◌++◌, [], ◌∷◌, ℕ, List, Bool, true, false, Option, Some, None, IfSome, IsSome, MatchOption, codes, min}
 use Rattle.blocks.specs.Replica.{Stored}
 use Rattle.blocks.specs.declared.ballot.Ballot.{Ballot}
 use Rattle.certificates.specs.declared.vote.SignedVote.{SignedVote}
@@ -262,12 +262,13 @@ module _ {D : Type 0} (disk : Ghosts D) (committee : List ℕ) (replica : ℕ) (
   IsCallTold rules asks tells receipts (call.Refused refusal) told response = (told ≡ None) × IsRefusalTold refusal response
 
   -- the response tells what the call is told, and the receipt of a new vote is added to the session; who was shown before that the
-  -- log was put back is told so, and stays shown
+  -- log was put back is told so, and stays shown, and who is told so is shown from then on
   pub record IsCallServed (rules : Rules) (asks : Bool) (tells : Telling) (asked : Call) (before : List Receipt) (shown : Option Showing) (response : Response) (after : List Receipt) (shown_after : Option Showing) (told : Option Told) : Type 0 where
     pub answers : IsCallTold rules asks tells before asked told response
     pub receipts : after ≡ receipts_told before told
     pub stops : IsSome shown → IsStopped asked told
     pub keeps : IsSome shown → IsSome shown_after
+    pub learns : IsStopTo told → IsSome shown_after
 
   -- .. to a request, by what it asks for
   pub record IsServed (rules : Rules) (asks : Bool) (tells : Telling) (before : List Receipt) (shown : Option Showing) (request : Request (List ℕ)) (response : Response) (after : List Receipt) (shown_after : Option Showing) : Type 0 where
@@ -277,8 +278,8 @@ module _ {D : Type 0} (disk : Ghosts D) (committee : List ℕ) (replica : ℕ) (
     pub served : IsCallServed rules asks tells asked before shown response after shown_after told
 
   -- the response tells what the request's call is told, and the receipt of a new vote is among these, as those are that the caller had.
-  -- Who was shown this before the calls is told of each block and timeout that the log was put back
-  pub record IsBacked (rules : Rules) (asks : Bool) (tells : Telling) (shown : Option Showing) (receipts : List Receipt) (exchanged : Exchanged) : Type 0 where
+  -- Who was shown before it that the log was put back is told so of each block and timeout, and who is told so is shown behind it
+  pub record IsBacked (rules : Rules) (asks : Bool) (tells : Telling) (receipts : List Receipt) (shown : Option Showing) (exchanged : Exchanged) (shown_after : Option Showing) : Type 0 where
     pub asked : Call
     pub reads : AsksFor rules exchanged.0 asked
     pub told : Option Told
@@ -287,3 +288,11 @@ module _ {D : Type 0} (disk : Ghosts D) (committee : List ℕ) (replica : ℕ) (
     pub grown : ReceiptsGrow before receipts
     pub backed : IfSome told (HasItsReceipt receipts)
     pub stops : IsSome shown → IsStopped asked told
+    pub keeps : IsSome shown → IsSome shown_after
+    pub learns : IsStopTo told → IsSome shown_after
+
+  -- .. and so each of these calls, from what was shown before the first of them to what was behind the last
+  abbrev pub AreBacked : Rules → Bool → Telling → List Receipt → Option Showing → List Exchanged → Option Showing → Type 0
+  AreBacked rules asks tells receipts before [] after = before ≡ after
+  AreBacked rules asks tells receipts before (c ∷ calls) after =
+      (shown : Option Showing) × IsBacked rules asks tells receipts before c shown × AreBacked rules asks tells receipts shown calls after

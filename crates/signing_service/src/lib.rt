@@ -28,7 +28,7 @@ pub use reception::Reception;
 pub use serving::serve_calls;
 pub use signer::Signer;
 pub use signer_answers::{
-    Approver, Caller, Gate, Keeper, NoSuccessor, Office, PutBack, look_through,
+    Approver, Caller, Gate, Heard, Keeper, NoSuccessor, Office, PutBack, look_through,
 };
 pub use signer_calls::{CallRefusal, Rules};
 pub use sources::Sources;

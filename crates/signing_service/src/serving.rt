@@ -2,11 +2,10 @@
 
 ghost use Rattle.std.specs.Prelude.{◌≡◌, ◌++◌, [], ℕ, List, IsSome, OnOk};
 ghost use Rattle.std.specs.Io.KnownBytes.{Appends, Consumes};
-ghost use Rattle.std.specs.List.{All};
 ghost use Rattle.http_server.specs.Connection.{config_of, history};
 ghost use Rattle.http_server.specs.History.{IsDone, IsServed as IsAllServed};
 ghost use Rattle.replica_answers.specs.SessionReceipts.{ReceiptsGrow};
-ghost use Rattle.signing_service.specs.CallAnswers.{IsBacked};
+ghost use Rattle.signing_service.specs.CallAnswers.{AreBacked};
 
 use crate::signer::Signer;
 use crate::witness::Witness;
@@ -40,14 +39,16 @@ pub fn serve_calls<
     requires { (history connection.old).calls ≡ [] }
 
     // Each call has a reading, and was told what its call is told. The receipt of each vote that was told is in the
-    // session: so the vote stands in the log. Who was shown before that the log was put back is told of nothing else.
-    ensures backed { All (IsBacked D.Disk N.committee N.replica N.opening
+    // session: so the vote stands in the log. Who was told once that the log was put back is told of nothing else from then on.
+    ensures backed { AreBacked D.Disk N.committee N.replica N.opening
         signer.old.reception.now.rules.now signer.old.reception.now.gate.now.asks
-        (K.tells signer.old.office.now.keeper.now) signer.old.caller.shown
-        signer.new.caller.session.receipts.items) (history connection.new).calls }
+        (K.tells signer.old.office.now.keeper.now) signer.new.caller.session.receipts.items
+        signer.old.caller.shown (history connection.new).calls signer.new.caller.shown }
     ensures grows { ReceiptsGrow signer.old.caller.session.receipts.items
         signer.new.caller.session.receipts.items }
     ensures shown { IsSome signer.old.caller.shown → IsSome signer.new.caller.shown }
+    ensures same { (signer.new.office ≡ signer.old.office)
+        × (signer.new.reception ≡ signer.old.reception) }
 
     // What went out is the answers to the first requests that came, in order. These came from the reader, and went to the writer.
     ensures served { ∥ IsAllServed (config_of connection.new) (history connection.new) ∥₁ }

@@ -174,12 +174,15 @@ impl<
             ≡ receipts_told self.old.caller.session.receipts.items result }
         ensures stop { IsSome self.old.caller.shown → IsStopTo result }
         ensures shown { IsSome self.old.caller.shown → IsSome self.new.caller.shown }
+        ensures learns { IsStopTo result → IsSome self.new.caller.shown }
         ensures same { (self.new.office ≡ self.old.office) × (self.new.reception ≡ self.old.reception) }
     {
-        match self.halt() {
-            Some(Halt::PutBack(ballot)) => return Some(Told::PutBack(ballot)),
-            Some(Halt::Asking) => return Some(Told::Asking),
-            None => {}
+        // Who is told that the log was put back has what shows it from then on, whoever found it.
+        if let Some(ballot) = self.caller.look(self.rt, self.office.put_back) {
+            return Some(Told::PutBack(ballot));
+        }
+        if self.is_asking() {
+            return Some(Told::Asking);
         }
         if self.lies_far(&asked) {
             return None;
@@ -204,6 +207,7 @@ impl<
             ≡ receipts_told self.old.caller.session.receipts.items result }
         ensures stop { IsSome self.old.caller.shown → IsStopTo result }
         ensures shown { IsSome self.old.caller.shown → IsSome self.new.caller.shown }
+        ensures learns { IsStopTo result → IsSome self.new.caller.shown }
         ensures same { (self.new.office ≡ self.old.office) × (self.new.reception ≡ self.old.reception) }
     {
         let is_block = is_block(&asked);

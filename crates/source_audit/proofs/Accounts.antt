@@ -21,13 +21,18 @@ use Rattle.evidence.specs.Logs.{ReceivedLog, FrameHasHeader, FrameHasVote, LogHa
 use Rattle.evidence.specs.Sets.{InSome}
 use Rattle.evidence.specs.declared.refusal.EvidenceRefusal.TheVariants.{Collision as Colliding}
 use Rattle.evidence.specs.declared.source.SourceReport.{SourceReport}
-use Rattle.parallel_verify.specs.Collections.{IsEvidenceOfSources, MayGive}
+use Rattle.log_transfer.specs.declared.connector.Connector.{Ghosts}
+use Rattle.parallel_verify.specs.Collections.{MayFail, MayGive}
+use Rattle.parallel_verify.specs.Readings.{Tells, sources_of}
+use Rattle.parallel_verify.specs.declared.judging.Judging.{Judging}
+use Rattle.parallel_verify.specs.declared.source.Observed.{Observed}
 use Rattle.parallel_verify.specs.declared.source.Source.{Source}
 use Rattle.commit_search.specs.Commits.{IsCertified, IsProvedCommit, Stands, has_vote}
 use Rattle.commit_search.proofs.Weights.{list_any-Has, weight_more}
 use Rattle.culprit_search.specs.Reports.{AreMoreThanAThird, IsAudit, IsConflictOf, Report}
 use Rattle.culprit_search.specs.declared.report.Conflict.{Conflict as ConflictOf}
-use Rattle.source_audit.specs.Runs.{AccusesMoreThanAThird, HaveFailed, IsAccounted, IsAuditRun, IsCompleteSource, IsMemoryOrSink, IsRunRefusal, ProveAConflict}
+use Rattle.source_audit.specs.Runs.{AccusesMoreThanAThird, HaveFailed, IsAccounted, IsAuditRun, IsCompleteSource, IsJudgedRun, IsMemoryOrSink, IsRunRefusal, ProveAConflict}
+use Rattle.source_audit.specs.declared.run.Findings.{Findings}
 use Rattle.source_audit.specs.declared.run_error.RunError.{RunError}
 use Rattle.source_audit.specs.declared.run_error.RunError.TheVariants.{Memory, Committee as NoCommittee, Collision, Sink}
 
@@ -215,17 +220,9 @@ module _ (committee : List ℕ) (ls ws : List ReceivedLog) (zip : AllZip IsCutOf
       ]
 
 module _ {S : Type 0} (Gives Complete : S → ReceivedLog → Type 0) (step : (s : S) (l w : ReceivedLog) → Gives s l → Complete s w → IsCutOf l w) (committee : List ℕ) (ss : List S) (ws : List ReceivedLog) (complete : AllZip Complete ss ws) (prove : ProveAConflict committee ws) where
-  -- a report
-  pub run_accounted : (Caused : S → SourceReport → Type 0) (Wrote : Evidence → Report → Type 0) (e : Evidence) (result : Result Report RunError) → IsCommittee committee → IsEvidenceOfSources Gives committee ss e → IsEvidence e
-      → AllZip Caused ss e.sources → IfOk result (IsAudit e) → IfOk result (λ r. IsSome r.conflict → AreMoreThanAThird e.committee r) → IfOk result (λ r. All (IsProof e.committee) r.verdicts) → IfOk result (Wrote e) → IfErr result IsMemoryOrSink
-      → MatchResult result (λ r. (x : Evidence) × IsAuditRun Gives Caused committee ss x r × Wrote x r × IsAccounted committee x r) IsMemoryOrSink
-  run_accounted Caused Wrote e (Err x) under of sound caused audit many proofs wrote refused = refused
-  run_accounted Caused Wrote e (Ok r) under of sound caused audit many proofs wrote refused = (
-    e,
-    record { under = under; evidence = of; sound = sound; caused = caused; audit = audit },
-    wrote,
-    accounted committee of.logs ws (zip_both Gives Complete IsCutOf step ss of.logs ws of.given complete) prove e r of.evidence audit many proofs,
-  )
+  -- a report of logs that the sources gave
+  pub reading_accounted : (ls : List ReceivedLog) → AllZip Gives ss ls → (e : Evidence) (r : Report) → IsEvidenceOf committee ls e → IsAudit e r → (IsSome r.conflict → AreMoreThanAThird e.committee r) → All (IsProof e.committee) r.verdicts → IsAccounted committee e r
+  reading_accounted ls given e r of audit many proofs = accounted committee ls ws (zip_both Gives Complete IsCutOf step ss ls ws given complete) prove e r of audit many proofs
 
   -- no report
   refused_as : (x : RunError) → IsCommittee committee → IsRunRefusal Gives committee ss x → IsMemoryOrSink x
@@ -239,9 +236,18 @@ module _ {S : Type 0} (Gives Complete : S → ReceivedLog → Type 0) (step : (s
       let two = fault.1 in
       absurd (no_collision committee two.logs ws (zip_both Gives Complete IsCutOf step ss two.logs ws two.given complete) prove h k two.collision)
 
-  pub refused_accounted : (P : Report → Type 0) (result : Result Report RunError) (x : RunError) → IsCommittee committee → IsErrAnd result (λ y. y ≡ x) → IsRunRefusal Gives committee ss x → MatchResult result P IsMemoryOrSink
+  pub refused_accounted : {A : Type 0} (P : A → Type 0) (result : Result A RunError) (x : RunError) → IsCommittee committee → IsErrAnd result (λ y. y ≡ x) → IsRunRefusal Gives committee ss x → MatchResult result P IsMemoryOrSink
   refused_accounted P (Ok r) x is same fault = absurd same
   refused_accounted P (Err y) x is same fault = subst IsMemoryOrSink (sym same) (refused_as x is fault)
 
-pub if_ok_under : {R E : Type 0} (P : List ℕ → R → Type 0) (committee other : List ℕ) (result : Result R E) → other ≡ committee → IfOk result (P other) → IfOk result (P committee)
-if_ok_under {R} {E} P committee other result same ok = subst (λ (k : List ℕ). IfOk result (P k)) same ok
+-- a run over sources that were observed is one over the sources
+pub run_of : {C O : Type 0} (connector : Ghosts C) (told : Tells O) (committee : List ℕ) (judging : Judging) (os : List (Observed C O)) (ss : List (Source C)) (a : Findings) (after : List O) → sources_of os ≡ ss → IsJudgedRun connector told committee judging os a after
+    → IsAuditRun (MayGive connector.gives) (MayFail connector.reaches connector.failed) committee ss a.evidence a.report
+run_of {C} connector told committee judging os ss a after same run =
+    subst (λ (xs : List (Source C)). IsAuditRun (MayGive connector.gives) (MayFail connector.reaches connector.failed) committee xs a.evidence a.report) same (record {
+      under = run.under;
+      evidence = record { logs = run.reading.logs; given = run.reading.given; evidence = run.reading.evidence };
+      sound = run.sound;
+      caused = run.reading.caused;
+      audit = run.audit;
+    })

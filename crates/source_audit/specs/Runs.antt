@@ -11,17 +11,22 @@ use Rattle.blocks.specs.Weights.{committee_of}
 use Rattle.log_format.specs.declared.status.Status.TheVariants.{Failed}
 use Rattle.log_transfer.specs.Complete.{AreLogPayloads, IsCompleteFor}
 use Rattle.log_transfer.specs.Connections.{Connection}
+use Rattle.log_transfer.specs.declared.connector.Connector.{Ghosts}
 use Rattle.verdict_format.specs.Proofs.{IsProof}
 use Rattle.evidence.specs.Evidence.{Evidence, IsEvidence, IsEvidenceOf}
 use Rattle.evidence.specs.Logs.{ReceivedLog}
 use Rattle.evidence.specs.declared.refusal.EvidenceRefusal.TheVariants.{Collision as Colliding}
 use Rattle.evidence.specs.declared.source.SourceReport.{SourceReport}
 use Rattle.parallel_verify.specs.Collections.{HaveCollision, IsEvidenceOfSources}
+use Rattle.parallel_verify.specs.Readings.{IsReadingOf, Tells}
+use Rattle.parallel_verify.specs.declared.judging.Judging.{Judging}
+use Rattle.parallel_verify.specs.declared.source.Observed.{Observed}
 use Rattle.parallel_verify.specs.declared.source.Source.{Source}
 use Rattle.commit_search.specs.Commits.{IsProvedCommit}
 use Rattle.culprit_search.specs.Reports.{AreMoreThanAThird, IsAudit, Report, accused_weight}
 use Rattle.culprit_search.specs.ReportText.{report_text}
 use Rattle.culprit_search.specs.Verdicts.{IsOnLowerReplica}
+use Rattle.source_audit.specs.declared.run.Findings.{Findings}
 use Rattle.source_audit.specs.declared.run_error.RunError.{RunError}
 use Rattle.source_audit.specs.declared.run_error.RunError.TheVariants.{Memory, Committee, Collision, Sink}
 
@@ -33,6 +38,14 @@ pub record IsAuditRun {S : Type 0} (Gives : S → ReceivedLog → Type 0) (Cause
   pub sound : IsEvidence e
   pub caused : AllZip Caused sources e.sources
   pub audit : IsAudit e r
+
+-- the same of one reading of sources that were observed, with what was found of each of its logs, if they were to be judged, and what
+-- each observer was told of
+pub record IsJudgedRun {C O : Type 0} (connector : Ghosts C) (told : Tells O) (committee : List ℕ) (judging : Judging) (sources : List (Observed C O)) (a : Findings) (after : List O) : Type 0 where
+  pub under : IsCommittee committee
+  pub reading : IsReadingOf connector told committee judging sources a.evidence a.judged.items after
+  pub sound : IsEvidence a.evidence
+  pub audit : IsAudit a.evidence a.report
 
 -- why there is no report: the bytes are refused as a committee, or two different headers in logs that the sources give
 -- have one id

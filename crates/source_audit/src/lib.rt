@@ -4,5 +4,5 @@
 mod run;
 mod run_error;
 
-pub use run::{audit_run, audit_run_by, audit_run_of};
+pub use run::{Findings, audit_judged, audit_run, audit_run_by, audit_run_of};
 pub use run_error::RunError;

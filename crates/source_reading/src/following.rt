@@ -1,9 +1,9 @@
 //! The logs that came of one source.
 
-ghost use Rattle.std.specs.Prelude.{◌≡◌, ◌↔◌, ◌++◌, ◌∷◌, ◌<◌, [], IfOk, IsTrue, MatchOption, OnOk, length, option_map, slice_index_or};
+ghost use Rattle.std.specs.Prelude.{◌≡◌, ◌↔◌, ◌++◌, ◌∷◌, [], IfOk, IsTrue, MatchOption, OnOk, length};
 ghost use Rattle.std.specs.List.{All};
 ghost use Rattle.sha2.specs.Sha256.{sha256};
-ghost use Rattle.source_reading.specs.Following.{BeginsWith, GoesOn, IsKnown, IsPlaced, read_then};
+ghost use Rattle.source_reading.specs.Following.{BeginsWith, GoesOn, IsFirst, IsPlaced, read_then};
 
 use crate::kept_log::KeptLog;
 use sha2::{Digest as _, Sha256};
@@ -28,9 +28,9 @@ pub fn digest_of(frame: &[u8]) -> FrameDigest
 /// Where a frame that comes next has its place.
 #[derive(Clone, Copy, Debug, PartialEq, Eq)]
 pub enum Place {
-    /// A log has it there already.
-    Known,
-    /// It is the next of this log.
+    /// This log, the first that does, has it there already.
+    Known(usize),
+    /// No log has it there, and it is the next of this one, the first that ends there.
     Next(usize),
     /// It is the last of a new log of this number, which begins as what was read.
     Opens(usize),
@@ -60,36 +60,21 @@ impl Model for SourceLogs {
     } };
 }
 
-// The first of the logs that begins with these.
-fn first_beginning(logs: &[KeptLog], with: &[FrameDigest]) -> Option<usize>
-    ensures { MatchOption result (All (λ log. BeginsWith with.now log → ⊥) logs.now)
-        (λ k. (k < length logs.now) × BeginsWith with.now (slice_index_or logs.now k [])) }
+// The first of the logs that begins with these frames and this next one.
+fn first_beginning(logs: &[KeptLog], front: &[FrameDigest], next: &FrameDigest) -> Option<usize>
+    ensures { MatchOption result
+        (All (λ log. BeginsWith (front.now ++ next.now ∷ []) log → ⊥) logs.now)
+        (IsFirst (BeginsWith (front.now ++ next.now ∷ [])) logs.now) }
 {
-    for (k, log) in logs.iter().enumerate() {
-        if log.begins_with(with) {
-            return Some(k);
-        }
-    }
-    None
+    logs.iter().position(|log| log.begins_with(front, next))
 }
 
 // The first of the logs that is this one.
 fn first_equal(logs: &[KeptLog], digests: &[FrameDigest]) -> Option<usize>
     ensures { MatchOption result (All (λ log. log ≡ digests.now → ⊥) logs.now)
-        (λ k. (k < length logs.now) × (slice_index_or logs.now k [] ≡ digests.now)) }
+        (IsFirst (λ log. log ≡ digests.now) logs.now) }
 {
-    for (k, log) in logs.iter().enumerate() {
-        if log.is(digests) {
-            return Some(k);
-        }
-    }
-    None
-}
-
-fn copy_of(alloc: Global, digests: &[FrameDigest]) -> Result<Vec<FrameDigest>, AllocError>
-    ensures { IfOk result (λ copy. copy.items ≡ digests.now) }
-{
-    digests.to_vec(alloc)
+    logs.iter().position(|log| log.is(digests))
 }
 
 impl SourceLogs {
@@ -165,35 +150,35 @@ impl SourceLogs {
         self.present.starts_with(&self.before)
     }
 
-    // What was read, and the next frame.
-    fn with_next(&self, digest: &FrameDigest) -> Result<Vec<FrameDigest>, AllocError>
-        ensures { IfOk result (λ with. with.items ≡ read_then self.now digest.now) }
+    // What was read and this next frame, as a log of its own: at most three times of a source.
+    fn new_log(&self, digest: &FrameDigest) -> Result<KeptLog, AllocError>
+        ensures { IfOk result (λ log. log ≡ read_then self.now digest.now) }
     {
-        let mut with = copy_of(self.alloc, &self.present)?;
-        with.push(*digest)?;
-        Ok(with)
+        let mut log = KeptLog::of(self.alloc, &self.present)?;
+        log.push(digest)?;
+        Ok(log)
     }
 
     /// Reads the next frame, and says where it has its place. After a refusal of memory it is to be dropped.
     pub fn place(&mut self, digest: &FrameDigest) -> Result<Place, AllocError>
         ensures { IfOk result (IsPlaced self.old self.new digest.now) }
     {
-        let with = self.with_next(digest)?;
-        if let Some(_log) = first_beginning(&self.logs, &with) {
-            self.present = with;
-            return Ok(Place::Known);
+        if let Some(k) = first_beginning(&self.logs, &self.present, digest) {
+            self.present.push(*digest)?;
+            return Ok(Place::Known(k));
         }
         if let Some(k) = first_equal(&self.logs, &self.present) {
-            self.logs[k] = KeptLog::of(self.alloc, &with)?;
-            self.present = with;
+            self.logs[k].push(digest)?;
+            self.present.push(*digest)?;
             return Ok(Place::Next(k));
         }
         let count = self.logs();
         if count >= MOST_LOGS {
             return Ok(Place::Beyond);
         }
-        self.logs.push(KeptLog::of(self.alloc, &with)?)?;
-        self.present = with;
+        let log = self.new_log(digest)?;
+        self.logs.push(log)?;
+        self.present.push(*digest)?;
         Ok(Place::Opens(count))
     }
 }

@@ -1,6 +1,6 @@
 //! A log by the digests of its frames.
 
-ghost use Rattle.std.specs.Prelude.{◌≡◌, ◌↔◌, [], IfOk, IsTrue};
+ghost use Rattle.std.specs.Prelude.{◌≡◌, ◌↔◌, ◌++◌, ◌∷◌, [], IfOk, IsTrue, OnOk, slice_get};
 ghost use Rattle.source_reading.specs.Following.{BeginsWith};
 
 use crate::following::FrameDigest;
@@ -40,11 +40,32 @@ impl KeptLog {
         })
     }
 
-    /// Whether it begins with these.
-    pub fn begins_with(&self, with: &[FrameDigest]) -> bool
-        ensures { IsTrue result ↔ BeginsWith with.now self.now }
+    /// One more frame. Nothing else is copied.
+    pub fn push(&mut self, digest: &FrameDigest) -> Result<(), AllocError>
+        ensures { OnOk result (self.new ≡ self.old ++ digest.now ∷ []) }
     {
-        self.digests.starts_with(with)
+        self.digests.push(*digest)?;
+        Ok(())
+    }
+
+    // Whether it has this frame there.
+    fn has_at(&self, place: usize, digest: &FrameDigest) -> bool
+        ensures { IsTrue result ↔ (slice_get self.now place ≡ Some digest.now) }
+    {
+        match self.digests.get(place) {
+            Some(found) => *found == *digest,
+            None => false,
+        }
+    }
+
+    /// Whether it begins with these frames and this next one.
+    pub fn begins_with(&self, front: &[FrameDigest], next: &FrameDigest) -> bool
+        ensures { IsTrue result ↔ BeginsWith (front.now ++ next.now ∷ []) self.now }
+    {
+        if !self.has_at(front.len(), next) {
+            return false;
+        }
+        self.digests.starts_with(front)
     }
 
     /// Whether it is these.

@@ -4,9 +4,11 @@ use Rattle.log_format.specs.declared.status.Status.{Status}
 use Rattle.log_format.specs.declared.status.Status.TheVariants.{Whole, Cut, Broken, TooLong, Failed}
 use Rattle.log_transfer.specs.declared.failure.Failure.{Failure}
 use Rattle.log_transfer.specs.declared.failure.Failure.TheVariants.{NoSuchFile, Folder, Unreadable, NoSuchHost, Refused, Reset, TimedOut}
-use Rattle.held_logs.specs.declared.judging.Judgement.{Judgement}
+use Rattle.parallel_verify.specs.declared.judging.Judgement.{Judgement}
 use Rattle.source_reasons.specs.declared.reason.Reason.{Reason}
-use Rattle.source_reasons.specs.declared.reason.Reason.TheVariants.{Call, Early, NoExport, Old, Frames, Votes}
+use Rattle.source_reasons.specs.declared.reason.Reason.TheVariants.{Call, Early, NoExport, Old, Frames, Votes, Steps}
+use Rattle.source_reasons.specs.declared.reason.Note.{Note}
+use Rattle.source_reasons.specs.declared.reason.Note.TheVariants.{Empty, NoVote}
 use Rattle.source_reasons.specs.declared.reason.Stranger.{Stranger}
 use Rattle.source_reasons.specs.declared.reason.Stranger.TheVariants.{Unknown, Journal, Committee, Verdict, Seed}
 
@@ -18,7 +20,7 @@ failure_or (Some failure) = failure
 -- of a whole log the first reason that holds
 abbrev pub whole_reason : Judgement → Bool → Reason
 whole_reason j is_old =
-    if j.report.entries == j.report.frames then Votes j.votes j.good
+    if j.report.entries == j.report.frames then (if j.good == j.votes then Steps else Votes j.votes j.good)
     else if is_old then Old
     else Frames (j.report.frames - j.report.entries)
 
@@ -44,12 +46,26 @@ IsReasonOf j Early = j.report.status ≡ Cut
 IsReasonOf j (NoExport stranger) = (j.report.status ≡ Broken) ⊎ (j.report.status ≡ TooLong)
 IsReasonOf j Old = (j.report.status ≡ Whole) × (j.report.entries ≢ j.report.frames)
 IsReasonOf j (Frames count) = (j.report.status ≡ Whole) × (j.report.entries ≢ j.report.frames) × (count ≡ j.report.frames - j.report.entries)
-IsReasonOf j (Votes votes good) = (j.report.status ≡ Whole) × (j.report.entries ≡ j.report.frames) × (votes ≡ j.votes) × (good ≡ j.good)
+IsReasonOf j (Votes votes good) = (j.report.status ≡ Whole) × (j.report.entries ≡ j.report.frames) × (votes ≡ j.votes) × (good ≡ j.good) × (good ≢ votes)
+IsReasonOf j Steps = (j.report.status ≡ Whole) × (j.report.entries ≡ j.report.frames) × (j.good ≡ j.votes)
 
 -- there is none just where the log is sound
 abbrev pub IsWhy : Judgement → Option Reason → Type 0
 IsWhy j None = j.sound ≡ true
 IsWhy j (Some reason) = (j.sound ≡ false) × IsReasonOf j reason
+
+-- ---- what to know of a sound log
+
+abbrev pub note : Judgement → Option Note
+note j =
+    if j.sound then (if j.report.frames == 0 then Some Empty else if j.has_voted then None else Some NoVote)
+    else None
+
+abbrev pub note_text : Note → List ℕ
+note_text Empty = codes "sound, and empty"
+note_text NoVote = codes "sound, with no vote of its own"
+
+-- ---- the words
 
 abbrev pub time_text : ℕ → List ℕ
 time_text seconds = codes "timed out after " ++ decimal seconds ++ codes " s"
@@ -83,3 +99,4 @@ reason_text (NoExport stranger) = stranger_text stranger
 reason_text Old = codes "the old form: see migrate"
 reason_text (Frames count) = frames_text count
 reason_text (Votes votes good) = votes_text votes good
+reason_text Steps = codes "an entry is no legal step"

@@ -1,6 +1,6 @@
-//! Why the log of a source is not sound, and the words that say so. Needs no threads, files or network.
+//! Why the log of a source is not sound, what to know of one that is, and the words that say so. Needs no threads, files or network.
 #![tactic(auto)]
 
 mod reason;
 
-pub use reason::{Reason, Stranger};
+pub use reason::{Note, Reason, Stranger};

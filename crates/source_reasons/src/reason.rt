@@ -1,11 +1,11 @@
 //! Why a source is not sound.
 
 ghost use Rattle.std.specs.Prelude.{◌≡◌, IfOk, string_bytes};
-ghost use Rattle.source_reasons.specs.Reasons.{IsWhy, failure_text, reason_text, stranger_text, why};
+ghost use Rattle.source_reasons.specs.Reasons.{IsWhy, failure_text, note, note_text, reason_text, stranger_text, why};
 
-use held_logs::Judgement;
 use log_format::Status;
 use log_transfer::Failure;
+use parallel_verify::Judgement;
 use std::alloc::{AllocError, Global};
 
 /// What a file is that is no export.
@@ -36,8 +36,19 @@ pub enum Reason {
     Old,
     /// So many of its frames are no entries.
     Frames(usize),
-    /// It names so many different votes, and so many of them are good.
+    /// It names so many different votes, and fewer of them are good: so many.
     Votes(usize, usize),
+    /// Its entries are not legal steps, one after the other.
+    Steps,
+}
+
+/// What people should know of a sound log beside that.
+#[derive(Clone, Copy, Debug, PartialEq, Eq)]
+pub enum Note {
+    /// It has no frame.
+    Empty,
+    /// It has entries, and no vote of its own, so that it would be sound under any replica's word.
+    NoVote,
 }
 
 impl Reason {
@@ -64,9 +75,13 @@ impl Reason {
             Status::Whole if report.entries != report.frames => {
                 Reason::Frames(report.frames.saturating_sub(report.entries))
             }
-            Status::Whole => Reason::Votes(judged.votes, judged.good),
+            Status::Whole if judged.good != judged.votes => {
+                Reason::Votes(judged.votes, judged.good)
+            }
+            Status::Whole => Reason::Steps,
         })
     }
+
     /// The words that say it.
     pub fn text(self, alloc: Global) -> Result<String, AllocError>
         ensures { IfOk result (λ text. string_bytes text ≡ reason_text self) }
@@ -80,6 +95,35 @@ impl Reason {
             Reason::Votes(votes, good) => {
                 format!(in alloc; "{votes} votes, {good} good: another committee, or another R?")
             }
+            Reason::Steps => String::from_str(alloc, "an entry is no legal step"),
+        }
+    }
+}
+
+impl Note {
+    /// What there is to know of a sound log of which this was found; of a log that is not sound there is a reason.
+    pub fn of(judged: &Judgement) -> Option<Note>
+        ensures { result ≡ note judged.now }
+    {
+        if !judged.sound {
+            return None;
+        }
+        if judged.report.frames == 0 {
+            return Some(Note::Empty);
+        }
+        if judged.has_voted {
+            return None;
+        }
+        Some(Note::NoVote)
+    }
+
+    /// The words that say it.
+    pub fn text(self) -> &'static str
+        ensures { result.now ≡ note_text self }
+    {
+        match self {
+            Note::Empty => "sound, and empty",
+            Note::NoVote => "sound, with no vote of its own",
         }
     }
 }

@@ -1,2 +1,4 @@
 pub mod Endings
+pub mod Filings
+pub mod Keepings
 pub mod Openings

@@ -15,9 +15,9 @@ use Rattle.parallel_verify.specs.Collections.{MayFail, MayGive}
 use Rattle.parallel_verify.specs.declared.source.Source.{Source}
 use Rattle.culprit_search.specs.Reports.{AreMoreThanAThird, Report}
 use Rattle.culprit_search.specs.ReportText.{report_text}
-use Rattle.source_audit.specs.Runs.{IsAuditRun}
+use Rattle.source_audit.specs.Runs.{IsAccounted, IsAuditRun, IsCompleteSource, ProveAConflict}
 use Rattle.program_parts.specs.declared.words.SourceWord.{SourceWord}
-use Rattle.tool_commands.specs.Audits.{IsAuditOfWords}
+use Rattle.tool_commands.specs.Audits.{IsAuditOfWords, Said}
 use Rattle.tool_commands.specs.OpenedSources.{IsOpenedAs, SpellSources}
 use Rattle.tool_commands.specs.SourceTries.{IsTriedAs}
 
@@ -42,6 +42,14 @@ zip_of_first f R R' each [] (z ∷ zs) zip = zip
 zip_of_first f R R' each (x ∷ xs) [] zip = zip
 zip_of_first f R R' each (x ∷ xs) (z ∷ zs) zip = (each x z zip.0, zip_of_first f R R' each xs zs zip.1)
 
+-- .. and back
+zip_to_first : {X Y Z : Type 0} (f : X → Y) (R : X → Z → Type 0) (R' : Y → Z → Type 0) → ((x : X) (z : Z) → R' (f x) z → R x z) → (xs : List X) (zs : List Z) → AllZip R' (map f xs) zs
+    → AllZip R xs zs
+zip_to_first f R R' each [] [] zip = zip
+zip_to_first f R R' each [] (z ∷ zs) zip = zip
+zip_to_first f R R' each (x ∷ xs) [] zip = zip
+zip_to_first f R R' each (x ∷ xs) (z ∷ zs) zip = (each x z zip.0, zip_to_first f R R' each xs zs zip.1)
+
 zip_of_second : {X Y Z : Type 0} (f : Y → Z) (R : X → Z → Type 0) (xs : List X) (ys : List Y) → AllZip (λ x y. R x (f y)) xs ys → AllZip R xs (map f ys)
 zip_of_second f R [] [] zip = zip
 zip_of_second f R [] (y ∷ ys) zip = zip
@@ -65,14 +73,21 @@ inner_run inner gives reaches failed committee sources e r run = record {
   audit = run.audit;
 }
 
+-- complete sources are those around them, too
+outer_complete : {X C : Type 0} (inner : X → C) (gives : C → ℕ → ℕ → ℕ → Connection → Type 0) (sources : List (Source X)) (logs : List ReceivedLog)
+    → AllZip (IsCompleteSource gives) (map (inner_source inner) sources) logs → AllZip (IsCompleteSource (λ x. gives (inner x))) sources logs
+outer_complete inner gives sources logs complete =
+    zip_to_first (inner_source inner) (IsCompleteSource (λ x. gives (inner x))) (IsCompleteSource gives) (λ s l is. record { of = is.of; log = is.log; complete = is.complete }) sources logs complete
+
 -- what is printed of sources inside which are those that words spell
-pub of_words : {S F X : Type 0} (connector : Ghosts (ServerOrFile S F)) (Are : List ℕ → List ReceivedLog → Type 0) (inner : X → ServerOrFile S F) (words : List (Bor (List ℕ))) (tries : ℕ) (named named' : List SourceWord) (committee : List ℕ)
+pub of_words : {S F X : Type 0} (connector : Ghosts (ServerOrFile S F)) (Are : Said) (inner : X → ServerOrFile S F) (words : List (Bor (List ℕ))) (tries : ℕ) (named named' : List SourceWord) (committee : List ℕ)
     (sources : List (Source X)) (e : Evidence) (r : Report) (before after : Option (List ℕ)) (verdicts verdicts' : List (List ℕ)) → SpellSources words named → named' ≡ named
     → AllZip (λ w s. IsOpenedAs w s.replica (inner s.connector)) named' sources → All (λ s. IsTriedAs tries (inner s.connector) s.tries) sources
-    → (run : IsAuditRun (MayGive (λ x. connector.gives (inner x))) (MayFail (λ x y. connector.reaches (inner x) (inner y)) (λ x. connector.failed (inner x))) committee sources e r) → Are committee run.evidence.logs → r.verdicts ≡ verdicts
+    → (run : IsAuditRun (MayGive (λ x. connector.gives (inner x))) (MayFail (λ x y. connector.reaches (inner x) (inner y)) (λ x. connector.failed (inner x))) committee sources e r)
+    → ((logs : List ReceivedLog) → AllZip (IsCompleteSource (λ x. connector.gives (inner x))) sources logs → ProveAConflict committee logs → IsAccounted committee e r) → Are committee run.evidence.logs r → r.verdicts ≡ verdicts
     → All (IsProof committee) verdicts → (IsSome r.conflict → AreMoreThanAThird committee r) → Wrote before after (report_text e.sources r) → verdicts ≡ verdicts'
     → IsAuditOfWords connector Are words tries before after verdicts'
-of_words {S = S} {F = F} connector Are inner words tries named named' committee sources e r before after verdicts verdicts' spelled same opened tried run are with_these proofs many wrote is = record {
+of_words {S = S} {F = F} connector Are inner words tries named named' committee sources e r before after verdicts verdicts' spelled same opened tried run accounts are with_these proofs many wrote is = record {
   committee = committee;
   named = named;
   spelled = spelled;
@@ -86,6 +101,7 @@ of_words {S = S} {F = F} connector Are inner words tries named named' committee 
     evidence = e;
     report = r;
     run = inner_run inner connector.gives connector.reaches connector.failed committee sources e r run;
+    accountability = λ logs complete conflict. accounts logs (outer_complete inner connector.gives sources logs complete) conflict;
     are = are;
     with = subst (λ (vs : List (List ℕ)). r.verdicts ≡ vs) is with_these;
     proofs = subst (λ (vs : List (List ℕ)). All (IsProof committee) vs) is proofs;

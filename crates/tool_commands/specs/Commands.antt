@@ -8,26 +8,29 @@ use Rattle.log_transfer.specs.declared.source_connector.ServerOrFile.{ServerOrFi
 use Rattle.replica_lines.specs.declared.request.LineRequest.{LineRequest}
 use Rattle.tool_words.specs.declared.command.Command.{Command}
 use Rattle.tool_words.specs.declared.command.Command.TheVariants.{Usage, Keygen, Committee, Weighted, Replica, Audit, Migrate, Export}
+use Rattle.tool_commands.specs.AuditFiles.{HasStored}
 use Rattle.tool_commands.specs.Audits.{AreCulpritsPrinted, IsEnoughPrinted, IsTooLittlePrinted}
 use Rattle.tool_commands.specs.Lines.{IsChainPrinted, IsExportPrinted, IsKeyPrinted, IsMigrationPrinted, IsTextOfKeys, IsTextOfReplicas}
 use Rattle.tool_commands.specs.Seeds.{IsSeedOf}
 use Rattle.tool_commands.specs.Stays.{AreReadOf, IsReplicaDone, IsStopPrinted}
+use Rattle.tool_commands.specs.StoredFiles.{StoredFile}
 
 -- how the tool is called
 abbrev pub usage_text : List ℕ
 usage_text = codes "hs_tool keygen SEED DIR\nhs_tool committee F OUT KEY..\nhs_tool replica COMMITTEE R DIR\nhs_tool audit COMMITTEE OUTDIR SOURCE..\nhs_tool weighted OUT WEIGHT=PATH..\nhs_tool migrate OLD NEW COMMITTEE\n"
 
--- what a command is lent: disks for logs, connectors for sources, seeds that may be drawn, what the input has left, and which
--- requests of a replica were read of it
+-- what a command is lent: disks for logs, connectors for sources, seeds that may be drawn, what the input has left, which
+-- requests of a replica were read of it, and which files were stored
 pub record Lent (D S F : Type 0) : Type 1 where
   pub disk : DiskGhosts D
   pub connector : ConnectorGhosts (ServerOrFile S F)
   pub draws : List ℕ → Type 0
   pub rest : Option (List ℕ)
   pub requests : List LineRequest → Type 0
+  pub stored : List StoredFile → Type 0
 
-abbrev pub lend : {D S F R : Type 0} → DiskGhosts D → ConnectorGhosts (ServerOrFile S F) → (List ℕ → Type 0) → FeedGhosts R → R → R → Lent D S F
-lend disk connector draws feed old new = record { disk = disk; connector = connector; draws = draws; rest = feed.rest old; requests = AreReadOf feed old new }
+abbrev pub lend : {D S F R : Type 0} → DiskGhosts D → ConnectorGhosts (ServerOrFile S F) → (List ℕ → Type 0) → FeedGhosts R → R → R → (List StoredFile → Type 0) → Lent D S F
+lend disk connector draws feed old new stored = record { disk = disk; connector = connector; draws = draws; rest = feed.rest old; requests = AreReadOf feed old new; stored = stored }
 
 -- it has printed what it was asked for
 abbrev pub IsDone : {D S F : Type 0} → Lent D S F → Command → (before after : Option (List ℕ)) → Type 0
@@ -36,18 +39,18 @@ IsDone lent (Keygen seed folder key) before after = IsKeyPrinted (IsSeedOf lent.
 IsDone lent (Committee f out keys) before after = IsChainPrinted (IsTextOfKeys f (length keys.items)) before after
 IsDone lent (Weighted out replicas) before after = IsChainPrinted (IsTextOfReplicas replicas.items) before after
 IsDone lent (Replica committee replica folder workers service) before after = IsReplicaDone lent.disk lent.requests replica service before after
-IsDone lent (Audit committee folder sources tries wishes) before after = IsEnoughPrinted lent.connector wishes.strictness sources.items tries.count before after
+IsDone lent (Audit committee folder sources tries wishes) before after = IsEnoughPrinted lent.connector wishes.strictness sources.items tries.count before after (HasStored lent.stored folder.now sources.items wishes.json)
 IsDone lent (Migrate old new committee) before after = IsMigrationPrinted lent.disk before after
 IsDone lent (Export log out) before after = IsExportPrinted before after
 
 -- .. of one that found culprits: it is an audit
 abbrev pub AreCulpritsFound : {D S F : Type 0} → Lent D S F → Command → (before after : Option (List ℕ)) → Type 0
-AreCulpritsFound lent (Audit committee folder sources tries wishes) before after = AreCulpritsPrinted lent.connector sources.items tries.count before after
+AreCulpritsFound lent (Audit committee folder sources tries wishes) before after = AreCulpritsPrinted lent.connector sources.items tries.count before after (HasStored lent.stored folder.now sources.items wishes.json)
 AreCulpritsFound lent command before after = ⊥
 
 -- .. of one that found no culprit, in too few sound sources: it is an audit that was to be strict
 abbrev pub AreTooFewSound : {D S F : Type 0} → Lent D S F → Command → (before after : Option (List ℕ)) → Type 0
-AreTooFewSound lent (Audit committee folder sources tries wishes) before after = IsTooLittlePrinted lent.connector wishes.strictness sources.items tries.count before after
+AreTooFewSound lent (Audit committee folder sources tries wishes) before after = IsTooLittlePrinted lent.connector wishes.strictness sources.items tries.count before after (HasStored lent.stored folder.now sources.items wishes.json)
 AreTooFewSound lent command before after = ⊥
 
 -- it is asked to tell reasons

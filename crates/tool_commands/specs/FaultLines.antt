@@ -5,7 +5,7 @@ use Rattle.program_parts.specs.FaultLines.{fault_line, source_fault_line}
 use Rattle.program_parts.specs.declared.program_fault.ProgramFault.{ProgramFault}
 use Rattle.replica_command.specs.Folders.{name_in_folder}
 use Rattle.tool_commands.specs.declared.fault.FolderFile.{FolderFile}
-use Rattle.tool_commands.specs.declared.fault.FolderFile.TheVariants.{Kept, Replica, Verdict}
+use Rattle.tool_commands.specs.declared.fault.FolderFile.TheVariants.{Kept, NewVerdict, Replica, Verdict}
 use Rattle.tool_commands.specs.declared.fault.ToolFault.{ToolFault}
 use Rattle.tool_commands.specs.declared.fault.ToolFault.TheVariants.{Hex, FileIn, Sources, Store, Receipts, Listen}
 
@@ -13,6 +13,7 @@ use Rattle.tool_commands.specs.declared.fault.ToolFault.TheVariants.{Hex, FileIn
 abbrev pub name_behind : FolderFile → List ℕ
 name_behind (Replica file) = codes "/" ++ name_in_folder file
 name_behind (Verdict replica) = codes "/verdict-" ++ decimal replica ++ codes ".hsx"
+name_behind (NewVerdict replica) = codes "/verdict-" ++ decimal replica ++ codes ".hsx.new"
 name_behind (Kept replica source) = codes "/" ++ decimal replica ++ codes "-" ++ decimal source ++ codes ".hsl"
 
 -- "fault store N"

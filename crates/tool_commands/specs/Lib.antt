@@ -1,13 +1,16 @@
 pub use Rattle.printed_lines.specs.Printed
+pub mod AuditFiles
 pub mod Audits
 pub mod Commands
 pub mod FaultLines
+pub mod Keeping
 pub mod Lines
 pub mod Occupied
 pub mod OpenedSources
 pub mod Seeds
 pub mod SourceTries
 pub mod Stays
+pub mod StoredFiles
 pub mod Strict
 pub mod Told
 pub mod Writes

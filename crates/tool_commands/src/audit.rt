@@ -1,32 +1,38 @@
 //! `hs_tool audit COMMITTEE OUTDIR SOURCE.. [--tries T] [--strict] [--strict-all] [--why] [--keep KEPT]
-//! [--json FILE]`: what logs prove, and whom they accuse.
+//! [--json FILE] [--time N]`: what logs prove, and whom they accuse.
 
-ghost use Rattle.std.specs.Prelude.{◌≡◌, ◌≢◌, ◌⊎◌, [], false, true, IfErr, IfOk};
+ghost use Rattle.std.specs.Prelude.{◌≡◌, ◌≢◌, ◌⊎◌, ◌++◌, [], List, false, true, IfErr, IfOk, OnOk, map, string_bytes};
 ghost use Rattle.std.specs.List.{All};
 ghost use Rattle.parallel_verify.specs.Collections.{MayBeTried};
 ghost use Rattle.program_parts.specs.Writes.{CountsWrites};
-ghost use Rattle.tool_commands.specs.Audits.{AreCulpritsPrinted, EndsAs, IsAuditPrinted, IsEndOf, IsEnoughPrinted, IsTooLittlePrinted, status_of};
-ghost use Rattle.tool_commands.specs.Strict.{AreAny, AreJudgedAs};
+ghost use Rattle.report_json.specs.Data.{verdict_path};
+ghost use Rattle.tool_commands.specs.AuditFiles.{AreReportsOn, AreTried, HasStored, IsTried, fault_in, first_of, verdict_files};
+ghost use Rattle.tool_commands.specs.Audits.{AreCulpritsPrinted, Both, EndsAs, IsAuditPrinted, IsEndOf, IsEnoughPrinted, IsTooLittlePrinted, Of, status_of};
+ghost use Rattle.tool_commands.specs.Keeping.{AreKept};
+ghost use Rattle.tool_commands.specs.StoredFiles.{Stored, StoredFile};
+ghost use Rattle.tool_commands.specs.Strict.{AreFound, AreJudgedFor};
+ghost use Rattle.parallel_verify.specs.Readings.{MayBeTriedIn, sources_of};
+ghost use Rattle.parallel_verify.specs.declared.judging.Judging.{Judging as JudgingValue};
 
 use crate::fault::{Fault, FolderFile, ToolFault, fault_of_run};
 use crate::host::Host;
-use crate::keep::Keeper;
+use crate::keep::{KeepOne, Keeper};
 use crate::progress::Progress;
-use crate::report_file::{clear_report, write_report};
+use crate::report_file::{clear_report, store_report};
 use crate::sources::{open_sources, read_source_words};
+use crate::stored::{Extras, StoreFault, StoreFiles};
 use crate::strict::falls_short;
 use crate::tool::{CULPRITS, DONE, TOO_FEW_SOUND};
-use crate::why::tell_why;
+use crate::why::{tell_sound, tell_why};
 use blocks::CommitteeView;
 use certificates::Verifier;
 use culprit_search::{Report, Verdict};
-use held_audit::{HeldAudit, SeeLogs, audit_held};
+use kept_logs::what_is_kept_is_the_log;
 use log_transfer::{Connector, SourceConnector};
-use parallel_verify::Source;
+use parallel_verify::{Judging, Observed, Source};
 use program_parts::{ProgramFault, parse_committee, read_committee};
-use safe_files::replace_file;
-use source_audit::audit_run_of;
-use std::alloc::Global;
+use source_audit::{Findings, audit_judged};
+use std::alloc::{AllocError, Global};
 use std::fs;
 use std::fs::{File, Files};
 use std::net::{Net, TcpListener, TcpStream};
@@ -60,17 +66,18 @@ impl AuditEnd {
     }
 }
 
-/// Audits the logs of the sources that the words name, under the committee of the file, as `audit_run_of` does, which
-/// prints the report. Then the verdict on each culprit is written to a file of `folder`, new or in place of what was there. Where
-/// `folder` is no folder, no source is read and nothing printed. Where it is asked for, the logs are kept once all are read, `whys` is
-/// told why sources are not sound, and where the verdicts are, and last a report for programs is written, of which an older one is
-/// removed first. Answers how it ended.
+/// Audits the logs of the sources that the words name, under the committee of the file, as `source_audit::audit_judged` does, which
+/// prints the report. Then the verdict on each culprit is stored in `folder`, new or in place of what was there. If `folder` is no
+/// folder, no source is read and nothing printed. If it is asked for, the logs are kept as they are read, `extras.whys` is told why
+/// sources are not sound, and where the verdicts are, and last a report for programs is stored, of which an older one is removed
+/// first. Answers how it ended.
 pub(crate) fn audit_sources<
     'a,
     F: Files<File = File> + Sync,
     T: Threads + Wait + Clock + Net<Listener = TcpListener, Stream = TcpStream> + Sync,
     W: Sink,
     Y: Sink,
+    D: StoreFiles,
 >(
     host: &Host<'a, F, T>,
     committee: &'a str,
@@ -79,21 +86,26 @@ pub(crate) fn audit_sources<
     tries: Tries,
     wishes: AuditWishes<'a>,
     out: &mut W,
-    whys: &mut Y,
+    extras: &mut Extras<Y, D>,
 ) -> Result<AuditEnd, Fault<'a>>
 where
     F::Dir: Send,
     ensures culprits { IfOk result (λ end. end ≡ AuditEnd.Culprits
         → AreCulpritsPrinted ⟦<SourceConnector<'a, T, F> as Connector>⟧ words.now tries.count
-        (W.text out.old) (W.text out.new)) }
+        (W.text out.old) (W.text out.new) (HasStored (Stored (D.stored extras.old.files)
+        (D.stored extras.new.files)) folder.now words.now wishes.entry.json)) }
     ensures none { IfOk result (λ end. end ≡ AuditEnd.NoCulprit
         → IsEnoughPrinted ⟦<SourceConnector<'a, T, F> as Connector>⟧ wishes.entry.strictness
-        words.now tries.count (W.text out.old) (W.text out.new)) }
+        words.now tries.count (W.text out.old) (W.text out.new)
+        (HasStored (Stored (D.stored extras.old.files) (D.stored extras.new.files))
+        folder.now words.now wishes.entry.json)) }
     ensures too_few { IfOk result (λ end. end ≡ AuditEnd.TooFewSound
         → IsTooLittlePrinted ⟦<SourceConnector<'a, T, F> as Connector>⟧ wishes.entry.strictness
-        words.now tries.count (W.text out.old) (W.text out.new)) }
+        words.now tries.count (W.text out.old) (W.text out.new)
+        (HasStored (Stored (D.stored extras.old.files) (D.stored extras.new.files))
+        folder.now words.now wishes.entry.json)) }
     ensures counted { CountsWrites result (W.failed out.old) (W.failed out.new) }
-    ensures reasons { (whys.new ≡ whys.old) ⊎ (wishes.entry.tells_why ≡ true) }
+    ensures reasons { (extras.new.whys ≡ extras.old.whys) ⊎ (wishes.entry.tells_why ≡ true) }
 {
     if let Some(path) = wishes.json {
         clear_report(host.files, host.alloc, path, committee, words)?;
@@ -106,19 +118,20 @@ where
     let progress = Progress::new(host.alloc, host.rt, host.console, sources.len())?;
     let sources = open_sources(host, &sources, tries, &progress)?;
     audit_opened(
-        host, &committee, &progress, sources, words, folder, wishes, keeper, out, whys,
+        host, &committee, &progress, sources, words, folder, wishes, keeper, out, extras,
     )
 }
 
 // The same of sources that were opened.
 fn audit_opened<
     'a,
-    F: Files<File = File>,
-    T: Threads + Wait + Sync,
+    F: Files<File = File> + Sync,
+    T: Threads + Wait + Clock + Sync,
     C: Connector + Send,
     V: Verifier + Sync,
     W: Sink,
     Y: Sink,
+    D: StoreFiles,
 >(
     host: &Host<'a, F, T>,
     committee: &CommitteeView,
@@ -129,200 +142,210 @@ fn audit_opened<
     wishes: AuditWishes<'a>,
     keeper: Keeper<'a, F>,
     out: &mut W,
-    whys: &mut Y,
+    extras: &mut Extras<Y, D>,
 ) -> Result<AuditEnd, Fault<'a>>
     requires tries { All (MayBeTried C.allowed) sources.items }
     ensures ended { IfOk result (EndsAs C.Connector wishes.entry.strictness committee.now sources.items
-        (W.text out.old) (W.text out.new)) }
+        (W.text out.old) (W.text out.new) (HasStored (Stored (D.stored extras.old.files)
+        (D.stored extras.new.files)) folder.now words.now wishes.entry.json)) }
     ensures counted { CountsWrites result (W.failed out.old) (W.failed out.new) }
-    ensures reasons { (whys.new ≡ whys.old) ⊎ (wishes.entry.tells_why ≡ true) }
-{
-    if is_plain(wishes) {
-        return audit_plain(host, committee, verifier, sources, folder, out);
-    }
-    audit_judged(
-        host, committee, verifier, sources, words, folder, wishes, keeper, out, whys,
-    )
-}
-
-// An audit that judges each source.
-fn audit_judged<
-    'a,
-    F: Files<File = File>,
-    T: Threads + Wait + Sync,
-    C: Connector + Send,
-    V: Verifier + Sync,
-    W: Sink,
-    Y: Sink,
->(
-    host: &Host<'a, F, T>,
-    committee: &CommitteeView,
-    verifier: &V,
-    sources: Vec<Source<C>>,
-    words: &[&'a str],
-    folder: &'a str,
-    wishes: AuditWishes<'a>,
-    keeper: Keeper<'a, F>,
-    out: &mut W,
-    whys: &mut Y,
-) -> Result<AuditEnd, Fault<'a>>
-    requires tries { All (MayBeTried C.allowed) sources.items }
-    ensures ended { IfOk result (EndsAs C.Connector wishes.entry.strictness committee.now sources.items
-        (W.text out.old) (W.text out.new)) }
-    ensures counted { CountsWrites result (W.failed out.old) (W.failed out.new) }
-    ensures reasons { (whys.new ≡ whys.old) ⊎ (wishes.entry.tells_why ≡ true) }
+    ensures reasons { (extras.new.whys ≡ extras.old.whys) ⊎ (wishes.entry.tells_why ≡ true) }
 {
     let mut keeper = keeper;
-    let audit = print_held(
-        host.rt,
-        host.alloc,
-        committee,
-        verifier,
-        sources,
-        &mut keeper,
-        out,
-    )?;
-    let end = end_of(wishes.strictness, committee, &audit);
+    let found = audit_kept(host, committee, verifier, sources, wishes, &mut keeper, out)?;
+    let end = end_of(wishes.strictness, committee, &found);
     finish(
-        host, committee, words, folder, wishes, &keeper, &audit, end, whys,
+        host, committee, words, folder, wishes, &keeper, &found, end, extras,
     )?;
     Ok(end)
 }
 
-// What comes behind the report: the verdicts, and what else is asked for.
-fn finish<'a, F: Files<File = File>, T, Y: Sink>(
+// What the sources are found to show, once it is printed and their logs are kept.
+fn audit_kept<
+    'a,
+    'c,
+    F: Files<File = File> + Sync,
+    T: Threads + Wait + Sync,
+    C: Connector + Send,
+    V: Verifier + Sync,
+    W: Sink,
+>(
+    host: &Host<'a, F, T>,
+    committee: &CommitteeView<'c>,
+    verifier: &V,
+    sources: Vec<Source<C>>,
+    wishes: AuditWishes<'a>,
+    keeper: &mut Keeper<'a, F>,
+    out: &mut W,
+) -> Result<Findings<'c>, Fault<'a>>
+    requires tries { All (MayBeTried C.allowed) sources.items }
+    ensures printed { IfOk result (λ found. (judging : JudgingValue)
+        × AreJudgedFor wishes.entry.strictness wishes.entry.json judging
+        × IsAuditPrinted C.Connector (AreFound judging found.judged.items found.report)
+        committee.now sources.items (W.text out.old) (W.text out.new) found.report.verdicts) }
+    ensures counted { CountsWrites result (W.failed out.old) (W.failed out.new) }
+{
+    keeper.prepare(&sources)?;
+    let observed = keeper.observe(sources)?;
+    let judging = judging_for(wishes);
+    let judged = print_found(
+        host.rt, host.alloc, committee, verifier, observed, judging, out,
+    );
+    keeper.name_all();
+    judged
+}
+
+// Whether the sources are judged: if someone asks what was found of them.
+fn judging_for(wishes: AuditWishes) -> Judging
+    ensures { AreJudgedFor wishes.entry.strictness wishes.entry.json result }
+{
+    if wishes.strictness == Strictness::Lax && !wishes.tells_why && wishes.json.is_none() {
+        return Judging::No;
+    }
+    Judging::Each
+}
+
+// What comes after the report: the verdicts, and what else is asked for. All verdicts are tried before it is told that one could not
+// be stored.
+fn finish<'a, F: Files<File = File>, T: Clock, Y: Sink, D: StoreFiles>(
     host: &Host<'a, F, T>,
     committee: &CommitteeView,
     words: &[&'a str],
     folder: &'a str,
     wishes: AuditWishes<'a>,
     keeper: &Keeper<'a, F>,
-    audit: &HeldAudit,
+    found: &Findings,
     end: AuditEnd,
-    whys: &mut Y,
+    extras: &mut Extras<Y, D>,
 ) -> Result<(), Fault<'a>>
+    ensures stored { OnOk result ((reports : List StoredFile)
+        × Stored (D.stored extras.old.files) (D.stored extras.new.files)
+        (verdict_files folder.now found.now.report.verdicts ++ reports)
+        × AreReportsOn folder.now words.now wishes.entry.json (status_of end) committee.now
+        found.now.judged.items found.now.report reports) }
     ensures fault { IfErr result (λ fault. fault ≢ ProgramFault.Output) }
-    ensures reasons { (whys.new ≡ whys.old) ⊎ (wishes.entry.tells_why ≡ true) }
+    ensures reasons { (extras.new.whys ≡ extras.old.whys) ⊎ (wishes.entry.tells_why ≡ true) }
 {
-    let (files, alloc) = (host.files, host.alloc);
-    store_verdicts(files, alloc, folder, &audit.report)?;
-    if wishes.tells_why {
-        tell_why(files, alloc, words, folder, audit, whys);
-    }
+    store_verdicts(&mut extras.files, host.alloc, folder, &found.report)?;
+    tell_whys(
+        host,
+        committee,
+        words,
+        folder,
+        wishes,
+        found,
+        end,
+        &mut extras.whys,
+    );
     keeper.ended()?;
-    if let Some(path) = wishes.json {
-        write_report(
-            files,
-            alloc,
-            path,
-            end.status(),
-            committee,
-            words,
-            folder,
-            audit,
-        )?;
-    }
-    Ok(())
+    store_report(
+        host,
+        committee,
+        words,
+        folder,
+        wishes,
+        found,
+        end.status(),
+        &mut extras.files,
+    )
 }
 
-// Whether nothing is asked for but the audit, so that no log has to be held.
-fn is_plain(wishes: AuditWishes) -> bool
-    ensures { result ≡ true → wishes.entry.strictness ≡ Strictness.Lax }
-{
-    wishes.strictness == Strictness::Lax
-        && !wishes.tells_why
-        && wishes.keep.is_none()
-        && wishes.json.is_none()
-}
-
-// An audit with no log held whole.
-#[tactic(auto, unfolding(crate::specs::Strict::AreEnough))]
-fn audit_plain<
-    'a,
-    F: Files<File = File>,
-    T: Threads + Wait + Sync,
-    C: Connector + Send,
-    V: Verifier + Sync,
-    W: Sink,
->(
+// Tells why, if it is asked for.
+fn tell_whys<'a, F: Files<File = File>, T, Y: Sink>(
     host: &Host<'a, F, T>,
     committee: &CommitteeView,
-    verifier: &V,
-    sources: Vec<Source<C>>,
+    words: &[&'a str],
     folder: &'a str,
-    out: &mut W,
-) -> Result<AuditEnd, Fault<'a>>
-    requires tries { All (MayBeTried C.allowed) sources.items }
-    ensures ended { IfOk result (EndsAs C.Connector Strictness.Lax committee.now sources.items
-        (W.text out.old) (W.text out.new)) }
-    ensures counted { CountsWrites result (W.failed out.old) (W.failed out.new) }
+    wishes: AuditWishes<'a>,
+    found: &Findings,
+    end: AuditEnd,
+    whys: &mut Y,
+)
+    ensures { (whys.new ≡ whys.old) ⊎ (wishes.entry.tells_why ≡ true) }
 {
-    let report = print_report(host.rt, host.alloc, committee, verifier, sources, out)?;
-    store_verdicts(host.files, host.alloc, folder, &report)?;
-    if has_culprits(&report) {
-        return Ok(AuditEnd::Culprits);
+    if !wishes.tells_why {
+        return;
     }
-    Ok(AuditEnd::NoCulprit)
+    tell_why(host.files, host.alloc, words, folder, found, whys);
+    if end == AuditEnd::TooFewSound {
+        tell_sound(host.alloc, committee, &found.judged, whys);
+    }
 }
 
 // How an audit ends of which this was found.
-fn end_of(strictness: Strictness, committee: &CommitteeView, audit: &HeldAudit) -> AuditEnd
-    ensures { IsEndOf strictness committee.now audit.now.judged.items audit.now.report.verdicts result }
+fn end_of(strictness: Strictness, committee: &CommitteeView, found: &Findings) -> AuditEnd
+    ensures { IsEndOf strictness committee.now found.now.judged.items found.now.report.verdicts result }
 {
-    if has_culprits(&audit.report) {
+    if has_culprits(&found.report) {
         return AuditEnd::Culprits;
     }
-    if falls_short(strictness, committee, &audit.judged) {
+    if falls_short(strictness, committee, &found.judged) {
         return AuditEnd::TooFewSound;
     }
     AuditEnd::NoCulprit
 }
 
-fn print_held<
+// The same, and those who kept the logs go.
+fn print_found<
     'a,
     'c,
-    T: Threads + Sync,
+    T: Threads + Wait + Sync,
     C: Connector + Send,
+    K: Sink + Send,
     V: Verifier + Sync,
-    S: SeeLogs,
     W: Sink,
 >(
     rt: &T,
     alloc: Global,
     committee: &CommitteeView<'c>,
     verifier: &V,
-    sources: Vec<Source<C>>,
-    seer: &mut S,
+    sources: Vec<Observed<C, KeepOne<'_, K>>>,
+    judging: Judging,
     out: &mut W,
-) -> Result<HeldAudit<'c>, Fault<'a>>
-    requires tries { All (MayBeTried C.allowed) sources.items }
-    ensures printed { IfOk result (λ audit.
-        IsAuditPrinted C.Connector (AreJudgedAs audit.judged.items) committee.now sources.items
-        (W.text out.old) (W.text out.new) audit.report.verdicts) }
+) -> Result<Findings<'c>, Fault<'a>>
+    requires tries { All (MayBeTriedIn C.allowed) sources.items }
+    ensures printed { IfOk result (λ found.
+        IsAuditPrinted C.Connector (AreFound judging found.judged.items found.report) committee.now
+        (sources_of sources.entry.items) (W.text out.old) (W.text out.new) found.report.verdicts) }
     ensures counted { CountsWrites result (W.failed out.old) (W.failed out.new) }
 {
-    match audit_held(rt, alloc, committee, verifier, sources, seer, out) {
-        Ok(audit) => Ok(audit),
-        Err(error) => Err(fault_of_run(error)),
+    match print_judged(rt, alloc, committee, verifier, sources, judging, out) {
+        Ok((found, _)) => Ok(found),
+        Err(fault) => Err(fault),
     }
 }
 
-fn print_report<'a, T: Threads + Wait + Sync, C: Connector + Send, V: Verifier + Sync, W: Sink>(
+// Audits the sources, and prints the report. Who kept their logs comes back, in the order of the sources.
+fn print_judged<
+    'a,
+    'c,
+    'k,
+    T: Threads + Wait + Sync,
+    C: Connector + Send,
+    K: Sink + Send,
+    V: Verifier + Sync,
+    W: Sink,
+>(
     rt: &T,
     alloc: Global,
-    committee: &CommitteeView,
+    committee: &CommitteeView<'c>,
     verifier: &V,
-    sources: Vec<Source<C>>,
+    sources: Vec<Observed<C, KeepOne<'k, K>>>,
+    judging: Judging,
     out: &mut W,
-) -> Result<Report, Fault<'a>>
-    requires tries { All (MayBeTried C.allowed) sources.items }
-    ensures printed { IfOk result (λ report.
-        IsAuditPrinted C.Connector AreAny committee.now sources.items (W.text out.old)
-        (W.text out.new) report.verdicts) }
+) -> Result<(Findings<'c>, Vec<KeepOne<'k, K>>), Fault<'a>>
+    requires tries { All (MayBeTriedIn C.allowed) sources.items }
+    ensures printed { IfOk result (λ done. IsAuditPrinted C.Connector
+        (Both (AreFound judging done.0.judged.items done.0.report)
+        (Of (λ _. AreKept (map (λ s. s.observer.writer) sources.entry.items)
+        (map (λ k. k.writer) done.1.items)))) committee.now
+        (sources_of sources.entry.items) (W.text out.old) (W.text out.new) done.0.report.verdicts) }
     ensures counted { CountsWrites result (W.failed out.old) (W.failed out.new) }
 {
-    match audit_run_of(rt, alloc, committee, verifier, sources, out) {
-        Ok(report) => Ok(report),
+    // For the proof: what was told of a log to its end is what is kept of it.
+    what_is_kept_is_the_log();
+    match audit_judged(rt, alloc, committee, verifier, sources, judging, out) {
+        Ok(done) => Ok(done),
         Err(error) => Err(fault_of_run(error)),
     }
 }
@@ -346,37 +369,65 @@ fn see_folder<'a, F: Files<File = File>>(files: &F, folder: &'a str) -> Result<(
     }
 }
 
-// Writes the verdicts to their files.
-fn store_verdicts<'a, F: Files<File = File>>(
-    files: &F,
+// Stores the verdicts, each in its file of the folder. All are tried, and the first fault is told.
+fn store_verdicts<'a, D: StoreFiles>(
+    files: &mut D,
     alloc: Global,
     folder: &'a str,
     report: &Report,
 ) -> Result<(), Fault<'a>>
-    ensures { IfErr result (λ fault. fault ≢ ProgramFault.Output) }
+    ensures stored { OnOk result (Stored (D.stored files.old) (D.stored files.new)
+        (verdict_files folder.now report.now.verdicts)) }
+    ensures tried { AreTried folder.now report.now.verdicts (D.stored files.old) (D.stored files.new)
+        (fault_in result) }
+    ensures fault { IfErr result (λ fault. fault ≢ ProgramFault.Output) }
 {
-    for verdict in report.verdicts() {
-        store_verdict(files, alloc, folder, verdict)?;
+    let verdicts = report.verdicts();
+    let mut stored = Ok(());
+    for verdict in verdicts {
+        stored = first_fault(stored, store_verdict(files, alloc, folder, verdict));
     }
-    Ok(())
+    stored
 }
 
-// Writes a verdict to its file.
-fn store_verdict<'a, F: Files<File = File>>(
-    files: &F,
+// The first fault of two.
+fn first_fault<'a>(
+    first: Result<(), Fault<'a>>,
+    second: Result<(), Fault<'a>>,
+) -> Result<(), Fault<'a>>
+    ensures { fault_in result ≡ first_of (fault_in first.entry) (fault_in second.entry) }
+{
+    match first {
+        Ok(()) => second,
+        Err(fault) => Err(fault),
+    }
+}
+
+// Stores a verdict.
+fn store_verdict<'a, D: StoreFiles>(
+    files: &mut D,
     alloc: Global,
     folder: &'a str,
     verdict: &Verdict,
 ) -> Result<(), Fault<'a>>
-    ensures { IfErr result (λ fault. fault ≢ ProgramFault.Output) }
+    ensures tried { IsTried folder.now verdict.now (D.stored files.old) (D.stored files.new)
+        (fault_in result) }
+    ensures fault { IfErr result (λ fault. fault ≢ ProgramFault.Output) }
 {
     let replica = verdict.replica();
-    let path = format!(in alloc; "{folder}/verdict-{replica}.hsx")?;
-    match replace_file(files, alloc, &path, verdict.as_bytes()) {
-        Ok(()) => Ok(()),
-        Err(error) => {
-            let fault = Fault::Own(ToolFault::FileIn(folder, FolderFile::Verdict(replica)));
-            Err(Fault::unless_memory(&error, fault))
-        }
-    }
+    let path = verdict_path(alloc, folder, replica)?;
+    let file = match files.store(&path, verdict.as_bytes()) {
+        Ok(()) => return Ok(()),
+        Err(StoreFault::Memory) => return Err(Fault::Memory),
+        Err(StoreFault::Occupied) => FolderFile::NewVerdict(replica),
+        Err(StoreFault::Failed) => FolderFile::Verdict(replica),
+    };
+    Err(Fault::Own(ToolFault::FileIn(folder, file)))
+}
+
+// Where the verdict on a replica is stored.
+fn verdict_path(alloc: Global, folder: &str, replica: u16) -> Result<String, AllocError>
+    ensures { IfOk result (λ path. string_bytes path ≡ verdict_path folder.now replica) }
+{
+    format!(in alloc; "{folder}/verdict-{replica}.hsx")
 }

@@ -40,6 +40,8 @@ pub enum FolderFile {
     Replica(ReplicaFile),
     /// The verdict on this replica.
     Verdict(u16),
+    /// The one that has the bytes of that verdict until they are whole, and is there already.
+    NewVerdict(u16),
     /// What is kept of the log of this replica that came of this source, counted from 0.
     Kept(u16, usize),
 }
@@ -59,6 +61,11 @@ impl FolderFile {
                 name.push(b"/verdict-");
                 name.push(Buffer::new().format(replica).as_bytes());
                 name.push(b".hsx");
+            }
+            FolderFile::NewVerdict(whom) => {
+                name.push(b"/verdict-");
+                name.push(Buffer::new().format(whom).as_bytes());
+                name.push(b".hsx.new");
             }
             FolderFile::Kept(whose, source) => {
                 name.push(b"/");

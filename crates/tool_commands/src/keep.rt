@@ -1,47 +1,49 @@
-//! `--keep KEPT`: a file for each log that an audit read.
+//! `--keep KEPT`: a file for each log that an audit reads.
 
-ghost use Rattle.std.specs.Prelude.{◌≡◌, ◌≢◌, IfErr};
-ghost use Rattle.std.specs.List.{All};
-ghost use Rattle.kept_logs.specs.Kept.{HasPayloads};
+ghost use Rattle.std.specs.Prelude.{◌≡◌, ◌≢◌, IfErr, IfOk, None};
+ghost use Rattle.parallel_verify.specs.Readings.{sources_of};
+ghost use Rattle.tool_commands.specs.Keeping.{IsKeptFrom, none_kept};
 
 use crate::fault::{Fault, FolderFile, ToolFault};
-use held_audit::SeeLogs;
-use held_logs::HeldLog;
-use kept_logs::write_kept;
+use kept_logs::LogWriter;
+use log_format::Status;
+use log_transfer::Connector;
+use parallel_verify::{Observed, Observer, Source};
 use program_parts::ProgramFault;
 use safe_files::{NewName, sync_folder_of};
 use std::alloc::{AllocError, Global};
 use std::fs::{File, Files};
-use std::{fs, io};
-use streams::StdSink;
+use std::sync::atomic::{AtomicBool, Ordering};
+use std::{fs, mem};
+use streams::{Sink, StdSink};
 
-// Why a log is not kept.
-#[derive(Clone, Copy, Debug)]
-enum KeepFault {
-    // Memory was refused.
-    Memory,
-    // This file could not be made, written, synced or named.
-    File(FolderFile),
+/// Writes the log of one source to its file, which tells nothing of what it is given.
+pub(crate) type KeepFile<'k> = KeepOne<'k, StdSink<&'k File>>;
+
+// A file for the log of a source, the name that it takes once the source has ended, and whether all of it was written then.
+#[derive(Drop)]
+struct KeptFile<'a, F> {
+    replica: u16,
+    // None where it could not be made.
+    file: Option<File>,
+    name: Option<NewName<'a, F>>,
+    is_written: AtomicBool,
 }
 
-impl From<AllocError> for KeepFault {
-    fn from(_refused: AllocError) -> KeepFault {
-        KeepFault::Memory
-    }
-}
-
-/// Keeps the logs of an audit in a folder that it makes, where it is to.
+/// Keeps the logs of an audit in a folder that it makes, if it is to.
 #[derive(Drop)]
 pub(crate) struct Keeper<'a, F> {
     files: &'a F,
     alloc: Global,
     folder: Option<&'a str>,
-    // Why the first log that is not kept is not.
-    fault: Option<KeepFault>,
+    // Of each source, if the logs are kept.
+    kept: Vec<KeptFile<'a, F>>,
+    // The first log that is not kept.
+    fault: Option<FolderFile>,
 }
 
 impl<'a, F: Files<File = File>> Keeper<'a, F> {
-    /// Makes the folder, where there is to be one. It must be new.
+    /// Makes the folder, if there is to be one. It must be new.
     pub fn begin(
         files: &'a F,
         alloc: Global,
@@ -56,22 +58,107 @@ impl<'a, F: Files<File = File>> Keeper<'a, F> {
             files,
             alloc,
             folder,
+            kept: Vec::new(alloc),
             fault: None,
         })
     }
 
-    /// Whether each log was kept; else why the first that was not is not.
+    /// Makes a file for the log of each source, if they are kept. It is `R-I.hsl.new` until all is read, so that a kill leaves what
+    /// came.
+    pub fn prepare<C: Connector>(&mut self, sources: &[Source<C>]) -> Result<(), AllocError> {
+        let Some(folder) = self.folder else {
+            return Ok(());
+        };
+        for source in sources {
+            let replica = source.replica;
+            let number = self.kept.len();
+            let path = format!(in self.alloc; "{folder}/{replica}-{number}.hsl")?;
+            let (name, file) = match NewName::begin(self.files, self.alloc, &path) {
+                Ok((name, file)) => (Some(name), Some(file)),
+                Err(_) => (None, None),
+            };
+            self.kept.push(KeptFile {
+                replica,
+                file,
+                name,
+                is_written: AtomicBool::new(false),
+            })?;
+        }
+        Ok(())
+    }
+
+    /// The sources, each shown to who writes its file, if there is one.
+    pub fn observe<C: Connector>(
+        &self,
+        sources: Vec<Source<C>>,
+    ) -> Result<Vec<Observed<C, KeepFile<'_>>>, AllocError>
+        ensures { IfOk result (λ observed. sources_of observed.items ≡ sources.items) }
+    {
+        let mut observed = Vec::with_capacity(self.alloc, sources.len())?;
+        for source in sources {
+            let observer = self.observer(observed.len());
+            observed.push(Observed { source, observer })?;
+        }
+        Ok(observed)
+    }
+
+    // Who writes the file of the source of this number.
+    fn observer(&self, source: usize) -> KeepFile<'_> {
+        let Some(kept) = self.kept.get(source) else {
+            return KeepOne::nobody();
+        };
+        let Some(file) = &kept.file else {
+            return KeepOne::nobody();
+        };
+        match LogWriter::begin(StdSink::new(file)) {
+            Ok(writer) => KeepOne {
+                writer: Some(writer),
+                ending: Some(Ending {
+                    file,
+                    is_written: &kept.is_written,
+                }),
+            },
+            Err(_) => KeepOne::nobody(),
+        }
+    }
+
+    /// Gives each file that was written to its end its name; of another no part stays.
+    pub fn name_all(&mut self) {
+        let kept = mem::replace(&mut self.kept, Vec::new(self.alloc));
+        for (source, one) in kept.into_iter().enumerate() {
+            let KeptFile {
+                replica,
+                file: _,
+                name,
+                is_written,
+            } = one;
+            if !take_name(name, is_written.into_inner()) && self.fault.is_none() {
+                self.fault = Some(FolderFile::Kept(replica, source));
+            }
+        }
+    }
+
+    /// Whether each log was kept; else which is the first that was not.
     pub fn ended(&self) -> Result<(), Fault<'a>>
         ensures { IfErr result (λ fault. fault ≢ ProgramFault.Output) }
     {
         match (self.folder, self.fault) {
-            (Some(folder), Some(KeepFault::File(file))) => {
-                Err(Fault::Own(ToolFault::FileIn(folder, file)))
-            }
-            (_, Some(KeepFault::Memory)) => Err(Fault::Memory),
+            (Some(folder), Some(file)) => Err(Fault::Own(ToolFault::FileIn(folder, file))),
             _ => Ok(()),
         }
     }
+}
+
+// Gives a file its name, if all of it was written. Answers whether it has it.
+fn take_name<F: Files<File = File>>(name: Option<NewName<F>>, is_written: bool) -> bool {
+    let Some(name) = name else {
+        return false;
+    };
+    if is_written {
+        return name.take_new().is_ok();
+    }
+    name.give_up();
+    false
 }
 
 fn make_folder<'a, F: Files<File = File>>(files: &F, path: &'a str) -> Result<(), Fault<'a>>
@@ -86,51 +173,56 @@ fn make_folder<'a, F: Files<File = File>>(files: &F, path: &'a str) -> Result<()
     }
 }
 
-impl<F: Files<File = File>> SeeLogs for Keeper<'_, F> {
-    fn see(&mut self, logs: &[HeldLog]) {
-        let Some(folder) = self.folder else {
-            return;
-        };
-        for i in 0..logs.len() {
-            let kept = keep_log(self.files, self.alloc, folder, i, &logs[i]);
-            if let (Err(fault), None) = (kept, self.fault) {
-                self.fault = Some(fault);
-            }
+// Where it is told that a file was written to its end.
+#[derive(Drop)]
+struct Ending<'k> {
+    file: &'k File,
+    is_written: &'k AtomicBool,
+}
+
+/// Writes the log of one source while its frames come, if it is to.
+#[derive(Drop)]
+pub(crate) struct KeepOne<'k, K: Sink> {
+    writer: Option<LogWriter<K>>,
+    ending: Option<Ending<'k>>,
+}
+
+impl<K: Sink> KeepOne<'_, K> {
+    // Whoever keeps nothing.
+    fn nobody() -> Self
+        ensures { result.writer ≡ None }
+    {
+        KeepOne {
+            writer: None,
+            ending: None,
         }
     }
-}
 
-// Writes what is kept of the log of this source to its file.
-fn keep_log<F: Files<File = File>>(
-    files: &F,
-    alloc: Global,
-    folder: &str,
-    source: usize,
-    log: &HeldLog,
-) -> Result<(), KeepFault>
-    requires { HasPayloads log.now }
-{
-    let replica = log.replica();
-    let fault = KeepFault::File(FolderFile::Kept(replica, source));
-    let path = format!(in alloc; "{folder}/{replica}-{source}.hsl")?;
-    let Ok((name, file)) = NewName::begin(files, alloc, &path) else {
-        return Err(fault);
-    };
-    if fill(&file, log).is_err() {
-        name.give_up();
-        return Err(fault);
-    }
-    match name.take_new() {
-        Ok(()) => Ok(()),
-        Err(_) => Err(fault),
+    // Tells of a file that all of it was written.
+    fn note_end(&self) {
+        let (Some(writer), Some(ending)) = (&self.writer, &self.ending) else {
+            return;
+        };
+        let is_written = !writer.is_broken() && ending.file.sync_all().is_ok();
+        ending.is_written.store(is_written, Ordering::SeqCst);
     }
 }
 
-fn fill(file: &File, log: &HeldLog) -> io::Result<()>
-    requires { HasPayloads log.now }
-{
-    match write_kept(log, &mut StdSink::new(file)) {
-        Ok(()) => file.sync_all(),
-        Err(_) => Err(io::Error::from(io::ErrorKind::Other)),
+impl<K: Sink> Observer for KeepOne<'_, K> {
+    ghost told = { λ s t. IsKeptFrom s.writer t.writer };
+
+    fn frame(&mut self, payload: &[u8]) {
+        if let Some(writer) = &mut self.writer {
+            writer.frame(payload);
+        }
     }
+
+    fn end(&mut self, status: Status) {
+        if let Some(writer) = &mut self.writer {
+            writer.end(status);
+        }
+        self.note_end();
+    }
+
+    ghost stays = { λ s. none_kept s.writer };
 }

@@ -91,7 +91,7 @@ fn make_new<'a, 'f, F: Files<File = File>>(
     rt: &'f F,
     alloc: Global,
     path: &'a str,
-) -> Result<(NewName<'f, 'a, F>, FileDisk), Fault<'a>>
+) -> Result<(NewName<'f, F>, FileDisk), Fault<'a>>
     ensures { IfErr result (λ fault. fault ≢ ProgramFault.Output) }
 {
     see_new(rt, path)?;

@@ -18,6 +18,7 @@ use std::thread::Threads;
 use std::time::Clock;
 use streams::{Feed, Sink};
 use tool_words::{Service, Workers};
+use vote_log::LogError;
 
 /// Runs a replica of the committee of the file on the folder at `path`, as `run_replica` does. Then, where a service is
 /// asked for and no disk failed, hands out the log as `serve_requests` does, still under the folder's lock. Answers how
@@ -101,6 +102,7 @@ fn in_folder<'a>(folder: &'a str, fault: ReplicaFault) -> Fault<'a>
         → result ≡ ProgramFault.Own (ToolFault.FileIn folder.entry (FolderFile.Replica file)) }
     ensures store { (number : ℕ) → fault ≡ ReplicaFault.Store number
         → result ≡ ProgramFault.Own (ToolFault.Store number) }
+    ensures device { fault ≡ ReplicaFault.Device → result ≡ ProgramFault.Own (ToolFault.Store 2) }
     ensures receipts { fault ≡ ReplicaFault.Receipts
         → result ≡ ProgramFault.Own ToolFault.Receipts }
     ensures output { fault ≡ ReplicaFault.Output ↔ result ≡ ProgramFault.Output }
@@ -111,6 +113,7 @@ fn in_folder<'a>(folder: &'a str, fault: ReplicaFault) -> Fault<'a>
             Fault::Own(ToolFault::FileIn(folder, FolderFile::Replica(file)))
         }
         ReplicaFault::Store(number) => Fault::Own(ToolFault::Store(number)),
+        ReplicaFault::Device => Fault::Own(ToolFault::Store(LogError::Device.number())),
         ReplicaFault::Receipts => Fault::Own(ToolFault::Receipts),
         ReplicaFault::Output => Fault::Output,
     }

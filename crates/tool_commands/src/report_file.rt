@@ -1,21 +1,29 @@
 //! `--json FILE`: what an audit found, in a file for programs.
 
-ghost use Rattle.std.specs.Prelude.{◌≡◌, ◌≢◌, IfErr, IfOk};
-ghost use Rattle.std.specs.List.{AllZip};
-ghost use Rattle.tool_commands.specs.Told.{IsToldOf};
+ghost use Rattle.std.specs.Prelude.{◌≡◌, ◌≢◌, ◌++◌, ◌∷◌, [], List, IfErr, IfOk, OnErr, OnOk, string_bytes};
+ghost use Rattle.blocks.specs.Genesis.{chain_id_of};
+ghost use Rattle.blocks.specs.Weights.{total_of};
+ghost use Rattle.tool_commands.specs.AuditFiles.{AreReportsOn, IsReportOn};
+ghost use Rattle.tool_commands.specs.StoredFiles.{Stored, StoredFile, file_at};
+ghost use Rattle.tool_commands.specs.Told.{AreTold, IsToldOf, word_at};
 
 use crate::fault::Fault;
+use crate::host::Host;
+use crate::stored::{StoreFault, StoreFiles};
 use crate::why::reason_of;
 use blocks::CommitteeView;
-use held_audit::HeldAudit;
-use held_logs::{HeldLog, Judgement};
+use parallel_verify::{Ending, Judgement};
+use program_help::VERSION;
 use program_parts::{InputFault, Origin, ProgramFault, SourceWord, read_file};
-use report_json::{SourceTold, report_of};
-use safe_files::{is_nothing_at, replace_file, sync_folder_of};
+use report_json::{AuditTold, SourceTold, report_of};
+use safe_files::{is_nothing_at, sync_folder_of};
+use source_audit::Findings;
 use std::alloc::{AllocError, Global};
 use std::fs::{File, Files, Metadata};
 use std::os::unix::fs::MetadataExt;
+use std::time::{Clock, SystemTime, UNIX_EPOCH};
 use std::{fs, io};
+use tool_words::AuditWishes;
 
 /// Removes an older report at `path`, so that none passes for one of this audit. Refused where something else is there, and stays:
 /// what does not begin with `{`, a link, the committee's file, or a source's; where `PATH.new` is there; and where the name
@@ -114,22 +122,32 @@ fn is_at<F: Files<File = File>>(files: &F, found: &Metadata, path: &str) -> bool
     }
 }
 
+// The word of this number.
+fn word_at<'w>(words: &[&'w str], number: usize) -> &'w str
+    ensures { result.now ≡ word_at words.now number }
+{
+    match words.get(number) {
+        Some(word) => word,
+        None => "",
+    }
+}
+
 // What is told of the source of this number, of which this was found.
 fn tell_source<'w, F: Files<File = File>>(
     files: &F,
     alloc: Global,
     words: &[&'w str],
-    logs: &[HeldLog],
+    endings: &[Ending],
     number: usize,
     judged: &Judgement,
 ) -> SourceTold<'w>
-    ensures { IsToldOf judged.now result }
+    ensures { IsToldOf (word_at words.now number) judged.now result }
 {
-    let word = words.get(number).copied().unwrap_or("");
+    let word = word_at(words, number);
     SourceTold {
         word,
         judged: *judged,
-        reason: reason_of(files, alloc, word, logs.get(number), judged),
+        reason: reason_of(files, alloc, word, endings.get(number), judged),
     }
 }
 
@@ -138,36 +156,105 @@ fn tell_sources<'w, F: Files<File = File>>(
     files: &F,
     alloc: Global,
     words: &[&'w str],
-    logs: &[HeldLog],
+    endings: &[Ending],
     judged: &[Judgement],
 ) -> Result<Vec<SourceTold<'w>>, AllocError>
-    ensures { IfOk result (λ told. AllZip IsToldOf judged.now told.items) }
+    ensures { IfOk result (λ told. AreTold words.now judged.now told.items) }
 {
     let mut told = Vec::with_capacity(alloc, judged.len())?;
     for (i, one) in judged.iter().enumerate() {
-        told.push(tell_source(files, alloc, words, logs, i, one))?;
+        told.push(tell_source(files, alloc, words, endings, i, one))?;
     }
     Ok(told)
 }
 
-/// Writes the report of an audit that ended with this status to the file at `path`, which is then there whole, or not at all.
-pub(crate) fn write_report<'a, F: Files<File = File>>(
-    files: &F,
-    alloc: Global,
-    path: &'a str,
-    status: u8,
+// Seconds since 1970; 0 where the clock does not say it.
+fn seconds_now<T: Clock>(clock: &T) -> u64 {
+    match SystemTime::now(clock) {
+        Ok(now) => match now.duration_since(UNIX_EPOCH) {
+            Ok(since) => since.as_secs(),
+            Err(_) => 0,
+        },
+        Err(_) => 0,
+    }
+}
+
+// What the report of an audit that ends with this status tells of the audit.
+fn told_of<'a, F: Files<File = File>, T: Clock>(
+    host: &Host<'a, F, T>,
     committee: &CommitteeView,
-    words: &[&str],
-    folder: &str,
-    audit: &HeldAudit,
-) -> Result<(), Fault<'a>>
-    ensures { IfErr result (λ fault. fault ≢ ProgramFault.Output) }
+    folder: &'a str,
+    wishes: AuditWishes<'a>,
+    status: u8,
+) -> AuditTold<'a>
+    ensures status { result.status ≡ status }
+    ensures chain { result.chain ≡ chain_id_of committee.now }
+    ensures total { result.total ≡ total_of committee.now }
+    ensures folder { result.folder.now ≡ folder.now }
 {
-    let told = tell_sources(files, alloc, words, &audit.logs, &audit.judged)?;
-    let total = committee.total();
-    let text = report_of(alloc, status, &told, &audit.report, folder, total)?;
-    match replace_file(files, alloc, path, text.as_bytes()) {
+    AuditTold {
+        status,
+        chain: committee.chain(),
+        total: committee.total(),
+        version: VERSION,
+        time: wishes.time.unwrap_or(seconds_now(host.rt)),
+        folder,
+    }
+}
+
+// The text of the report of an audit that ends with this status.
+fn report_text<'a, F: Files<File = File>, T: Clock>(
+    host: &Host<'a, F, T>,
+    committee: &CommitteeView,
+    words: &[&'a str],
+    folder: &'a str,
+    wishes: AuditWishes<'a>,
+    found: &Findings,
+    status: u8,
+) -> Result<String, AllocError>
+    ensures { IfOk result (λ text. IsReportOn folder.now words.now status committee.now
+        found.now.judged.items found.now.report (string_bytes text)) }
+{
+    let told = told_of(host, committee, folder, wishes, status);
+    let sources = tell_sources(host.files, host.alloc, words, &found.endings, &found.judged)?;
+    report_of(host.alloc, &told, &sources, &found.report)
+}
+
+/// Stores the report for programs, if one is asked for: it is then there whole, or not at all.
+pub(crate) fn store_report<'a, F: Files<File = File>, T: Clock, D: StoreFiles>(
+    host: &Host<'a, F, T>,
+    committee: &CommitteeView,
+    words: &[&'a str],
+    folder: &'a str,
+    wishes: AuditWishes<'a>,
+    found: &Findings,
+    status: u8,
+    files: &mut D,
+) -> Result<(), Fault<'a>>
+    ensures stored { OnOk result ((reports : List StoredFile)
+        × Stored (D.stored files.old) (D.stored files.new) reports
+        × AreReportsOn folder.now words.now wishes.entry.json status committee.now
+        found.now.judged.items found.now.report reports) }
+    ensures unstored { OnErr result (Stored (D.stored files.old) (D.stored files.new) []) }
+    ensures fault { IfErr result (λ fault. fault ≢ ProgramFault.Output) }
+{
+    let Some(path) = wishes.json else {
+        return Ok(());
+    };
+    let text = report_text(host, committee, words, folder, wishes, found, status)?;
+    store_at(files, path, text.as_bytes())
+}
+
+// Stores these bytes at the path that a word gave.
+fn store_at<'a, D: StoreFiles>(files: &mut D, path: &'a str, bytes: &[u8]) -> Result<(), Fault<'a>>
+    ensures ok { OnOk result (Stored (D.stored files.old) (D.stored files.new)
+        (file_at path.now bytes.now ∷ [])) }
+    ensures err { OnErr result (Stored (D.stored files.old) (D.stored files.new) []) }
+    ensures fault { IfErr result (λ fault. fault ≢ ProgramFault.Output) }
+{
+    match files.store(path, bytes) {
         Ok(()) => Ok(()),
-        Err(error) => Err(Fault::unless_memory(&error, Fault::File(path))),
+        Err(StoreFault::Memory) => Err(Fault::Memory),
+        Err(StoreFault::Occupied | StoreFault::Failed) => Err(Fault::File(path)),
     }
 }

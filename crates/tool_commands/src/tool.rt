@@ -5,6 +5,7 @@ ghost use Rattle.program_parts.specs.Writes.{CountsWrites};
 ghost use Rattle.tool_words.specs.Commands.{IsAskedBy};
 ghost use Rattle.tool_words.specs.declared.command.Command.{Command as CommandValue};
 ghost use Rattle.tool_commands.specs.Commands.{AreCulpritsFound, AreTooFewSound, IsDone, IsStopped, TellsReasons, lend};
+ghost use Rattle.tool_commands.specs.StoredFiles.{Stored};
 ghost use Rattle.tool_commands.specs.Writes.{TellsFault};
 
 use crate::audit::{AuditEnd, audit_sources};
@@ -15,6 +16,7 @@ use crate::host::Host;
 use crate::keygen::keygen;
 use crate::migrate::migrate_log;
 use crate::replica::replica;
+use crate::stored::{Extras, StoreFiles};
 use key_files::DrawSeed;
 use log_transfer::{Connector, SourceConnector};
 use program_parts::FAULT;
@@ -47,9 +49,10 @@ hs_tool migrate OLD NEW COMMITTEE
 ";
 
 /// Does what the words ask for, and answers the exit status: `DONE`, `CULPRITS`, `TOO_FEW_SOUND` or `FAULT`. Facts go to `out`, what
-/// an audit with `--why` tells to `whys`, and with `FAULT` a fault's line to `faults`, which is else left alone: `fault output` exactly where a write of facts failed. Where
-/// a disk failed under a replica, the facts say it, and there is no fault's line with `FAULT`. The words stand without the
-/// program's name; only `replica` and `keygen --stdin` read `lines`, and only `keygen --random` draws of `seeds`.
+/// an audit with `--why` tells and the files that it stores to `extras`, and with `FAULT` a fault's line to `faults`, which is else left
+/// alone: `fault output` exactly if a write of facts failed. If a disk failed under a replica, the facts say it, and there is no fault's
+/// line with `FAULT`. The words stand without the program's name; only `replica` and `keygen --stdin` read `lines`, and only
+/// `keygen --random` draws of `seeds`.
 pub fn run_tool<
     'a,
     F: Files<File = File> + Sync,
@@ -59,6 +62,7 @@ pub fn run_tool<
     W: Sink,
     E: Sink,
     Y: Sink,
+    D: StoreFiles,
 >(
     host: &Host<'a, F, T>,
     seeds: &S,
@@ -66,31 +70,35 @@ pub fn run_tool<
     lines: &mut R,
     out: &mut W,
     faults: &mut E,
-    whys: &mut Y,
+    extras: &mut Extras<Y, D>,
 ) -> u8
 where
     F::Dir: Send,
     ensures status { (result ≡ 0) ⊎ (result ≡ 2) ⊎ (result ≡ 3) ⊎ (result ≡ 4) }
     ensures done { result ≡ 0 → (command : CommandValue) × IsAskedBy words.now command
         × IsDone (lend ⟦<FileDisk as Disk>⟧ ⟦<SourceConnector<'a, T, F> as Connector>⟧
-        (S.draws seeds.now) R.Feed lines.old lines.new) command (W.text out.old) (W.text out.new) }
+        (S.draws seeds.now) R.Feed lines.old lines.new
+        (Stored (D.stored extras.old.files) (D.stored extras.new.files))) command (W.text out.old) (W.text out.new) }
     ensures culprits { result ≡ 3 → (command : CommandValue) × IsAskedBy words.now command
         × AreCulpritsFound (lend ⟦<FileDisk as Disk>⟧ ⟦<SourceConnector<'a, T, F> as Connector>⟧
-        (S.draws seeds.now) R.Feed lines.old lines.new) command (W.text out.old) (W.text out.new) }
+        (S.draws seeds.now) R.Feed lines.old lines.new
+        (Stored (D.stored extras.old.files) (D.stored extras.new.files))) command (W.text out.old) (W.text out.new) }
     ensures too_few { result ≡ 4 → (command : CommandValue) × IsAskedBy words.now command
         × AreTooFewSound (lend ⟦<FileDisk as Disk>⟧ ⟦<SourceConnector<'a, T, F> as Connector>⟧
-        (S.draws seeds.now) R.Feed lines.old lines.new) command (W.text out.old) (W.text out.new) }
+        (S.draws seeds.now) R.Feed lines.old lines.new
+        (Stored (D.stored extras.old.files) (D.stored extras.new.files))) command (W.text out.old) (W.text out.new) }
     ensures quiet { result ≢ 2 → (faults.new ≡ faults.old) × (W.failed out.new ≡ W.failed out.old) }
-    ensures reasons { (whys.new ≡ whys.old) ⊎ ((command : CommandValue)
+    ensures reasons { (extras.new.whys ≡ extras.old.whys) ⊎ ((command : CommandValue)
         × IsAskedBy words.now command × TellsReasons command) }
     ensures told { result ≡ 2 → ((faults.new ≡ faults.old) × (W.failed out.new ≡ W.failed out.old)
         × (command : CommandValue) × IsAskedBy words.now command
         × IsStopped (lend ⟦<FileDisk as Disk>⟧ ⟦<SourceConnector<'a, T, F> as Connector>⟧
-        (S.draws seeds.now) R.Feed lines.old lines.new) command (W.text out.old) (W.text out.new))
+        (S.draws seeds.now) R.Feed lines.old lines.new
+        (Stored (D.stored extras.old.files) (D.stored extras.new.files))) command (W.text out.old) (W.text out.new))
         ⊎ TellsFault (E.text faults.old) (E.text faults.new) (E.failed faults.old)
         (E.failed faults.new) (W.failed out.old) (W.failed out.new) }
 {
-    match run(host, seeds, words, lines, out, whys) {
+    match run(host, seeds, words, lines, out, extras) {
         Ok(ended) => ended.status(),
         Err(fault) => {
             fault.tell(faults);
@@ -156,38 +164,43 @@ fn run<
     R: Feed,
     W: Sink,
     Y: Sink,
+    D: StoreFiles,
 >(
     host: &Host<'a, F, T>,
     seeds: &S,
     words: &'a [String],
     lines: &mut R,
     out: &mut W,
-    whys: &mut Y,
+    extras: &mut Extras<Y, D>,
 ) -> Result<Ended, Fault<'a>>
 where
     F::Dir: Send,
     ensures done { IfOk result (λ ended. ended ≡ Ended.Done → (command : CommandValue)
         × IsAskedBy words.now command
         × IsDone (lend ⟦<FileDisk as Disk>⟧ ⟦<SourceConnector<'a, T, F> as Connector>⟧
-        (S.draws seeds.now) R.Feed lines.old lines.new) command (W.text out.old) (W.text out.new)) }
+        (S.draws seeds.now) R.Feed lines.old lines.new
+        (Stored (D.stored extras.old.files) (D.stored extras.new.files))) command (W.text out.old) (W.text out.new)) }
     ensures culprits { IfOk result (λ ended. ended ≡ Ended.Culprits → (command : CommandValue)
         × IsAskedBy words.now command
         × AreCulpritsFound (lend ⟦<FileDisk as Disk>⟧ ⟦<SourceConnector<'a, T, F> as Connector>⟧
-        (S.draws seeds.now) R.Feed lines.old lines.new) command (W.text out.old) (W.text out.new)) }
+        (S.draws seeds.now) R.Feed lines.old lines.new
+        (Stored (D.stored extras.old.files) (D.stored extras.new.files))) command (W.text out.old) (W.text out.new)) }
     ensures too_few { IfOk result (λ ended. ended ≡ Ended.TooFewSound → (command : CommandValue)
         × IsAskedBy words.now command
         × AreTooFewSound (lend ⟦<FileDisk as Disk>⟧ ⟦<SourceConnector<'a, T, F> as Connector>⟧
-        (S.draws seeds.now) R.Feed lines.old lines.new) command (W.text out.old) (W.text out.new)) }
+        (S.draws seeds.now) R.Feed lines.old lines.new
+        (Stored (D.stored extras.old.files) (D.stored extras.new.files))) command (W.text out.old) (W.text out.new)) }
     ensures stopped { IfOk result (λ ended. ended ≡ Ended.Stopped → (command : CommandValue)
         × IsAskedBy words.now command
         × IsStopped (lend ⟦<FileDisk as Disk>⟧ ⟦<SourceConnector<'a, T, F> as Connector>⟧
-        (S.draws seeds.now) R.Feed lines.old lines.new) command (W.text out.old) (W.text out.new)) }
-    ensures reasons { (whys.new ≡ whys.old) ⊎ ((command : CommandValue)
+        (S.draws seeds.now) R.Feed lines.old lines.new
+        (Stored (D.stored extras.old.files) (D.stored extras.new.files))) command (W.text out.old) (W.text out.new)) }
+    ensures reasons { (extras.new.whys ≡ extras.old.whys) ⊎ ((command : CommandValue)
         × IsAskedBy words.now command × TellsReasons command) }
     ensures counted { CountsWrites result (W.failed out.old) (W.failed out.new) }
 {
     match read_words(host.alloc, words) {
-        Ok(command) => done(host, seeds, &command, lines, out, whys),
+        Ok(command) => done(host, seeds, &command, lines, out, extras),
         Err(WordsFault::Usage) => Err(Fault::Usage),
         Err(WordsFault::Memory) => Err(Fault::Memory),
     }
@@ -201,33 +214,38 @@ fn done<
     R: Feed,
     W: Sink,
     Y: Sink,
+    D: StoreFiles,
 >(
     host: &Host<'a, F, T>,
     seeds: &S,
     command: &Command<'a>,
     lines: &mut R,
     out: &mut W,
-    whys: &mut Y,
+    extras: &mut Extras<Y, D>,
 ) -> Result<Ended, Fault<'a>>
 where
     F::Dir: Send,
     ensures done { IfOk result (λ ended. ended ≡ Ended.Done
         → IsDone (lend ⟦<FileDisk as Disk>⟧ ⟦<SourceConnector<'a, T, F> as Connector>⟧
-        (S.draws seeds.now) R.Feed lines.old lines.new)
+        (S.draws seeds.now) R.Feed lines.old lines.new
+        (Stored (D.stored extras.old.files) (D.stored extras.new.files)))
         command.now (W.text out.old) (W.text out.new)) }
     ensures culprits { IfOk result (λ ended. ended ≡ Ended.Culprits
         → AreCulpritsFound (lend ⟦<FileDisk as Disk>⟧ ⟦<SourceConnector<'a, T, F> as Connector>⟧
-        (S.draws seeds.now) R.Feed lines.old lines.new)
+        (S.draws seeds.now) R.Feed lines.old lines.new
+        (Stored (D.stored extras.old.files) (D.stored extras.new.files)))
         command.now (W.text out.old) (W.text out.new)) }
     ensures too_few { IfOk result (λ ended. ended ≡ Ended.TooFewSound
         → AreTooFewSound (lend ⟦<FileDisk as Disk>⟧ ⟦<SourceConnector<'a, T, F> as Connector>⟧
-        (S.draws seeds.now) R.Feed lines.old lines.new)
+        (S.draws seeds.now) R.Feed lines.old lines.new
+        (Stored (D.stored extras.old.files) (D.stored extras.new.files)))
         command.now (W.text out.old) (W.text out.new)) }
     ensures stopped { IfOk result (λ ended. ended ≡ Ended.Stopped
         → IsStopped (lend ⟦<FileDisk as Disk>⟧ ⟦<SourceConnector<'a, T, F> as Connector>⟧
-        (S.draws seeds.now) R.Feed lines.old lines.new)
+        (S.draws seeds.now) R.Feed lines.old lines.new
+        (Stored (D.stored extras.old.files) (D.stored extras.new.files)))
         command.now (W.text out.old) (W.text out.new)) }
-    ensures reasons { (whys.new ≡ whys.old) ⊎ TellsReasons command.now }
+    ensures reasons { (extras.new.whys ≡ extras.old.whys) ⊎ TellsReasons command.now }
     ensures counted { CountsWrites result (W.failed out.old) (W.failed out.new) }
 {
     let (files, alloc) = (host.files, host.alloc);
@@ -270,7 +288,9 @@ where
             tries,
             wishes,
         } => {
-            let end = audit_sources(host, committee, folder, sources, *tries, *wishes, out, whys)?;
+            let end = audit_sources(
+                host, committee, folder, sources, *tries, *wishes, out, extras,
+            )?;
             Ok(Ended::of_audit(end))
         }
         Command::Migrate {

@@ -1,16 +1,18 @@
-//! What `--why` tells: why sources are not sound, and where the verdicts are.
+//! What `--why` tells: why sources are not sound, what to know of those that are, and where the verdicts are.
 
 ghost use Rattle.source_reasons.specs.Reasons.{IsWhy};
 
 use crate::fault::{Fault, FolderFile};
+use crate::strict::{is_too_light, sound_line};
+use blocks::CommitteeView;
 use culprit_search::Report;
-use held_audit::HeldAudit;
-use held_logs::{HeldLog, Judgement};
 use lmots::PRIVATE_SEED_LEN;
 use log_format::Status;
+use parallel_verify::{Ending, Judgement};
 use printed_lines::write_printed;
 use program_parts::{Origin, SourceWord, read_named};
-use source_reasons::{Reason, Stranger};
+use source_audit::Findings;
+use source_reasons::{Note, Reason, Stranger};
 use std::alloc::Global;
 use std::fs;
 use std::fs::{File, Files};
@@ -22,18 +24,33 @@ const MOST_OF_A_STRANGER: u64 = 49;
 // A longer file is no seed.
 const _: () = prove!(MOST_OF_A_STRANGER == PRIVATE_SEED_LEN as u64 + 1);
 
-/// Tells why the sources of these words are not sound, and where the verdicts are. What can't be told is lost: nothing depends
+/// Tells why the sources of these words are not sound, what to know of those that are, and where the verdicts are. What can't be told is lost: nothing depends
 /// on it.
 pub(crate) fn tell_why<F: Files<File = File>, W: Sink>(
     files: &F,
     alloc: Global,
     words: &[&str],
     folder: &str,
-    audit: &HeldAudit,
+    found: &Findings,
     out: &mut W,
 ) {
-    if tell_reasons(files, alloc, words, audit, out).is_ok() {
-        let _ = tell_verdicts(folder, &audit.report, out);
+    if tell_reasons(files, alloc, words, found, out).is_ok() {
+        let _ = tell_verdicts(folder, &found.report, out);
+    }
+}
+
+/// Tells how much the sound sources weigh, if that is less than a quorum. What can't be told is lost.
+pub(crate) fn tell_sound<W: Sink>(
+    alloc: Global,
+    committee: &CommitteeView,
+    judged: &[Judgement],
+    out: &mut W,
+) {
+    if !is_too_light(committee, judged) {
+        return;
+    }
+    if let Ok(line) = sound_line(alloc, committee, judged) {
+        let _ = write_all(out, &line);
     }
 }
 
@@ -41,15 +58,17 @@ fn tell_reasons<F: Files<File = File>, W: Sink>(
     files: &F,
     alloc: Global,
     words: &[&str],
-    audit: &HeldAudit,
+    found: &Findings,
     out: &mut W,
 ) -> Result<(), streams::Fault> {
     for (i, word) in words.iter().enumerate() {
-        let Some(judged) = audit.judged.get(i) else {
+        let Some(judged) = found.judged.get(i) else {
             return Ok(());
         };
-        if let Some(reason) = reason_of(files, alloc, word, audit.logs.get(i), judged) {
+        if let Some(reason) = reason_of(files, alloc, word, found.endings.get(i), judged) {
             tell_reason(alloc, word, reason, out)?;
+        } else if let Some(note) = Note::of(judged) {
+            tell_line(word, note.text(), out)?;
         }
     }
     Ok(())
@@ -60,7 +79,7 @@ pub(crate) fn reason_of<F: Files<File = File>>(
     files: &F,
     alloc: Global,
     word: &str,
-    log: Option<&HeldLog>,
+    ending: Option<&Ending>,
     judged: &Judgement,
 ) -> Option<Reason>
     ensures { IsWhy judged.now result }
@@ -69,8 +88,8 @@ pub(crate) fn reason_of<F: Files<File = File>>(
         Status::Broken | Status::TooLong => stranger_at(files, alloc, word),
         _ => Stranger::Unknown,
     };
-    let (failure, is_old) = match log {
-        Some(log) => (log.failure(), begins_old(log)),
+    let (failure, is_old) = match ending {
+        Some(ending) => (ending.failure, ending.begins_old),
         None => (None, false),
     };
     Reason::of(judged, failure, stranger, is_old)
@@ -86,6 +105,10 @@ fn tell_reason<W: Sink>(
     let Ok(text) = reason.text(alloc) else {
         return Ok(());
     };
+    tell_line(word, &text, out)
+}
+
+fn tell_line<W: Sink>(word: &str, text: &str, out: &mut W) -> Result<(), streams::Fault> {
     write_printed(out, word.as_bytes())?;
     write_all(out, b" ")?;
     write_all(out, text.as_bytes())?;
@@ -107,14 +130,6 @@ fn tell_verdicts<W: Sink>(
         write_all(out, b"\n")?;
     }
     Ok(())
-}
-
-// Whether the first frame begins as an entry of the old form.
-fn begins_old(log: &HeldLog) -> bool {
-    match log.frames().first() {
-        Some(frame) => matches!(frame.as_bytes().first(), Some(1 | 2)),
-        None => false,
-    }
 }
 
 // What stands at the path of a word that names a file.

@@ -162,6 +162,8 @@ pub struct AuditWishes<'a> {
     pub keep: Option<&'a str>,
     /// The file to which it writes its report for programs.
     pub json: Option<&'a str>,
+    /// The time that its report for programs tells, in seconds since 1970, if it is not to be the clock's.
+    pub time: Option<u64>,
 }
 
 /// How many requests are served: 1 to 1,000.

@@ -94,7 +94,8 @@ fn with_wishes<'a>(alloc: Global, audit: Grammar<'a>) -> Result<Grammar<'a>, All
         .arg(flag(alloc, "strict-all"))?
         .arg(flag(alloc, "why"))?
         .arg(Arg::new(alloc, "KEPT").long("keep"))?
-        .arg(Arg::new(alloc, "REPORT").long("json"))
+        .arg(Arg::new(alloc, "REPORT").long("json"))?
+        .arg(Arg::new(alloc, "N").long("time"))
 }
 
 fn with_migrate<'a>(alloc: Global, grammar: Grammar<'a>) -> Result<Grammar<'a>, AllocError> {

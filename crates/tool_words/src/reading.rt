@@ -1,6 +1,6 @@
 //! From words to what they ask for.
 
-ghost use Rattle.std.specs.Prelude.{◌≡◌, ◌≢◌, ◌≤◌, ◌<◌, ◌^◌, [], ℕ, IfErr, IfOk, IfSome, MatchOption, Ok, decimal, false, true};
+ghost use Rattle.std.specs.Prelude.{◌≡◌, ◌≢◌, ◌≤◌, ◌<◌, ◌^◌, [], ℕ, IfErr, IfOk, IfSome, MatchOption, None, Ok, decimal, false, true};
 ghost use Rattle.program_parts.specs.Words.{SpellsNumber};
 ghost use Rattle.tool_words.specs.Commands.{HasItsCounts, IsAskedBy, IsWeighted};
 
@@ -265,7 +265,22 @@ fn wishes<'a>(given: &ArgMatches<'a>) -> Result<AuditWishes<'a>, WordsFault> {
         tells_why: given.get_flag("why"),
         keep: path(given.get_str("KEPT"))?,
         json: path(given.get_str("REPORT"))?,
+        time: time(given.get_str("N"))?,
     })
+}
+
+// The time that a word says, if it is said: a number below 2^64, in one spelling.
+fn time<'a>(word: Option<&'a str>) -> Result<Option<u64>, WordsFault>
+    ensures { IfOk result (λ time. MatchOption word.entry (time ≡ None)
+        (λ w. IfSome time (λ n. w.now ≡ decimal n))) }
+{
+    let Some(word) = word else {
+        return Ok(None);
+    };
+    match number_in(word.as_bytes()) {
+        Some(time) => Ok(Some(time)),
+        None => Err(WordsFault::Usage),
+    }
 }
 
 // The path that a word says, if it is said. It may not be empty.

@@ -6,5 +6,6 @@ pub mod Stays
 pub mod SomeDesk
 pub mod Votes
 pub mod Exports
+pub mod Firsts
 pub mod Released
 pub mod Later

@@ -11,6 +11,7 @@ ghost use Rattle.vote_desk.specs.Deliveries.{CommitsIn, IsGoodAnswer, IsGoodRepl
 ghost use Rattle.vote_desk.specs.DeskRefusals.{IsStartRefusal, IsStartable, IsStopped};
 ghost use Rattle.vote_desk.specs.Desks.{HoldsId, KeepsDesk, desk_of, left_of, status_of, vote_count};
 ghost use Rattle.vote_desk.specs.Exports.{IsOut, RefusesExport};
+ghost use Rattle.vote_desk.specs.Firsts.{IsMarkedAgain, IsMarkedOnce, RefusesOnce, RepliesOnce};
 ghost use Rattle.vote_desk.specs.Receipts.{AreRisingByNumber, AreReceipts, KeepsReceipts, receipt_ballot, receipts_of};
 ghost use Rattle.vote_desk.specs.Released.{RefusesVoteWith};
 ghost use Rattle.vote_desk.specs.SomeDesk.{IsDeskOf, Refuses, RefusesUnvoted, Replies, RepliesUnvoted, SomeDesk, SomeDeskMoves, TimesOut};
@@ -29,7 +30,7 @@ use crate::state::DeskState;
 use crate::votes::number_not_found;
 use blocks::{CommitteeView, Id};
 use certificates::CheckedBlock;
-use replica_core::Act;
+use replica_core::{Act, MARK_LEN};
 use stable_log::Disk;
 use std::alloc::Global;
 use std::sync::ledger::Blank;
@@ -94,6 +95,95 @@ fn deliver_unvoted_to<N: DeskNaming, D: Disk>(
     let answer = deliver_unvoted_on(state, session, block);
     let _core = state.core();
     answer
+}
+
+// Delivers a block that is not marked again, as `deliver_to` does.
+fn deliver_first_to<N: DeskNaming, D: Disk>(
+    state: &mut DeskState<N, D>,
+    session: &mut Session<N>,
+    block: CheckedBlock,
+    mark: &[u8; MARK_LEN],
+) -> Result<Reply, DeskError>
+    requires committee { block.committee ≡ N.committee }
+    requires once { IsMarkedOnce state.old mark.now block.header }
+    ensures receipt { IfOk result (λ reply.
+        session.new.receipts.items ≡ with_receipt session.old.receipts.items reply.act) }
+    ensures share { IfOk result (λ reply.
+        session.new.share.amount ≡ session.old.share.amount + released_by reply.act) }
+    ensures reply { IfOk result (IsGoodReply N.committee N.replica block.entry.header) }
+    ensures err { OnErr result ((session.new.receipts.items ≡ session.old.receipts.items)
+        × (session.new.share.amount ≡ session.old.share.amount)) }
+    ensures event { IfOk result (λ reply.
+        SomeDeskMoves (IsDeskOf D.Disk N.committee N.replica N.opening)
+        (RepliesOnce D.Disk N.committee N.replica mark.now block.entry reply)) }
+    ensures refused { IfErr result (λ e.
+        SomeDeskMoves (IsDeskOf D.Disk N.committee N.replica N.opening)
+        (RefusesOnce D.Disk mark.now block.entry.header e)) }
+{
+    // For the proof: what each desk keeps, before and after.
+    let _core = state.core();
+    let answer = deliver_on(state, session, block);
+    let _core = state.core();
+    answer
+}
+
+// Delivers a block that is marked again, as `deliver_unvoted_to` does.
+fn deliver_again_to<N: DeskNaming, D: Disk>(
+    state: &mut DeskState<N, D>,
+    session: &mut Session<N>,
+    block: CheckedBlock,
+    mark: &[u8; MARK_LEN],
+) -> Result<Reply, DeskError>
+    requires committee { block.committee ≡ N.committee }
+    requires again { IsMarkedAgain state.old mark.now block.header }
+    ensures receipt { IfOk result (λ reply.
+        session.new.receipts.items ≡ with_receipt session.old.receipts.items reply.act) }
+    ensures share { IfOk result (λ reply.
+        session.new.share.amount ≡ session.old.share.amount + released_by reply.act) }
+    ensures reply { IfOk result (IsGoodReply N.committee N.replica block.entry.header) }
+    ensures err { OnErr result ((session.new.receipts.items ≡ session.old.receipts.items)
+        × (session.new.share.amount ≡ session.old.share.amount)) }
+    ensures event { IfOk result (λ reply.
+        SomeDeskMoves (IsDeskOf D.Disk N.committee N.replica N.opening)
+        (RepliesOnce D.Disk N.committee N.replica mark.now block.entry reply)) }
+    ensures refused { IfErr result (λ e.
+        SomeDeskMoves (IsDeskOf D.Disk N.committee N.replica N.opening)
+        (RefusesOnce D.Disk mark.now block.entry.header e)) }
+{
+    // For the proof: what each desk keeps, before and after.
+    let _core = state.core();
+    let answer = deliver_unvoted_on(state, session, block);
+    let _core = state.core();
+    answer
+}
+
+// Delivers a block, to be voted for only if it is not marked again.
+fn deliver_once_to<N: DeskNaming, D: Disk>(
+    state: &mut DeskState<N, D>,
+    session: &mut Session<N>,
+    block: CheckedBlock,
+    mark: &[u8; MARK_LEN],
+) -> Result<Reply, DeskError>
+    requires { block.committee ≡ N.committee }
+    ensures receipt { IfOk result (λ reply.
+        session.new.receipts.items ≡ with_receipt session.old.receipts.items reply.act) }
+    ensures share { IfOk result (λ reply.
+        session.new.share.amount ≡ session.old.share.amount + released_by reply.act) }
+    ensures reply { IfOk result (IsGoodReply N.committee N.replica block.entry.header) }
+    ensures err { OnErr result ((session.new.receipts.items ≡ session.old.receipts.items)
+        × (session.new.share.amount ≡ session.old.share.amount)) }
+    ensures event { IfOk result (λ reply.
+        SomeDeskMoves (IsDeskOf D.Disk N.committee N.replica N.opening)
+        (RepliesOnce D.Disk N.committee N.replica mark.now block.entry reply)) }
+    ensures refused { IfErr result (λ e.
+        SomeDeskMoves (IsDeskOf D.Disk N.committee N.replica N.opening)
+        (RefusesOnce D.Disk mark.now block.entry.header e)) }
+{
+    if state.is_marked_again(block.header(), mark) {
+        deliver_again_to(state, session, block, mark)
+    } else {
+        deliver_first_to(state, session, block, mark)
+    }
 }
 
 // Gives up on views at a desk of which no more is known than what each desk keeps.
@@ -258,6 +348,35 @@ impl<N: DeskNaming, D: Disk> Desk<N, D> {
     {
         let mut state = self.state.lock(rt);
         deliver_unvoted_to(&mut *state, session, block)
+    }
+
+    /// Takes the lock, which may wait, and delivers a block as `deliver` does; but one that is marked, above a marked one in its
+    /// chain, as `deliver_unvoted` does: so of one chain one marked block at the most is voted for. The block must have been
+    /// checked with the committee that the desk was opened with.
+    pub fn deliver_marked_once<R: Wait>(
+        &self,
+        rt: &R,
+        session: &mut Session<N>,
+        block: CheckedBlock,
+        mark: &[u8; MARK_LEN],
+    ) -> Result<Reply, DeskError>
+        requires { block.committee ≡ N.committee }
+        ensures receipt { IfOk result (λ reply.
+            session.new.receipts.items ≡ with_receipt session.old.receipts.items reply.act) }
+        ensures share { IfOk result (λ reply.
+            session.new.share.amount ≡ session.old.share.amount + released_by reply.act) }
+        ensures reply { IfOk result (IsGoodReply N.committee N.replica block.entry.header) }
+        ensures err { OnErr result ((session.new.receipts.items ≡ session.old.receipts.items)
+            × (session.new.share.amount ≡ session.old.share.amount)) }
+        ensures event { IfOk result (λ reply.
+            SomeDeskMoves (IsDeskOf D.Disk N.committee N.replica N.opening)
+            (RepliesOnce D.Disk N.committee N.replica mark.now block.entry reply)) }
+        ensures refused { IfErr result (λ e.
+            SomeDeskMoves (IsDeskOf D.Disk N.committee N.replica N.opening)
+            (RefusesOnce D.Disk mark.now block.entry.header e)) }
+    {
+        let mut state = self.state.lock(rt);
+        deliver_once_to(&mut *state, session, block, mark)
     }
 
     /// Takes the lock, which may wait, and gives up on all views up to this one, as `timeout_on` does. Refused only by

@@ -1,7 +1,7 @@
 //! What stands under a desk's lock.
 
 ghost use Rattle.stable_log.specs.Devices.{AtAnyMoment};
-ghost use Rattle.std.specs.Prelude.{◌≡◌, ◌≢◌, ◌<◌, ◌≤◌, ◌+◌, ◌⊎◌, ◌++◌, ◌∷◌, [], ℕ, List, true, false, length, None, Some, IfErr, IfOk, IfSome, IsErrOf, IsSome, IsTrue, ◌↔◌, OnErr, OnOk};
+ghost use Rattle.std.specs.Prelude.{◌≡◌, ◌≢◌, ◌<◌, ◌≤◌, ◌+◌, ◌⊎◌, ◌++◌, ◌∷◌, [], ℕ, List, true, false, length, None, Some, IfErr, IfOk, IfSome, IsErrOf, IsFalse, IsSome, IsTrue, ◌↔◌, OnErr, OnOk};
 ghost use Rattle.blocks.specs.Genesis.{chain_id_of, genesis_of};
 ghost use Rattle.blocks.specs.Replay.{IsLegal, replay};
 ghost use Rattle.blocks.specs.Replica.{timed_out};
@@ -18,6 +18,7 @@ ghost use Rattle.vote_desk.specs.Deliveries.{BoundsIndices, DrawsAtMostOne, Fail
 ghost use Rattle.vote_desk.specs.DeskRefusals.{HasRoom, HasRoomTo, IsPlanRefusal, IsRunning, IsStopped, IsStorageRefusal};
 ghost use Rattle.vote_desk.specs.Desks.{AreKeysOf, HoldsId, KeepsDesk, desk_of, index_of, left_of, status_of};
 ghost use Rattle.vote_desk.specs.Exports.{IsOnlyRead, IsOut};
+ghost use Rattle.vote_desk.specs.Firsts.{IsMarkedAgain, IsMarkedOnce};
 ghost use Rattle.vote_desk.specs.Votes.{IsFoundSince, IsVoteFound, IsVoteInRefusal};
 ghost use Rattle.vote_log.specs.LogExport.{Blames, IsExportRefusal, export_of};
 ghost use Rattle.streams.specs.Streams.{WrotePart};
@@ -32,11 +33,11 @@ use crate::session::Session;
 use crate::signing::draw;
 use crate::storing::{check_room, store};
 use crate::votes::vote_in;
-use blocks::{CommitteeView, Id};
+use blocks::{CommitteeView, Header, Id};
 use certificates::CheckedBlock;
 use key_index_store::IndexStore;
 use lms_tree::SigningTree;
-use replica_core::{Act, Core, CoreRefusal, Plan};
+use replica_core::{Act, Core, CoreRefusal, MARK_LEN, Plan, is_marked};
 use stable_log::Disk;
 use std::marker::Model;
 use std::sync::ledger::Book;
@@ -161,6 +162,20 @@ impl<N: DeskNaming, D: Disk> DeskState<N, D> {
         ensures { IsTrue result ↔ HoldsId self.now id.now }
     {
         self.core.holds(id)
+    }
+
+    /// Whether the block is marked, and a block in the chain below it is.
+    pub fn is_marked_again(&self, block: &Header, mark: &[u8; MARK_LEN]) -> bool
+        ensures again { IsTrue result → IsMarkedAgain self.now mark.now block.now }
+        ensures once { IsFalse result → IsMarkedOnce self.now mark.now block.now }
+    {
+        if !is_marked(block, mark) {
+            return false;
+        }
+        match self.core.first_in_chain(&block.parent, mark) {
+            Some(_) => true,
+            None => false,
+        }
     }
 
     /// The log's vote in a view, and the number of its entry, if there is one: read from the log's disk, whenever it was

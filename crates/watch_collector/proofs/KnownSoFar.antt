@@ -237,3 +237,8 @@ one_log_more replica c d same reports committee logs known = record {
 
     last_vote : (v : SignedVote) → InSome LogNamesVote (logs ++ unread_log replica ∷ []) v ↔ InSome LogNamesVote logs v
     last_vote v = in_last LogNamesVote logs (unread_log replica) v (in_none (FrameNamesVote replica) v)
+
+-- what is shown stands under the committee
+pub shown_under : (r : Result Evidence AllocError) (g : Gathered) (reports : List SourceReport) (committee : List ℕ) → g.committee ≡ committee → IfOk r (IsShownOf g reports) → IfOk r (λ e. e.committee ≡ committee)
+shown_under (Ok e) g reports committee under shown = shown.under ∙ under
+shown_under (Err e) g reports committee under shown = tt

@@ -6,7 +6,7 @@ ghost use Rattle.evidence.specs.Evidence.{IsEvidenceOf, IsEvidenceRefusal, IsHea
 ghost use Rattle.evidence.specs.Gathering.{Grows, IsGatheringRefusal};
 ghost use Rattle.evidence.specs.Logs.{ReceivedLog};
 ghost use Rattle.watch_collector.specs.Collectors.{IsCollected, MayFollow, logs_then, reports_then, unread_log, unread_report};
-ghost use Rattle.watch_collector.specs.Growing.{AreBadAmong};
+ghost use Rattle.watch_collector.specs.Growing.{AreBadAmong, IsBadVote};
 ghost use Rattle.watch_collector.specs.Parts.{IsPartOn};
 
 use crate::checking::check_new;
@@ -14,7 +14,9 @@ use crate::growing::Growing;
 use crate::part::Part;
 use crate::reports::{all_unread, copies, may_follow, together, unread};
 use blocks::CommitteeView;
+use certificates::SignedVote;
 use evidence::{Evidence, EvidenceRefusal, SourceReport};
+use shared_values::Shared;
 use std::alloc::{AllocError, Global};
 use std::marker::Model;
 use std::thread::Threads;
@@ -57,6 +59,7 @@ impl<'a> Collector<'a> {
             → IsCollected committee (logs ++ unread_log replica ∷ []) self.new) }
         ensures reports { OnOk result
             (self.new.reports ≡ self.old.reports ++ unread_report replica ∷ []) }
+        ensures gathered { self.new.gathered ≡ self.old.gathered }
     {
         self.reports.push(unread(&replica))?;
         Ok(())
@@ -95,6 +98,7 @@ impl<'a> Collector<'a> {
         ensures grown { OnOk result (Grows self.old.gathered self.new.gathered
             (Contains part.now.listing.headers) (Contains part.now.listing.votes)) }
         ensures reports { OnOk result (self.new.reports ≡ self.old.reports) }
+        ensures under { self.new.gathered.committee ≡ self.old.gathered.committee }
         ensures bad { IfOk result (AreBadAmong self.old.gathered.committee part.now.listing.votes) }
         ensures err { IfErr result
             (IsGatheringRefusal self.old.gathered (Contains part.now.listing.headers)) }
@@ -121,6 +125,7 @@ impl<'a> Collector<'a> {
             (Contains part.now.listing.headers) (Contains part.now.listing.votes)) }
         ensures reports { OnOk result
             (self.new.reports ≡ reports_then self.old.reports log part.now.report) }
+        ensures under { self.new.gathered.committee ≡ self.old.gathered.committee }
         ensures bad { IfOk result (AreBadAmong self.old.gathered.committee part.now.listing.votes) }
         ensures err { IfErr result
             (IsGatheringRefusal self.old.gathered (Contains part.now.listing.headers)) }
@@ -154,14 +159,26 @@ impl<'a> Collector<'a> {
             → IsEvidenceRefusal (IsHeaderInEvidence committee (logs_then logs log l)) e) }
         ensures reports { OnOk result
             (self.new.reports ≡ reports_then self.old.reports log part.now.report) }
+        ensures grown { OnOk result (Grows self.old.gathered self.new.gathered
+            (Contains part.now.listing.headers) (Contains part.now.listing.votes)) }
+        ensures under { self.new.gathered.committee ≡ self.old.gathered.committee }
     {
         self.add_part(rt, alloc, log, part)
     }
 
+    /// Whether a vote that came is not good.
+    pub fn is_bad(&self, vote: &Shared<SignedVote>) -> bool
+        requires { Contains self.now.gathered.votes vote.now }
+        ensures { IsTrue result ↔ IsBadVote self.now.gathered.committee vote.now }
+    {
+        self.growing.is_bad(vote)
+    }
+
     /// The evidence of what came so far. No vote is checked.
     pub fn evidence(&self, alloc: Global) -> Result<Evidence<'a>, AllocError>
-        ensures { IfOk result (λ e. (committee : List ℕ) (logs : List ReceivedLog)
+        ensures evidence { IfOk result (λ e. (committee : List ℕ) (logs : List ReceivedLog)
             → IsCollected committee logs self.now → IsEvidenceOf committee logs e) }
+        ensures under { IfOk result (λ e. e.committee ≡ self.now.gathered.committee) }
     {
         self.growing.evidence(alloc, copies(alloc, &self.reports)?)
     }

@@ -112,6 +112,7 @@ impl<'a> Growing<'a> {
 
     fn add_header(&mut self, header: &NamedHeader) -> Result<(), EvidenceRefusal>
         ensures ok { OnOk result (Grows self.old self.new (λ h. h ≡ header.now) IsNone) }
+        ensures under { self.new.committee ≡ self.old.committee }
         ensures err { IfErr result (IsGatheringRefusal self.old (λ h. h ≡ header.now)) }
     {
         if self.holds(header)? {
@@ -124,6 +125,7 @@ impl<'a> Growing<'a> {
     /// Adds headers. After a refusal a part of them may have been added.
     pub fn add_headers(&mut self, headers: &[NamedHeader]) -> Result<(), EvidenceRefusal>
         ensures ok { OnOk result (Grows self.old self.new (Contains headers.now) IsNone) }
+        ensures under { self.new.committee ≡ self.old.committee }
         ensures err { IfErr result (IsGatheringRefusal self.old (Contains headers.now)) }
     {
         for header in headers {
@@ -134,7 +136,8 @@ impl<'a> Growing<'a> {
 
     fn add_good(&mut self, vote: &Shared<SignedVote>) -> Result<(), AllocError>
         requires { IsGoodVote self.old.committee vote.now }
-        ensures { OnOk result (Grows self.old self.new IsNone (λ v. v ≡ vote.now)) }
+        ensures ok { OnOk result (Grows self.old self.new IsNone (λ v. v ≡ vote.now)) }
+        ensures under { self.new.committee ≡ self.old.committee }
     {
         self.good.insert(vote.again()?)?;
         Ok(())
@@ -142,7 +145,8 @@ impl<'a> Growing<'a> {
 
     fn add_bad(&mut self, vote: &Shared<SignedVote>) -> Result<(), AllocError>
         requires { IsBadVote self.old.committee vote.now }
-        ensures { OnOk result (Grows self.old self.new IsNone (λ v. v ≡ vote.now)) }
+        ensures ok { OnOk result (Grows self.old self.new IsNone (λ v. v ≡ vote.now)) }
+        ensures under { self.new.committee ≡ self.old.committee }
     {
         self.bad.insert(vote.again()?)?;
         Ok(())
@@ -151,7 +155,8 @@ impl<'a> Growing<'a> {
     // Adds a vote with the answer to its check.
     fn add_vote(&mut self, vote: &Shared<SignedVote>, is_good: bool) -> Result<(), AllocError>
         requires { IsAnswerOn self.old.committee vote.now is_good }
-        ensures { OnOk result (Grows self.old self.new IsNone (λ v. v ≡ vote.now)) }
+        ensures ok { OnOk result (Grows self.old self.new IsNone (λ v. v ≡ vote.now)) }
+        ensures under { self.new.committee ≡ self.old.committee }
     {
         if is_good {
             return self.add_good(vote);
@@ -166,7 +171,8 @@ impl<'a> Growing<'a> {
         answers: &[bool],
     ) -> Result<(), AllocError>
         requires { AllZip (IsAnswerOn self.old.committee) votes.now answers.now }
-        ensures { OnOk result (Grows self.old self.new IsNone (Contains votes.now)) }
+        ensures ok { OnOk result (Grows self.old self.new IsNone (Contains votes.now)) }
+        ensures under { self.new.committee ≡ self.old.committee }
     {
         for k in 0..votes.len() {
             self.add_vote(&votes[k], answers[k])?;
@@ -186,6 +192,14 @@ impl<'a> Growing<'a> {
             }
         }
         bad
+    }
+
+    /// Whether a vote that was named is not good.
+    pub fn is_bad(&self, vote: &Shared<SignedVote>) -> bool
+        requires { Contains self.now.votes vote.now }
+        ensures { IsTrue result ↔ IsBadVote self.now.committee vote.now }
+    {
+        self.bad.contains(vote)
     }
 
     /// The evidence of what was named so far, with these reports of the logs. No vote is checked.

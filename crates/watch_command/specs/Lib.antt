@@ -1,3 +1,2 @@
 pub mod Ends
 pub mod FaultLines
-pub mod HandoverNews

@@ -8,7 +8,7 @@ use log_format::{Frames, Status};
 use log_transfer::{FetchError, FileConnector, Pull, ServerConnector, Step};
 use source_reading::{End, MOST_FRAMES_ASKED, ask};
 use std::fs::{File, Files};
-use std::net::{Net, SocketAddr, TcpStream};
+use std::net::{Net, TcpStream};
 use std::sync::Wait;
 use std::sync::atomic::Ordering;
 use std::time::Clock;
@@ -29,7 +29,7 @@ pub(crate) fn follow<'c, T: Files<File = File> + Wait + Clock + Net<Stream = Tcp
     }
     match &target.place {
         Place::File(path) => read_file_once(shop, &mut reader, path),
-        Place::Server(addresses) => follow_server(shop, &mut reader, target, addresses),
+        Place::Server(name) => follow_server(shop, &mut reader, target, name),
     }
 }
 
@@ -37,14 +37,14 @@ fn follow_server<'c, T: Files<File = File> + Wait + Clock + Net<Stream = TcpStre
     shop: &Shop<'_, '_, 'c, T>,
     reader: &mut Reader,
     target: &Target,
-    addresses: &[SocketAddr],
+    name: &str,
 ) -> Result<(), EvidenceRefusal> {
     for _ in shop.rt.forever() {
         if shop.is_ending() || target.aside.load(Ordering::SeqCst) {
             break;
         }
         reader.begin_anew(shop)?;
-        if !read_on(shop, reader, addresses)? {
+        if !read_on(shop, reader, name)? {
             reader.end_round(shop);
             shop.pause();
         }
@@ -58,13 +58,14 @@ fn follow_server<'c, T: Files<File = File> + Wait + Clock + Net<Stream = TcpStre
 fn read_on<'c, T: Files<File = File> + Wait + Clock + Net<Stream = TcpStream>>(
     shop: &Shop<'_, '_, 'c, T>,
     reader: &mut Reader,
-    addresses: &[SocketAddr],
+    name: &str,
 ) -> Result<bool, EvidenceRefusal> {
     let first = u32::try_from(reader.logs.read().saturating_sub(1)).unwrap_or(u32::MAX);
     let answer = {
         let dialer = Dialer {
             net: shop.rt,
-            addresses,
+            alloc: shop.alloc,
+            name,
             ending: &shop.ending,
         };
         // Its connection is closed before the frames are added.
@@ -75,12 +76,13 @@ fn read_on<'c, T: Files<File = File> + Wait + Clock + Net<Stream = TcpStream>>(
     let status = status_of(frames.status(), answer.end);
     note_answer(shop, reader.source, status);
     if !reader.goes_on(&frames) {
-        return reader.part_ways(shop, status);
+        reader.part_ways(shop, status)?;
+        return Ok(false);
     }
     let before = reader.logs.read();
     take(shop, reader, &frames, usize::from(before > 0), status)?;
     let has_more = answer.end == End::Stopped || frames.len() >= MOST_FRAMES_ASKED as usize;
-    Ok(has_more && reader.logs.read() > before)
+    Ok(has_more && reader.logs.read() > before && !reader.is_closed)
 }
 
 // Hands over the frames from this one on.

@@ -2,20 +2,19 @@
 //! that collects and audits, the verdicts' files and the lines. Needs threads that wait, sockets and a clock.
 #![tactic(auto)]
 
-mod collecting;
 mod draft;
 mod exporting;
 mod fault;
 mod following;
-mod next_committee;
 mod patience;
 mod program;
+mod publishing;
 mod queue;
 mod reader;
 mod restoring;
+mod rounds;
 mod serving;
 mod shop;
-mod showing;
 mod verdict_files;
 mod words;
 

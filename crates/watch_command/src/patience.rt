@@ -16,12 +16,8 @@ const MOST_TICKS: u32 = 4 * WAIT_SECONDS as u32;
 /// How many of a host's addresses are tried.
 const MOST_ADDRESSES: usize = 4;
 
-/// The addresses of a server's name, at most four.
-pub(crate) fn addresses_of<N: Net>(
-    alloc: Global,
-    net: &N,
-    name: &str,
-) -> io::Result<Vec<SocketAddr>> {
+// The addresses that a server's name has now, at most four.
+fn addresses_of<N: Net>(alloc: Global, net: &N, name: &str) -> io::Result<Vec<SocketAddr>> {
     let mut addresses = Vec::new(alloc);
     for address in name.to_socket_addrs(net)?.take(MOST_ADDRESSES) {
         addresses.push(address)?;
@@ -29,11 +25,12 @@ pub(crate) fn addresses_of<N: Net>(
     Ok(addresses)
 }
 
-/// Opens streams to the first address of a server that answers, as an audit does.
+/// Opens streams to the first address of a server that answers, as an audit does. Its name is looked up for each.
 #[derive(Drop)]
 pub(crate) struct Dialer<'a, N> {
     pub net: &'a N,
-    pub addresses: &'a [SocketAddr],
+    pub alloc: Global,
+    pub name: &'a str,
     pub ending: &'a AtomicBool,
 }
 
@@ -44,6 +41,7 @@ impl<'a, N: Net<Stream = TcpStream>> Dial for Dialer<'a, N> {
 
     fn dial(&self) -> io::Result<PatientStream<'a>> {
         let timeout = Duration::from_secs(CONNECT_SECONDS);
-        dial(self.net, self.addresses, timeout, MOST_TICKS, self.ending)
+        let addresses = addresses_of(self.alloc, self.net, self.name)?;
+        dial(self.net, &addresses, timeout, MOST_TICKS, self.ending)
     }
 }

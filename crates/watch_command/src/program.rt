@@ -5,20 +5,19 @@ ghost use Rattle.printed_lines.specs.Printed.{Told};
 ghost use Rattle.watch_command.specs.Ends.{Fault as FaultValue};
 ghost use Rattle.watch_command.specs.FaultLines.{watch_fault_line};
 
-use crate::collecting::collect;
 use crate::exporting::give_out;
 use crate::fault::{Fault, FolderFile, WatchFault, fault_of_evidence};
 use crate::following::follow;
-use crate::patience::addresses_of;
-use crate::queue::Queue;
+use crate::publishing::first_snapshot;
+use crate::queue::{Line, Queue};
+use crate::rounds::collect;
 use crate::serving::{Server, answer_all};
 use crate::shop::{Place, Shop, Target, answerers_of};
-use crate::showing::first_snapshot;
 use crate::verdict_files::VerdictFolder;
 use crate::words::{Task, Words, read_words};
 use blocks::CommitteeView;
 use program_parts::{
-    Origin, ProgramFault, SourceFault, SourceWord, exit_status, parse_committee, read_committee,
+    Origin, ProgramFault, SourceWord, exit_status, parse_committee, read_committee,
 };
 use state_folder::{StateFault, StateFolder, open_state};
 use std::alloc::{AllocError, Global};
@@ -122,7 +121,7 @@ where
         Some((state, lock)) => (Some(state), Some(lock)),
         None => (None, None),
     };
-    let targets = targets_of(host, &words)?;
+    let targets = targets_of(host.alloc, &words)?;
     let found = match watch(host, &words, &committee, &targets, state.as_ref(), out) {
         Ok(found) => found,
         Err(fault) => return Err(fault),
@@ -176,39 +175,28 @@ fn nth_of(words: &Words, i: usize, replica: u16) -> u16 {
     nth
 }
 
-// The sources, the names of servers resolved.
-fn targets_of<'a, T: Net<Listener = TcpListener, Stream = TcpStream>>(
-    host: &Host<'_, T>,
-    words: &Words<'a>,
-) -> Result<Vec<Target<'a>>, Fault<'a>> {
-    let mut targets = Vec::new(host.alloc);
+// The sources. A server's name is looked up at each dial, so none that has no address stops a start.
+fn targets_of<'a>(alloc: Global, words: &Words<'a>) -> Result<Vec<Target<'a>>, AllocError> {
+    let mut targets = Vec::with_capacity(alloc, words.sources.len())?;
     for (i, word) in words.sources.iter().enumerate() {
-        match place_of(host, word) {
-            Ok(place) => targets.push(Target {
-                word: words.source_words.get(i).copied().unwrap_or(""),
-                replica: word.replica,
-                nth: nth_of(words, i, word.replica),
-                place,
-                answered: AtomicU64::new(0),
-                framed: AtomicU64::new(0),
-                aside: AtomicBool::new(false),
-            })?,
-            Err(error) => {
-                let fault = Fault::Own(WatchFault::Sources(SourceFault::Word(i)));
-                return Err(Fault::unless_memory(&error, fault));
-            }
-        }
+        targets.push(Target {
+            word: words.source_words.get(i).copied().unwrap_or(""),
+            replica: word.replica,
+            nth: nth_of(words, i, word.replica),
+            place: place_of(word),
+            answered: AtomicU64::new(0),
+            framed: AtomicU64::new(0),
+            aside: AtomicBool::new(false),
+            accused: AtomicBool::new(false),
+        })?;
     }
     Ok(targets)
 }
 
-fn place_of<'a, T: Net<Listener = TcpListener, Stream = TcpStream>>(
-    host: &Host<'_, T>,
-    word: &SourceWord<'a>,
-) -> io::Result<Place<'a>> {
+fn place_of<'a>(word: &SourceWord<'a>) -> Place<'a> {
     match word.origin {
-        Origin::File(path) => Ok(Place::File(path)),
-        Origin::Tcp(name) => Ok(Place::Server(addresses_of(host.alloc, host.rt, name)?)),
+        Origin::File(path) => Place::File(path),
+        Origin::Tcp(name) => Place::Server(name),
     }
 }
 
@@ -306,8 +294,8 @@ fn listen<T: Wait + Net<Listener = TcpListener, Stream = TcpStream> + RandomSour
     seen: Snapshot,
     queue: &Queue,
 ) -> io::Result<Server> {
-    let server = Server::listen(host.rt, address, seen)?;
-    queue.say(host.rt, server.line(host.alloc)?);
+    let server = Server::listen(host.rt, host.alloc, address, seen)?;
+    queue.say(host.rt, Line::Lasting(server.line(host.alloc)?));
     Ok(server)
 }
 

@@ -1,20 +1,30 @@
 //! Lines that wait to be printed.
 
 use std::alloc::Global;
+use std::sync::atomic::{AtomicU64, Ordering};
 use std::sync::{Condvar, Mutex, Wait};
 use std::time::{Clock, Duration};
 use streams::{Fault, Sink, write_all};
 
-/// How many lines wait at most. What comes then is dropped, and counted.
+/// From how many lines on that wait those that may be dropped are, and counted.
 const MOST_LINES: usize = 1_000;
 
 /// How long one look for lines waits, in milliseconds.
 const LOOK_MILLISECONDS: u64 = 500;
 
+/// A line that is to be printed.
+#[derive(Drop)]
+pub(crate) enum Line {
+    /// What it says comes once: it waits however many do.
+    Lasting(Vec<u8>),
+    /// What it says may come again: it is dropped where too many wait.
+    Passing(Vec<u8>),
+}
+
 #[derive(Drop)]
 struct Waiting {
     lines: Vec<Vec<u8>>,
-    /// How many were dropped since the last was printed.
+    /// How many were dropped since that was told.
     lost: u64,
     /// No more come.
     closed: bool,
@@ -25,30 +35,44 @@ struct Waiting {
 pub(crate) struct Queue {
     waiting: Mutex<Waiting>,
     came: Condvar,
+    // How many lines were dropped in all.
+    lost: AtomicU64,
 }
 
 /// Lines that are to be printed next.
 #[derive(Drop)]
 pub(crate) struct Batch {
     pub lines: Vec<Vec<u8>>,
-    pub lost: u64,
     pub closed: bool,
 }
 
 impl Waiting {
-    fn push(&mut self, line: Vec<u8>) {
-        if self.lines.len() >= MOST_LINES || self.lines.push(line).is_err() {
+    // Puts a line at the end. Answers whether it was dropped.
+    fn push(&mut self, line: Line) -> bool {
+        let is_dropped = match line {
+            Line::Lasting(line) => self.lines.push(line).is_err(),
+            Line::Passing(line) => {
+                self.lines.len() >= MOST_LINES || self.lines.push(line).is_err()
+            }
+        };
+        if is_dropped {
             self.lost = self.lost.saturating_add(1);
         }
+        is_dropped
+    }
+
+    // How many were dropped since that was taken last. As long as too many wait it is not taken.
+    fn take_lost(&mut self) -> u64 {
+        if self.lines.len() >= MOST_LINES {
+            return 0;
+        }
+        std::mem::replace(&mut self.lost, 0)
     }
 
     fn take(&mut self, alloc: Global) -> Batch {
         let lines = std::mem::replace(&mut self.lines, Vec::new(alloc));
-        let lost = self.lost;
-        self.lost = 0;
         Batch {
             lines,
-            lost,
             closed: self.closed,
         }
     }
@@ -63,13 +87,26 @@ impl Queue {
                 closed: false,
             }),
             came: Condvar::new(),
+            lost: AtomicU64::new(0),
         }
     }
 
     /// Puts a line at the end, where there is room for it.
-    pub fn say<T: Wait>(&self, rt: &T, line: Vec<u8>) {
-        self.waiting.lock(rt).push(line);
+    pub fn say<T: Wait>(&self, rt: &T, line: Line) {
+        if self.waiting.lock(rt).push(line) {
+            let _before = self.lost.fetch_add(1, Ordering::SeqCst);
+        }
         self.came.notify_one();
+    }
+
+    /// How many lines were dropped in all.
+    pub fn lost(&self) -> u64 {
+        self.lost.load(Ordering::SeqCst)
+    }
+
+    /// How many were dropped since that was told, where there is room for the line that tells it.
+    pub fn take_lost<T: Wait>(&self, rt: &T) -> u64 {
+        self.waiting.lock(rt).take_lost()
     }
 
     /// No more lines come.

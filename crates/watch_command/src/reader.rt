@@ -1,7 +1,7 @@
 //! What was read of a source so far.
 
 use crate::draft::Draft;
-use crate::shop::{Delivery, NewPart, Shop, Target, Told};
+use crate::shop::{Delivery, Shop, StoredPart, Target, Told};
 use evidence::EvidenceRefusal;
 use kept_parts::{KeptLogs, LogDigest, NO_FRAMES, PartName, PartText, digest_then};
 use log_format::{Frames, Status};
@@ -11,6 +11,7 @@ use std::fs::{File, Files};
 use std::sync::Wait;
 use std::sync::atomic::Ordering;
 use std::time::{Clock, Instant};
+use watch_desk::NewPart;
 use watch_service::seconds_now;
 use wire::MOST_ENTRIES;
 
@@ -37,10 +38,14 @@ pub(crate) struct Reader {
     pub front: LogDigest,
     // What the frames of its first log digest to.
     digest: LogDigest,
-    // The log of which the last frame was new.
+    // The log that the last frame came to.
     log: usize,
     // How what came last ended, as it was told.
     status: Option<Status>,
+    // From this log on none was begun, since there is a verdict on its replica.
+    closed: Option<usize>,
+    /// The last frame that was looked at was of such a log.
+    pub is_closed: bool,
     has_told_beyond: bool,
     // When all of the log had been read last.
     read_whole: Option<Instant>,
@@ -68,6 +73,8 @@ impl Reader {
             digest: NO_FRAMES,
             log: 0,
             status: None,
+            closed: None,
+            is_closed: false,
             has_told_beyond: false,
             read_whole: None,
             is_anew: false,
@@ -150,21 +157,20 @@ impl Reader {
         self.logs.goes_on(first_digest(frames))
     }
 
-    /// The answer has another frame where the last one stood, or none.
+    /// The answer has another frame where the last one stood, or none. Then its log is read from the beginning, after a pause.
     pub fn part_ways<T: Files<File = File> + Wait + Clock>(
         &mut self,
         shop: &Shop<'_, '_, '_, T>,
         status: Status,
-    ) -> Result<bool, EvidenceRefusal> {
+    ) -> Result<(), EvidenceRefusal> {
         if status != Status::Whole {
             let draft = self.draft(shop)?;
-            self.finish(shop, draft, status)?;
-            return Ok(false);
+            return self.finish(shop, draft, status);
         }
         self.compared = Compared::Nothing;
         self.tell(shop, Told::WentBack);
         self.restart()?;
-        Ok(true)
+        Ok(())
     }
 
     /// The place of its next frame, in this log of it.
@@ -191,8 +197,14 @@ impl Reader {
         }
         let digest = digest_of(frame);
         let mut place = self.next_place(0);
-        match self.logs.place(&digest)? {
-            source_reading::Place::Known => {
+        let found = self.logs.place(&digest)?;
+        self.is_closed = self.close(shop, found);
+        if self.is_closed {
+            return Ok(false);
+        }
+        match found {
+            source_reading::Place::Known(log) => {
+                self.log = log;
                 self.front = digest_then(&self.front, &digest);
                 self.tell_kept(shop);
                 return Ok(true);
@@ -208,6 +220,33 @@ impl Reader {
         self.add_frame(shop, draft, &place, frame, &digest)?;
         note_frame(shop, self.source);
         Ok(true)
+    }
+
+    // Whether no log is begun with a frame that has this place, nor was the one that has it: of a source whose replica has a
+    // verdict only the logs that it has go on.
+    fn close<T: Wait + Clock>(
+        &mut self,
+        shop: &Shop<'_, '_, '_, T>,
+        place: source_reading::Place,
+    ) -> bool {
+        let log = match place {
+            source_reading::Place::Known(log) | source_reading::Place::Next(log) => log,
+            source_reading::Place::Opens(log) => {
+                let is_accused = match shop.targets.get(self.source) {
+                    Some(target) => target.accused.load(Ordering::SeqCst),
+                    None => false,
+                };
+                if is_accused && log > 0 && self.closed.is_none() {
+                    self.closed = Some(log);
+                }
+                log
+            }
+            source_reading::Place::Beyond => return false,
+        };
+        match self.closed {
+            Some(closed) => closed <= log,
+            None => false,
+        }
     }
 
     /// Adds a new frame, which stands there; what does not go on with the draft is handed over first.
@@ -263,14 +302,13 @@ impl Reader {
             self.log = usize::from(name.log);
         }
         let unstored = self.store(shop, text, name)?;
-        let part = NewPart {
+        let new = NewPart {
             log: self.log,
             part: maker.finish(shop.alloc, status)?,
             digest: self.digest,
-            unstored,
             is_kept,
         };
-        self.tell(shop, Told::Part(part));
+        self.tell(shop, Told::Part(StoredPart { new, unstored }));
         Ok(())
     }
 

@@ -7,6 +7,7 @@ use http_server::{Config, Connection};
 use http1::Limits;
 use patient_calls::{Answerer, CallTalk};
 use patient_sockets::{Bounds, Rules, bind, connections_at, most_open_files, talk_to_all};
+use shared_values::Shared;
 use std::alloc::Global;
 use std::fs::{File, Files};
 use std::hash::RandomState;
@@ -42,21 +43,34 @@ const MOST_OF_A_REQUEST: usize = 32_768;
 pub(crate) struct Server {
     listener: TcpListener,
     keys: RandomState,
-    pub seen: Mutex<Snapshot>,
+    /// When the watch began.
+    pub started: u64,
+    /// How many files with parts of logs were kept then.
+    pub kept: u64,
+    // What the watch knew after its last round.
+    seen: Mutex<Shared<Snapshot>>,
 }
 
 impl Server {
     /// Listens at an address of this machine.
     pub fn listen<T: Net<Listener = TcpListener, Stream = TcpStream> + RandomSource>(
         rt: &T,
+        alloc: Global,
         address: &str,
         seen: Snapshot,
     ) -> io::Result<Server> {
         Ok(Server {
             listener: bind(rt, address)?,
             keys: RandomState::new(rt)?,
-            seen: Mutex::new(seen),
+            started: seen.started,
+            kept: seen.kept,
+            seen: Mutex::new(Shared::new(alloc, seen)?),
         })
+    }
+
+    /// From now on this is what the watch knows.
+    pub fn publish<T: Wait>(&self, rt: &T, seen: Shared<Snapshot>) {
+        *self.seen.lock(rt) = seen;
     }
 
     /// The line that says where: `listening ADDRESS`, with the address that it got.

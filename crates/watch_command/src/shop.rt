@@ -6,15 +6,13 @@ use crate::queue::Queue;
 use crate::serving::{ANSWERERS, Server};
 use crate::words::Words;
 use blocks::CommitteeView;
-use source_reading::FrameDigest;
 use state_folder::StateFolder;
 use std::alloc::{AllocError, Global};
-use std::net::SocketAddr;
 use std::sync::atomic::{AtomicBool, AtomicU32, AtomicU64, Ordering};
 use std::sync::{Condvar, Mutex, Wait};
 use std::thread;
 use std::time::{Clock, Duration};
-use watch_collector::Part;
+use watch_desk::NewPart;
 
 /// How long the threads are waited for to start, in looks a hundredth of a second apart.
 const MOST_LOOKS: u32 = 1_000;
@@ -24,26 +22,19 @@ const LOOK_MILLISECONDS: u64 = 10;
 /// How long one wait for another thread is, in milliseconds: so soon an ending is noticed.
 const TICK_MILLISECONDS: u64 = 250;
 
-/// A part of a log of a source.
+/// A part of a log of a source, which was stored where it is to be.
 #[derive(Drop)]
-pub(crate) struct NewPart<'c> {
-    /// Which of its logs.
-    pub log: usize,
-    /// It may have no frame, and then says how the log ends.
-    pub part: Part<'c>,
-    /// What the frames of its first log digest to.
-    pub digest: FrameDigest,
+pub(crate) struct StoredPart<'c> {
+    pub new: NewPart<'c>,
     /// Where it was to be stored, where it could not be.
     pub unstored: Option<String>,
-    /// It was stored before the watch began.
-    pub is_kept: bool,
 }
 
 /// What the thread of a source tells.
 #[derive(Drop)]
 pub(crate) enum Told<'c> {
     /// More came of a log of the source, or how it ends changed.
-    Part(NewPart<'c>),
+    Part(StoredPart<'c>),
     /// Its log went back.
     WentBack,
     /// At a start: what it gives goes on with this log, which was kept.
@@ -57,7 +48,7 @@ pub(crate) enum Told<'c> {
 impl Told<'_> {
     fn is_kept(&self) -> bool {
         match self {
-            Told::Part(new) => new.is_kept,
+            Told::Part(stored) => stored.new.is_kept,
             _ => false,
         }
     }
@@ -83,8 +74,10 @@ pub(crate) fn answerers_of(server: Option<&Server>) -> usize
 /// Where a source's log comes from.
 #[derive(Drop)]
 pub(crate) enum Place<'a> {
+    /// The path of a file.
     File(&'a str),
-    Server(Vec<SocketAddr>),
+    /// The name of a server.
+    Server(&'a str),
 }
 
 /// A source of a watch.
@@ -102,6 +95,8 @@ pub(crate) struct Target<'a> {
     pub framed: AtomicU64,
     /// No more of it is read.
     pub aside: AtomicBool,
+    /// There is a verdict on its replica: no further log of it is begun.
+    pub accused: AtomicBool,
 }
 
 // One place for each source.
@@ -213,6 +208,22 @@ impl<'a, 'w, 'c, T: Wait + Clock> Shop<'a, 'w, 'c, T> {
             kept_added: AtomicU64::new(0),
             kept_sources: AtomicU64::new(0),
         })
+    }
+
+    /// No more of this source is read.
+    pub fn set_aside(&self, source: usize) {
+        if let Some(target) = self.targets.get(source) {
+            target.aside.store(true, Ordering::SeqCst);
+        }
+    }
+
+    /// There is a verdict on this replica.
+    pub fn accuse(&self, replica: u16) {
+        for target in self.targets {
+            if target.replica == replica {
+                target.accused.store(true, Ordering::SeqCst);
+            }
+        }
     }
 
     pub fn is_ending(&self) -> bool {

@@ -3,7 +3,6 @@
 ghost use Rattle.std.specs.Prelude.{◌≢◌, IfErr};
 
 use crate::fault::{Fault, FolderFile, WatchFault};
-use blocks::CommitteeView;
 use program_parts::{InputFault, MOST_OF_A_SHORT_FILE, ProgramFault, read_file};
 use state_folder::store_new;
 use std::alloc::{AllocError, Global};
@@ -11,7 +10,7 @@ use std::fs::{File, Files, OpenOptions};
 use std::io::ErrorKind;
 use std::os::unix::fs::OpenOptionsExt;
 use std::{fs, io};
-use verdict_checker::check;
+use watch_desk::KeptVerdicts;
 
 /// The mode of a new verdict's file: everyone may read it.
 const VERDICT_MODE: u32 = 0o644;
@@ -76,14 +75,15 @@ impl<'a, F: Files<File = File>> VerdictFolder<'_, 'a, F> {
         format!(in self.alloc; "{folder}/verdict-{replica}.hsx")
     }
 
-    /// What stands under the name of a replica's verdict. A file that a watch began there and did not finish is removed.
-    pub fn kept(&self, committee: &CommitteeView, replica: u16) -> Result<Kept, AllocError> {
+    /// What stands under the name of a replica's verdict, which becomes one of these where it is one. A file that a watch began
+    /// there and did not finish is removed.
+    pub fn kept(&self, verdicts: &mut KeptVerdicts, replica: u16) -> Result<Kept, AllocError> {
         for second in [false, true] {
             let path = self.path_of(replica, second)?;
             self.remove_unfinished(&path)?;
         }
-        match self.kept_at(committee, replica, false)? {
-            Kept::Other => match self.kept_at(committee, replica, true)? {
+        match self.kept_at(verdicts, replica, false)? {
+            Kept::Other => match self.kept_at(verdicts, replica, true)? {
                 Kept::Verdict(second) => Ok(Kept::Verdict(second)),
                 _ => Ok(Kept::Other),
             },
@@ -94,7 +94,7 @@ impl<'a, F: Files<File = File>> VerdictFolder<'_, 'a, F> {
     // What stands under one of the names.
     fn kept_at(
         &self,
-        committee: &CommitteeView,
+        verdicts: &mut KeptVerdicts,
         replica: u16,
         second: bool,
     ) -> Result<Kept, AllocError> {
@@ -102,7 +102,9 @@ impl<'a, F: Files<File = File>> VerdictFolder<'_, 'a, F> {
         match fs::symlink_metadata(self.files, &path) {
             Err(error) if error.kind() == ErrorKind::NotFound => Ok(Kept::Free),
             Ok(found) if found.is_file() => {
-                if self.is_verdict(committee, replica, &path)? {
+                if let Some(bytes) = self.bytes_of(&path)?
+                    && verdicts.judge(replica, bytes)?
+                {
                     return Ok(Kept::Verdict(second));
                 }
                 Ok(Kept::Other)
@@ -111,30 +113,12 @@ impl<'a, F: Files<File = File>> VerdictFolder<'_, 'a, F> {
         }
     }
 
-    // Whether the file at the path has a verdict on this replica that the checker accepts.
-    fn is_verdict(
-        &self,
-        committee: &CommitteeView,
-        replica: u16,
-        path: &str,
-    ) -> Result<bool, AllocError> {
-        let bytes = match read_file(self.files, self.alloc, path, MOST_OF_A_SHORT_FILE) {
-            Ok(bytes) => bytes,
-            Err(InputFault::Memory) => return Err(AllocError),
-            Err(InputFault::Unreadable) => return Ok(false),
-        };
-        match check(committee, &bytes) {
-            Ok(finding) => Ok(finding.replica == replica),
-            Err(_) => Ok(false),
-        }
-    }
-
-    /// The bytes of a verdict that is kept at this path, or none where it can't be read.
-    pub fn bytes_of(&self, path: &str) -> Result<Vec<u8>, AllocError> {
+    // The bytes of the file at this path, where it can be read.
+    fn bytes_of(&self, path: &str) -> Result<Option<Vec<u8>>, AllocError> {
         match read_file(self.files, self.alloc, path, MOST_OF_A_SHORT_FILE) {
-            Ok(bytes) => Ok(bytes),
+            Ok(bytes) => Ok(Some(bytes)),
             Err(InputFault::Memory) => Err(AllocError),
-            Err(InputFault::Unreadable) => Ok(Vec::new(self.alloc)),
+            Err(InputFault::Unreadable) => Ok(None),
         }
     }
 

@@ -3,7 +3,7 @@ use Rattle.std.specs.Prelude.{◌≡◌, ◌<◌, ◌++◌, ◌==◌, ℕ, Bool,
 use Rattle.std.specs.List.{flat_map}
 use Rattle.hex.specs.Hex.{encode_lower}
 use Rattle.watch_lines.specs.Times.{IsUtcText}
-use Rattle.watch_snapshot.specs.Standings.{answering_of, standing_of, top_of}
+use Rattle.watch_snapshot.specs.Standings.{answering_of, standing_of}
 use Rattle.watch_snapshot.specs.Times.{is_late}
 use Rattle.blocks.specs.declared.ballot.Ballot.{Ballot}
 use Rattle.watch_snapshot.specs.declared.snapshot.Culprit.{Culprit}
@@ -65,6 +65,13 @@ kept_line read all = codes "<p>Kept files that were read: " ++ share_text read a
 unfoldable pub kept_text : (read all : ℕ) → List ℕ
 kept_text read all = if nat_lt read all then kept_line read all else codes ""
 
+-- how many lines were dropped, if any were
+unfoldable pub lost_line : (lost : ℕ) → List ℕ
+lost_line lost = codes "<p>Lines that were dropped, since nobody took them: " ++ decimal lost ++ codes ".</p>\n"
+
+unfoldable pub lost_text : (lost : ℕ) → List ℕ
+lost_text lost = if nat_lt 0 lost then lost_line lost else codes ""
+
 unfoldable pub first_text : Standing → (k m : ℕ) → (time : List ℕ) → (round : ℕ) → List ℕ
 first_text standing k m time round =
     codes "<h1>" ++ state_text standing k m ++ codes "</h1>\n<p>" ++ advice_text standing ++ codes "</p>\n<p>Round " ++ decimal round ++ codes ", " ++ time
@@ -94,13 +101,13 @@ foot_text chain =
 unfoldable pub body_text : Snapshot → (second : ℕ) → (is_still : Bool) → (time : List ℕ) → List ℕ
 body_text s second is_still time =
     culprits_text s (answering_of s second) (length s.sources.items) time ++ picture_text (is_some s.picture) ++ commits_text s.commit_count s.commits.items s.conflict
-    ++ sources_text s.every (top_of s.sources.items) second s.sources.items ++ links_text is_still ++ foot_text s.chain
+    ++ sources_text s.every s.certified second s.sources.items ++ links_text is_still ++ foot_text s.chain
 
 unfoldable pub front_text : Snapshot → (second : ℕ) → (is_still : Bool) → (time : List ℕ) → List ℕ
 front_text s second is_still time =
     title_text (standing_of s second) (answering_of s second) (length s.sources.items) is_still ++ looks_text (level_of (standing_of s second))
     ++ banner_text (is_late s.stamped s.every second) ++ first_text (standing_of s second) (answering_of s second) (length s.sources.items) time s.round
-    ++ kept_text s.kept_read s.kept
+    ++ kept_text s.kept_read s.kept ++ lost_text s.lines_lost
 
 abbrev pub page_text : Snapshot → (second : ℕ) → (is_still : Bool) → (time : List ℕ) → List ℕ
 page_text s second is_still time = front_text s second is_still time ++ body_text s second is_still time

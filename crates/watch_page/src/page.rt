@@ -1,7 +1,7 @@
 //! The page of a watch.
 
 ghost use Rattle.std.specs.Prelude.{◌≡◌, ◌++◌, IfOk, OnOk};
-ghost use Rattle.watch_page.specs.Pages.{IsPage, banner_text, body_text, commits_text, culprits_text, first_text, foot_text, found_text, front_text, kept_line, kept_text, links_text, looks_text, none_text, page_text, picture_text, reload_text, sources_text, style_text, title_text};
+ghost use Rattle.watch_page.specs.Pages.{IsPage, banner_text, body_text, commits_text, culprits_text, first_text, foot_text, found_text, front_text, kept_line, kept_text, links_text, looks_text, lost_line, lost_text, none_text, page_text, picture_text, reload_text, sources_text, style_text, title_text};
 
 use crate::rows::{put_commits, put_conflict, put_culprits, put_sources};
 use crate::words::{Level, level_of, put_advice, put_class, put_icon, put_share, put_state};
@@ -202,6 +202,28 @@ fn put_kept(text: &mut Vec<u8>, read: u64, all: u64) -> Result<(), AllocError>
     append(text, b"")
 }
 
+fn put_lost_line(text: &mut Vec<u8>, lost: u64) -> Result<(), AllocError>
+    ensures { OnOk result (text.new.items ≡ text.old.items ++ lost_line lost) }
+{
+    append(
+        text,
+        b"<p>Lines that were dropped, since nobody took them: ",
+    )?;
+    put_number(text, lost)?;
+    append(text, b".</p>\n")?;
+    Ok(())
+}
+
+#[tactic(auto, unfolding(crate::specs::Pages::lost_text))]
+fn put_lost(text: &mut Vec<u8>, lost: u64) -> Result<(), AllocError>
+    ensures { OnOk result (text.new.items ≡ text.old.items ++ lost_text lost) }
+{
+    if 0 < lost {
+        return put_lost_line(text, lost);
+    }
+    append(text, b"")
+}
+
 fn put_all_sources(
     text: &mut Vec<u8>,
     every: u32,
@@ -272,7 +294,8 @@ fn put_front(
     put_looks(text, level_of(standing))?;
     put_banner(text, is_late(seen.stamped, seen.every, second))?;
     put_first(text, standing, k, m, time, seen.round)?;
-    put_kept(text, seen.kept_read, seen.kept)
+    put_kept(text, seen.kept_read, seen.kept)?;
+    put_lost(text, seen.lines_lost)
 }
 
 #[tactic(auto, unfolding(crate::specs::Pages::body_text))]
@@ -290,7 +313,7 @@ fn put_body(
     put_all_culprits(text, seen, k, seen.sources.len(), time)?;
     put_picture(text, seen.picture.is_some())?;
     put_all_commits(text, seen.commit_count, &seen.commits, &seen.conflict)?;
-    put_all_sources(text, seen.every, seen.top_view(), second, &seen.sources)?;
+    put_all_sources(text, seen.every, seen.certified, second, &seen.sources)?;
     put_links(text, is_still)?;
     put_foot(text, &seen.chain)
 }

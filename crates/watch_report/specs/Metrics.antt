@@ -20,10 +20,15 @@ findings_text culprits conflict commits =
     ++ codes "\n# HELP hs_watch_conflict Whether commits conflict.\n# TYPE hs_watch_conflict gauge\nhs_watch_conflict " ++ decimal conflict
     ++ codes "\n# HELP hs_watch_commits How many commits are proved.\n# TYPE hs_watch_commits gauge\nhs_watch_commits " ++ decimal commits ++ codes "\n"
 
-unfoldable pub rounds_text : (unstored stamped started : ℕ) → List ℕ
-rounds_text unstored stamped started =
+unfoldable pub losses_text : (unstored lines_lost : ℕ) → List ℕ
+losses_text unstored lines_lost =
     codes "# HELP hs_watch_unstored Whether something could not be stored.\n# TYPE hs_watch_unstored gauge\nhs_watch_unstored " ++ decimal unstored
-    ++ codes "\n# HELP hs_watch_round_timestamp_seconds When the last round was.\n# TYPE hs_watch_round_timestamp_seconds gauge\nhs_watch_round_timestamp_seconds " ++ decimal stamped
+    ++ codes "\n# HELP hs_watch_lines_lost_total How many lines were dropped, since nobody took them.\n# TYPE hs_watch_lines_lost_total counter\nhs_watch_lines_lost_total " ++ decimal lines_lost
+    ++ codes "\n"
+
+unfoldable pub rounds_text : (stamped started : ℕ) → List ℕ
+rounds_text stamped started =
+    codes "# HELP hs_watch_round_timestamp_seconds When the last round was.\n# TYPE hs_watch_round_timestamp_seconds gauge\nhs_watch_round_timestamp_seconds " ++ decimal stamped
     ++ codes "\n# HELP process_start_time_seconds When the process began, in seconds since 1970.\n# TYPE process_start_time_seconds gauge\nprocess_start_time_seconds " ++ decimal started
     ++ codes "\n# HELP hs_build_info The version of this program.\n# TYPE hs_build_info gauge\nhs_build_info{version=\"0.9.0\"} 1\n"
 
@@ -77,5 +82,5 @@ progress_text sources = family_text TopView sources ++ family_text LastAnswer so
 
 unfoldable pub metrics_text : Snapshot → List ℕ
 metrics_text s =
-    findings_text (length s.culprits.items) (number_of (is_some s.conflict)) s.commit_count ++ rounds_text (number_of s.is_unstored) s.stamped s.started
+    findings_text (length s.culprits.items) (number_of (is_some s.conflict)) s.commit_count ++ losses_text (number_of s.is_unstored) s.lines_lost ++ rounds_text s.stamped s.started
     ++ trouble_text s.sources.items ++ progress_text s.sources.items

@@ -2,7 +2,7 @@
 
 ghost use Rattle.std.specs.Prelude.{◌≡◌, ◌++◌, IfOk, OnOk};
 ghost use Rattle.std.specs.List.{flat_map};
-ghost use Rattle.watch_report.specs.Metrics.{family_text, findings_text, front_of, labels_of, metrics_text, name_of, number_of, progress_text, rounds_text, sample, trouble_text, value_of};
+ghost use Rattle.watch_report.specs.Metrics.{family_text, findings_text, front_of, labels_of, losses_text, metrics_text, name_of, number_of, progress_text, rounds_text, sample, trouble_text, value_of};
 
 use escaped_text::{Inside, put_escaped};
 use printed_lines::put_number;
@@ -109,14 +109,8 @@ fn put_findings(
     Ok(())
 }
 
-fn put_rounds(
-    text: &mut Vec<u8>,
-    unstored: u8,
-    stamped: u64,
-    started: u64,
-) -> Result<(), AllocError>
-    ensures { OnOk result (text.new.items
-        ≡ text.old.items ++ rounds_text unstored stamped started) }
+fn put_losses(text: &mut Vec<u8>, unstored: u8, lines_lost: u64) -> Result<(), AllocError>
+    ensures { OnOk result (text.new.items ≡ text.old.items ++ losses_text unstored lines_lost) }
 {
     append(
         text,
@@ -125,7 +119,19 @@ fn put_rounds(
     put_number(text, unstored)?;
     append(
         text,
-        b"\n# HELP hs_watch_round_timestamp_seconds When the last round was.\n# TYPE hs_watch_round_timestamp_seconds gauge\nhs_watch_round_timestamp_seconds ",
+        b"\n# HELP hs_watch_lines_lost_total How many lines were dropped, since nobody took them.\n# TYPE hs_watch_lines_lost_total counter\nhs_watch_lines_lost_total ",
+    )?;
+    put_number(text, lines_lost)?;
+    append(text, b"\n")?;
+    Ok(())
+}
+
+fn put_rounds(text: &mut Vec<u8>, stamped: u64, started: u64) -> Result<(), AllocError>
+    ensures { OnOk result (text.new.items ≡ text.old.items ++ rounds_text stamped started) }
+{
+    append(
+        text,
+        b"# HELP hs_watch_round_timestamp_seconds When the last round was.\n# TYPE hs_watch_round_timestamp_seconds gauge\nhs_watch_round_timestamp_seconds ",
     )?;
     put_number(text, stamped)?;
     append(
@@ -207,7 +213,8 @@ pub fn metrics_of(alloc: Global, seen: &Snapshot) -> Result<Vec<u8>, AllocError>
     let conflict = number_of(seen.conflict.is_some());
     put_findings(&mut text, seen.culprits.len(), conflict, seen.commit_count)?;
     let unstored = number_of(seen.is_unstored);
-    put_rounds(&mut text, unstored, seen.stamped, seen.started)?;
+    put_losses(&mut text, unstored, seen.lines_lost)?;
+    put_rounds(&mut text, seen.stamped, seen.started)?;
     put_troubles(&mut text, &seen.sources)?;
     put_progress(&mut text, &seen.sources)?;
     Ok(text)

@@ -1,6 +1,6 @@
 //! The audit of what came so far.
 
-ghost use Rattle.std.specs.Prelude.{ℕ, List, IfOk, IsSome};
+ghost use Rattle.std.specs.Prelude.{◌≡◌, ℕ, List, IfOk, IsSome};
 ghost use Rattle.std.specs.List.{All};
 ghost use Rattle.verdict_format.specs.Proofs.{IsProof};
 ghost use Rattle.evidence.specs.Logs.{ReceivedLog};
@@ -21,6 +21,7 @@ pub fn audit_so_far<'a>(
 ) -> Result<(Evidence<'a>, Report), AllocError>
     ensures audit { IfOk result (λ r. (committee : List ℕ) (logs : List ReceivedLog)
         → IsCollected committee logs collector.now → IsAuditOfLogs committee logs r.0 r.1) }
+    ensures under { IfOk result (λ r. r.0.committee ≡ collector.now.gathered.committee) }
     ensures accepted { IfOk result (λ r. All (IsProof r.0.committee) r.1.verdicts) }
     ensures more_than_a_third { IfOk result (λ r. IsSome r.1.conflict
         → AreMoreThanAThird r.0.committee r.1) }

@@ -8,6 +8,7 @@ use crate::answering::answer;
 use bytes::Bytes;
 use http::Request;
 use http_server::{Response, Service};
+use shared_values::Shared;
 use std::alloc::{AllocError, Global};
 use std::sync::{Mutex, Wait};
 use std::time::{Clock, SystemTime, UNIX_EPOCH};
@@ -19,7 +20,7 @@ pub struct Watcher<'a, R: Wait + Clock> {
     rt: &'a R,
     alloc: Global,
     hosts: &'a [String],
-    seen: &'a Mutex<Snapshot>,
+    seen: &'a Mutex<Shared<Snapshot>>,
 }
 
 impl<'a, R: Wait + Clock> Watcher<'a, R> {
@@ -28,7 +29,7 @@ impl<'a, R: Wait + Clock> Watcher<'a, R> {
         rt: &'a R,
         alloc: Global,
         hosts: &'a [String],
-        seen: &'a Mutex<Snapshot>,
+        seen: &'a Mutex<Shared<Snapshot>>,
     ) -> Watcher<'a, R>
         ensures { result.hosts.now ≡ hosts.now }
     {
@@ -49,8 +50,21 @@ impl<'a, R: Wait + Clock> Watcher<'a, R> {
         ensures { OnOk result (IsAnswered self.now.hosts.now request.now response.new) }
     {
         let second = seconds_now(self.rt);
+        let seen = self.seen_now()?;
+        answer_by(
+            self.alloc,
+            self.hosts,
+            seen.get(),
+            second,
+            request,
+            response,
+        )
+    }
+
+    // What the watch knows. The lock is held for no longer than it takes to have it.
+    fn seen_now(&self) -> Result<Shared<Snapshot>, AllocError> {
         let seen = self.seen.lock(self.rt);
-        answer_by(self.alloc, self.hosts, &*seen, second, request, response)
+        seen.again()
     }
 }
 

@@ -1,5 +1,5 @@
 -- What a watch knew at one moment, in one word.
-use Rattle.std.specs.Prelude.{ℕ, List, [], ◌∷◌, Bool, true, false, Option, Some, None, is_some, count_by, length, nat_lt, ◌==◌, if◌then◌else◌}
+use Rattle.std.specs.Prelude.{ℕ, Bool, true, false, Option, Some, None, is_some, count_by, length, nat_lt, ◌==◌, if◌then◌else◌}
 use Rattle.std.specs.List.{list_any}
 use Rattle.log_format.specs.declared.status.Status.{Status}
 use Rattle.log_format.specs.declared.status.Status.TheVariants.{Whole, Cut, Broken, TooLong, Failed}
@@ -32,23 +32,6 @@ went_back s = nat_lt 0 s.times_back
 
 abbrev pub has_bad_votes : SourceSeen → Bool
 has_bad_votes s = nat_lt 0 s.bad_votes
-
--- ---- how far the sources are
-
-abbrev pub larger : ℕ → ℕ → ℕ
-larger a b = if nat_lt a b then b else a
-
--- the greatest view of the votes of a source of which more is read, of parts of which no vote is bad
-abbrev pub view_of : SourceSeen → ℕ
-view_of s = if s.is_aside then 0 else s.top_view
-
--- .. of these sources, or one that is greater
-abbrev pub top_from : ℕ → List SourceSeen → ℕ
-top_from top [] = top
-top_from top (s ∷ sources) = top_from (larger top (view_of s)) sources
-
-unfoldable pub top_of : List SourceSeen → ℕ
-top_of sources = top_from 0 sources
 
 -- ---- the worst that holds
 

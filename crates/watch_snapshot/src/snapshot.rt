@@ -2,7 +2,7 @@
 
 ghost use Rattle.std.specs.Prelude.{◌≡◌};
 ghost use Rattle.std.specs.List.{list_any};
-ghost use Rattle.watch_snapshot.specs.Standings.{answering_of, has_bad_votes, larger, reading_of, standing_of, top_of, went_back};
+ghost use Rattle.watch_snapshot.specs.Standings.{answering_of, has_bad_votes, reading_of, standing_of, went_back};
 
 use crate::source::SourceSeen;
 use blocks::{Ballot, Id};
@@ -59,12 +59,16 @@ pub struct Snapshot {
     pub chain: Id,
     /// Something could not be stored.
     pub is_unstored: bool,
+    /// How many lines were dropped, since nobody took them.
+    pub lines_lost: u64,
     /// How many files with parts of logs were kept when the watch began.
     pub kept: u64,
     /// How many of them were read.
     pub kept_read: u64,
     /// The sources, in the order in which they are named.
     pub sources: Vec<SourceSeen>,
+    /// The greatest view of a block for which a quorum voted, 0 where there is none.
+    pub certified: u64,
     /// The last commits, by rising view and id.
     pub commits: Vec<Ballot>,
     /// How many commits there are in all.
@@ -79,12 +83,6 @@ pub struct Snapshot {
     pub total: u64,
     /// The picture of the last audit, as SVG; none before the first one.
     pub picture: Option<String>,
-}
-
-fn larger(a: u64, b: u64) -> u64
-    ensures { result ≡ larger a b }
-{
-    if a < b { b } else { a }
 }
 
 /// The worst that holds of what a watch knew.
@@ -134,18 +132,6 @@ impl Snapshot {
         ensures { result ≡ list_any has_bad_votes self.now.sources.items }
     {
         self.sources.iter().any(|source| source.has_bad_votes())
-    }
-
-    /// The greatest view of the votes that came in parts of which no vote is bad, of all sources of which more is read.
-    #[tactic(auto, unfolding(crate::specs::Standings::top_of))]
-    pub fn top_view(&self) -> u64
-        ensures { result ≡ top_of self.now.sources.items }
-    {
-        let mut top = 0;
-        for source in &self.sources {
-            top = larger(top, source.view());
-        }
-        top
     }
 
     fn has_aside(&self) -> bool

@@ -1,7 +1,7 @@
 //! A source as a watch saw it.
 
 ghost use Rattle.std.specs.Prelude.{◌≡◌};
-ghost use Rattle.watch_snapshot.specs.Standings.{answers, has_bad_votes, is_whole, view_of, went_back};
+ghost use Rattle.watch_snapshot.specs.Standings.{answers, has_bad_votes, is_whole, went_back};
 
 use crate::times::is_late;
 use blocks::Id;
@@ -74,12 +74,5 @@ impl SourceSeen {
         ensures { result ≡ has_bad_votes self.now }
     {
         0 < self.bad_votes
-    }
-
-    // The greatest view of its votes that came in parts of which no vote is bad, where more of it is read.
-    pub(crate) fn view(&self) -> u64
-        ensures { result ≡ view_of self.now }
-    {
-        if self.is_aside { 0 } else { self.top_view }
     }
 }

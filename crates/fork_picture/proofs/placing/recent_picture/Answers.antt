@@ -1,4 +1,4 @@
-use Rattle.std.proofs.Common.{IfOk, String, string_bytes, subst}
+use Rattle.std.proofs.Common.{String, string_bytes, subst}
 use Rattle.std.specs.declared.alloc.Global.{Global}
 use Rattle.std.proofs.lemmas.Result.{IfOk-weaker}
 use Rattle.fork_picture.specs.Drawings.{IsRecentPicture}

@@ -1,4 +1,4 @@
-use Rattle.std.proofs.Common.{◌≡◌, ◌<◌, ◌≤◌, ◌++◌, List, length, take, drop, subst, sym, arith, rules}
+use Rattle.std.proofs.Common.{◌≡◌, ◌++◌, List, take, drop, subst, sym, arith, rules}
 use Rattle.std.specs.Prelude.{IsPermutation}
 use Rattle.std.proofs.lemmas.List.{drop_all, length-take-le, take-append-drop}
 use Rattle.std.proofs.lemmas.List.Sorted.{IsPermutation-refl}

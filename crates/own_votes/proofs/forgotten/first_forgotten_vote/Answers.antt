@@ -20,7 +20,7 @@ loop-k-preserved c =
     let below : k < length entries = omega arith in
     let Forgotten = IsForgottenVote c.args.committee.now c.args.replica c.args.own.now in
     let not : Forgotten (vote_of cert (get_or entries k none)) → ⊥ =
-    subst (λ (v : SignedVote). Forgotten v → ⊥) c.vote-vote.ensures (λ f. false≢true (sym c.if-is_forgotten.false ∙ c.is_forgotten.ensures.1 f)) in
+    subst (λ (v : SignedVote). Forgotten v → ⊥) c.vote-vote.ensures (λ f. false≢true (sym c.if-is_forgotten_vote.false ∙ c.is_forgotten_vote.ensures.1 f)) in
     All-more (λ d. Forgotten (vote_of cert d) → ⊥) entries k none below c.loop-k.invariant not
 
 pub returns : goal.returns

@@ -1,7 +1,8 @@
 use Rattle.std.proofs.Common.{◌∙◌, ap}
 use Rattle.rayon.specs.Lists.{min_len_base}
 use Rattle.rayon.proofs.ToStd.{slice-AllZip}
-use Rattle.parallel_verify.proofs.Answered.{IsAnswerIfAny, answers_of}
+use Rattle.certificates.specs.Votes.{IsAnswerOn}
+use Rattle.parallel_verify.proofs.Answered.{IsIfAny, answers_of}
 use Rattle.parallel_verify.proofs.batch.check_all.Goals as goal
 
 pub returns : goal.returns
@@ -10,4 +11,5 @@ returns g c =
     let slice = ap (λ it. it.slice.now) votes ∙ c.par_iter.ensures in
     let h = c.in_ok-collect.ensures in
     let chain = h.1 in
-    answers_of g.N.BoardNaming.committee c.args.votes.now h.0 c.in_ok-collect.field-0 (slice-AllZip chain.0 c.args.votes.now (chain.1 ∙ slice) (IsAnswerIfAny g.N.BoardNaming.committee) h.0 chain.2) h.2
+    let Is = IsAnswerOn g.N.BoardNaming.committee in
+    answers_of Is c.args.votes.now h.0 c.in_ok-collect.field-0 (slice-AllZip chain.0 c.args.votes.now (chain.1 ∙ slice) (IsIfAny Is) h.0 chain.2) h.2

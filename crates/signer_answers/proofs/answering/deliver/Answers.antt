@@ -2,7 +2,9 @@ use Rattle.std.proofs.Common.{ℕ, List, ap, inl, inr, refl, subst}
 use Rattle.blocks.specs.Headers.{Header}
 use Rattle.certificates.specs.BlockChecks.{CheckedBlock, IsChecked}
 use Rattle.replica_answers.specs.Answers.{block_of}
-use Rattle.vote_desk.specs.SomeDesk.{Replies, RepliesUnvoted}
+use Rattle.handover.specs.Handovers.{handover_mark}
+use Rattle.vote_desk.specs.Firsts.{RepliesOnce}
+use Rattle.vote_desk.specs.SomeDesk.{RepliesUnvoted}
 use Rattle.signer_answers.specs.Approvals.{IsApproved, IsWithheld}
 use Rattle.signer_answers.specs.BlockAnswers.{SomeMove}
 use Rattle.signer_answers.proofs.answering.deliver.Goals as goal
@@ -24,8 +26,8 @@ returns-in-Ok-clause-reply g c =
       );
     }
 
-pub returns-in-Ok-deliver-clause-reply : goal.returns-in-Ok-deliver-clause-reply
-returns-in-Ok-deliver-clause-reply g c =
+pub returns-in-Ok-deliver_marked_once-clause-reply : goal.returns-in-Ok-deliver_marked_once-clause-reply
+returns-in-Ok-deliver_marked_once-clause-reply g c =
     let n = g.N.DeskNaming in
     let b = c.args.block in
     let tells = g.K.Approver.tells c.args.office.now.keeper.now in
@@ -33,9 +35,9 @@ returns-in-Ok-deliver-clause-reply g c =
     record {
       checked = subst (λ (committee : List ℕ). IsChecked committee b.header b.certificate) c.requires.committee c.header.ensures.is_checked;
       remembered = c.requires.remembered;
-      good = record { answer = c.in-Ok-deliver.ensures.answer; committed = c.in-Ok-deliver.ensures.committed };
+      good = c.in-Ok-deliver_marked_once.ensures.reply;
       event = inl (
         subst (λ (h : Header). IsApproved tells h) c.header.ensures.value (c.if-is_withheld.ensures.approved refl),
-        subst (λ (x : CheckedBlock). SomeMove g.D.Disk n.committee n.replica n.opening (Replies g.D.Disk n.committee n.replica x c.in-Ok-deliver.reply)) same c.in-Ok-deliver.ensures.event,
+        subst (λ (x : CheckedBlock). SomeMove g.D.Disk n.committee n.replica n.opening (RepliesOnce g.D.Disk n.committee n.replica handover_mark x c.in-Ok-deliver_marked_once.reply)) same c.in-Ok-deliver_marked_once.ensures.event,
       );
     }

@@ -1,9 +1,8 @@
 use Rattle.std.proofs.Common.{◌∙◌, List, ◌++◌, ap, subst, sym}
-use Rattle.std.specs.List.{All}
 use Rattle.http_server.specs.Exchange.{Call as Exchanged}
 use Rattle.http_server.proofs.Theorems.{always_served}
-use Rattle.signing_service.specs.CallAnswers.{IsBacked}
-use Rattle.signing_service.proofs.Backing.{chain_backs, chain_grows, chain_shows}
+use Rattle.signing_service.specs.CallAnswers.{AreBacked}
+use Rattle.signing_service.proofs.Backing.{chain_backs, chain_grows, chain_shows, chain_stays}
 use Rattle.signing_service.proofs.serving.serve_calls.Goals as goal
 
 pub returns-clause-backed : goal.returns-clause-backed
@@ -12,7 +11,7 @@ returns-clause-backed g c =
     let n = g.N.DeskNaming in
     let signer = c.args.signer.now in
     let receipts = c.serve.new.service.caller.session.receipts.items in
-    subst (λ (cs : List Exchanged). All (IsBacked g.D.Disk n.committee n.replica n.opening signer.reception.now.rules.now signer.reception.now.gate.now.asks (g.K.Approver.tells signer.office.now.keeper.now) signer.caller.shown receipts) cs)
+    subst (λ (cs : List Exchanged). AreBacked g.D.Disk n.committee n.replica n.opening signer.reception.now.rules.now signer.reception.now.gate.now.asks (g.K.Approver.tells signer.office.now.keeper.now) receipts signer.caller.shown cs c.serve.new.service.caller.shown)
     (sym (calls.1 ∙ ap (λ (cs : List Exchanged). cs ++ calls.0) c.requires))
     (chain_backs g.D.Disk n.committee n.replica n.opening (λ s. s.reception) (λ p. p.now.rules.now) (λ p. p.now.gate.now.asks) (λ s. s.office) (λ o. g.K.Approver.tells o.now.keeper.now) (λ s. s.caller.shown) (λ s. s.caller.session.receipts.items) calls.0 _ _ calls.2)
 
@@ -27,6 +26,12 @@ returns-clause-shown g c =
     let calls = c.serve.ensures.calls in
     let n = g.N.DeskNaming in
     chain_shows g.D.Disk n.committee n.replica n.opening (λ s. s.reception) (λ p. p.now.rules.now) (λ p. p.now.gate.now.asks) (λ s. s.office) (λ o. g.K.Approver.tells o.now.keeper.now) (λ s. s.caller.shown) (λ s. s.caller.session.receipts.items) calls.0 _ _ calls.2
+
+pub returns-clause-same : goal.returns-clause-same
+returns-clause-same g c =
+    let calls = c.serve.ensures.calls in
+    let n = g.N.DeskNaming in
+    chain_stays g.D.Disk n.committee n.replica n.opening (λ s. s.reception) (λ p. p.now.rules.now) (λ p. p.now.gate.now.asks) (λ s. s.office) (λ o. g.K.Approver.tells o.now.keeper.now) (λ s. s.caller.shown) (λ s. s.caller.session.receipts.items) calls.0 _ _ calls.2
 
 pub returns-clause-served : goal.returns-clause-served
 returns-clause-served g c = always_served c.serve.new.connection

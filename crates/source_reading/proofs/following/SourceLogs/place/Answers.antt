@@ -1,32 +1,29 @@
-use Rattle.std.proofs.Common.{◌≡◌, ◌∙◌, ◌<◌, ◌++◌, ◌∷◌, List, ℕ, [], ap, get_or, length, refl, subst}
-use Rattle.std.specs.List.{All}
-use Rattle.source_reading.specs.Following.{BeginsWith, Followed, read_then}
-use Rattle.source_reading.proofs.Placing.{known_at, read_so, unknown}
+use Rattle.std.proofs.Common.{◌≡◌, ◌∙◌, ◌++◌, ◌∷◌, ◌≤◌, List, ℕ, [], ap, refl, subst}
+use Rattle.source_reading.specs.Following.{Followed, most_logs, read_then}
+use Rattle.source_reading.proofs.Placing.{first_there, next_set, none_there, read_so, unknown}
 use Rattle.source_reading.proofs.following.SourceLogs.place.Goals as goal
 
-pub returns-in-Some : goal.returns-in-Some
-returns-in-Some c =
+pub returns-in-Some-first_equal : goal.returns-in-Some-first_equal
+returns-in-Some-first_equal c =
     let s = c.args.self.now in
     let d = c.args.digest.now in
-    let k = c.in-Some._log in
-    let logs : c.deref.result.now ≡ s.logs = c.deref.ensures.value ∙ ap (λ (f : Followed). f.logs) c.self.view_is in
-    let with : c.deref-2.result.now ≡ read_then s d = c.deref-2.ensures.value ∙ c.in_ok-with.ensures in
-    let there = c.in-Some.ensures in (
-      known_at s d k (subst (λ (ls : List (List (List ℕ))). k < length ls) logs there.0)
-          (subst (λ (ls : List (List (List ℕ))). BeginsWith (read_then s d) (get_or ls k [])) logs
-          (subst (λ (w : List (List ℕ)). BeginsWith w (get_or c.deref.result.now k [])) with there.1)),
-      read_so s _ d s.logs c.in_ok-with.ensures (ap (λ (f : Followed). f.before) c.self.view_is) (ap (λ (f : Followed). f.logs) c.self.view_is),
+    let logs : c.self.inside.logs.items ≡ s.logs = ap (λ (f : Followed). f.logs) c.self.view_is in
+    let read : c.self.inside.present.items ≡ s.present = ap (λ (f : Followed). f.present) c.self.view_is in
+    let first = first_there s _ _ c.in-Some-first_equal.k (c.deref-3.ensures.value ∙ logs) (c.deref-4.ensures.value ∙ read) c.in-Some-first_equal.ensures in (
+      unknown s _ _ d (c.deref.ensures.value ∙ logs) (c.deref-2.ensures.value ∙ read) c.in_default.ensures,
+      first,
+      read_so s _ d _ (c.in_ok-push-3.ensures.items ∙ ap (λ (f : List (List ℕ)). f ++ d ∷ []) read) (ap (λ (f : Followed). f.before) c.self.view_is)
+          (next_set s c.self.inside.logs.items c.in-Some-first_equal.k c.index_mut.result.now _ d logs first c.index_mut.ensures.value c.in_ok-push-2.ensures),
     )
 
 pub returns-then-count-ge-MOST_LOGS : goal.returns-then-count-ge-MOST_LOGS
 returns-then-count-ge-MOST_LOGS c =
     let s = c.args.self.now in
-    let d = c.args.digest.now in
-    let logs : c.deref.result.now ≡ s.logs = c.deref.ensures.value ∙ ap (λ (f : Followed). f.logs) c.self.view_is in
-    let with : c.deref-2.result.now ≡ read_then s d = c.deref-2.ensures.value ∙ c.in_ok-with.ensures in (
-      unknown s d
-          (subst (λ (ls : List (List (List ℕ))). All (λ log. BeginsWith (read_then s d) log → ⊥) ls) logs
-          (subst (λ (w : List (List ℕ)). All (λ log. BeginsWith w log → ⊥) c.deref.result.now) with c.in_default.ensures)),
+    let logs : c.self.inside.logs.items ≡ s.logs = ap (λ (f : Followed). f.logs) c.self.view_is in
+    let read : c.self.inside.present.items ≡ s.present = ap (λ (f : Followed). f.present) c.self.view_is in (
+      unknown s _ _ c.args.digest.now (c.deref.ensures.value ∙ logs) (c.deref-2.ensures.value ∙ read) c.in_default.ensures,
+      none_there s _ _ (c.deref-3.ensures.value ∙ logs) (c.deref-4.ensures.value ∙ read) c.in_default-first_equal.ensures,
+      subst (λ (n : ℕ). most_logs ≤ n) c.logs-count.ensures c.if-count-ge-MOST_LOGS.true,
       refl,
     )
 
@@ -34,14 +31,12 @@ pub returns : goal.returns
 returns c =
     let s = c.args.self.now in
     let d = c.args.digest.now in
-    let logs : c.deref.result.now ≡ s.logs = c.deref.ensures.value ∙ ap (λ (f : Followed). f.logs) c.self.view_is in
-    let with : c.deref-2.result.now ≡ read_then s d = c.deref-2.ensures.value ∙ c.in_ok-with.ensures in
-    let same = ap (λ (f : Followed). f.logs) c.self.view_is in
-    let last : c.in_ok-of.field-0 ≡ read_then s d = c.in_ok-of.ensures ∙ c.deref-5.ensures.value ∙ c.in_ok-with.ensures in (
-      unknown s d
-          (subst (λ (ls : List (List (List ℕ))). All (λ log. BeginsWith (read_then s d) log → ⊥) ls) logs
-          (subst (λ (w : List (List ℕ)). All (λ log. BeginsWith w log → ⊥) c.deref.result.now) with c.in_default.ensures)),
+    let logs : c.self.inside.logs.items ≡ s.logs = ap (λ (f : Followed). f.logs) c.self.view_is in
+    let read : c.self.inside.present.items ≡ s.present = ap (λ (f : Followed). f.present) c.self.view_is in (
+      unknown s _ _ d (c.deref.ensures.value ∙ logs) (c.deref-2.ensures.value ∙ read) c.in_default.ensures,
+      none_there s _ _ (c.deref-3.ensures.value ∙ logs) (c.deref-4.ensures.value ∙ read) c.in_default-first_equal.ensures,
+      c.if-count-ge-MOST_LOGS.false,
       c.logs-count.ensures,
-      read_so s _ d (s.logs ++ read_then s d ∷ []) c.in_ok-with.ensures (ap (λ (f : Followed). f.before) c.self.view_is)
-          (c.in_ok-push.ensures.items ∙ ap (λ (ls : List (List (List ℕ))). ls ++ c.in_ok-of.field-0 ∷ []) same ∙ ap (λ (l : List (List ℕ)). s.logs ++ l ∷ []) last),
+      read_so s _ d (s.logs ++ read_then s d ∷ []) (c.in_ok-push-5.ensures.items ∙ ap (λ (f : List (List ℕ)). f ++ d ∷ []) read) (ap (λ (f : Followed). f.before) c.self.view_is)
+          (c.in_ok-push-4.ensures.items ∙ ap (λ (ls : List (List (List ℕ))). ls ++ c.in_ok-log.log ∷ []) logs ∙ ap (λ (l : List (List ℕ)). s.logs ++ l ∷ []) c.in_ok-log.ensures),
     )

@@ -24,7 +24,7 @@ bad_among-requires g c =
     let part = c.args.part.now in
     let news : AreTheNewOf c.self.inside.growing.votes c.votes.result.now c.in_ok-new.new.items = c.in_ok-new.ensures in
     let first = c.in_ok-add_headers.ensures.ok in
-    let second = subst (λ (ws : List SignedVote). Grows c.add_headers.new.self c.add_votes.new.self IsNone (Contains ws)) c.deref-2.ensures.value c.in_ok-add_votes.ensures in
+    let second = subst (λ (ws : List SignedVote). Grows c.add_headers.new.self c.add_votes.new.self IsNone (Contains ws)) c.deref-2.ensures.value c.in_ok-add_votes.ensures.ok in
     let grown = grown_new c.self.inside.growing c.add_headers.new.self c.add_votes.new.self c.headers.result.now c.votes.result.now c.in_ok-new.new.items first second news in
     λ v m. (grown.votes v).1 (inr (subst (λ (ws : List SignedVote). Contains ws v) (c.votes-2.ensures ∙ Rattle.std.proofs.Common.sym c.votes.ensures) m))
 
@@ -35,6 +35,6 @@ returns-clause-grown g c =
     let news : AreTheNewOf c.self.inside.growing.votes part.listing.votes c.in_ok-new.new.items =
     subst (λ (ws : List SignedVote). AreTheNewOf c.self.inside.growing.votes ws c.in_ok-new.new.items) c.votes.ensures c.in_ok-new.ensures in
     let first = subst (λ (hs : List Header). Grows c.self.inside.growing c.add_headers.new.self (Contains hs) IsNone) headers c.in_ok-add_headers.ensures.ok in
-    let second = subst (λ (ws : List SignedVote). Grows c.add_headers.new.self c.add_votes.new.self IsNone (Contains ws)) c.deref-2.ensures.value c.in_ok-add_votes.ensures in
+    let second = subst (λ (ws : List SignedVote). Grows c.add_headers.new.self c.add_votes.new.self IsNone (Contains ws)) c.deref-2.ensures.value c.in_ok-add_votes.ensures.ok in
     subst (λ (a : Gathered). Grows a c.add_votes.new.self (Contains part.listing.headers) (Contains part.listing.votes)) (ap (λ (k : Collected). k.gathered) c.self.view_is)
     (grown_new c.self.inside.growing c.add_headers.new.self c.add_votes.new.self part.listing.headers part.listing.votes c.in_ok-new.new.items first second news)

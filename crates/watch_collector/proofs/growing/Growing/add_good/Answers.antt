@@ -13,8 +13,8 @@ invariant_of-self-2 c =
     (subst (λ (v : SignedVote). Gains c.self.inside.good c.insert.new.self (λ x. x ≡ v)) c.in_ok-again.ensures c.in_ok-insert.ensures.ok)
     (subst (λ (k : List ℕ). IsGoodVote k c.args.vote.now) (sym under) c.requires)
 
-pub returns : goal.returns
-returns c =
+pub returns-clause-ok : goal.returns-clause-ok
+returns-clause-ok c =
     grown_vote c.self.inside.committee c.self.inside.headers (c.self.inside.good ++ c.self.inside.bad) (c.insert.new.self ++ c.self.inside.bad) c.args.self.now c.args.vote.now c.self.view_is
     (gained_first c.self.inside.good c.insert.new.self c.self.inside.bad (λ x. x ≡ c.args.vote.now)
     (subst (λ (v : SignedVote). Gains c.self.inside.good c.insert.new.self (λ x. x ≡ v)) c.in_ok-again.ensures c.in_ok-insert.ensures.ok))

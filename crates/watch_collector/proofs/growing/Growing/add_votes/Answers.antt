@@ -25,4 +25,4 @@ add_vote-requires c =
 
 pub loop-k-preserved : goal.loop-k-preserved
 loop-k-preserved c =
-    votes_more c.args.self.now c.loop-k.self c.add_vote.new.self c.args.votes.now c.loop-k.k c.index-votes-k.result c.loop-k-test.true c.index-votes-k.is c.loop-k.invariant c.in_ok-add_vote.ensures
+    votes_more c.args.self.now c.loop-k.self c.add_vote.new.self c.args.votes.now c.loop-k.k c.index-votes-k.result c.loop-k-test.true c.index-votes-k.is c.loop-k.invariant c.in_ok-add_vote.ensures.ok

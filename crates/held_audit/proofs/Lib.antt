@@ -1,2 +1,0 @@
-pub mod HeldSources
-pub mod Payloads

@@ -1,3 +1,0 @@
-pub use Rattle.evidence.specs.Logs
-pub mod Held
-pub mod Judged

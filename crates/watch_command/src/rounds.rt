@@ -1,0 +1,411 @@
+//! The thread that collects what comes, round by round: it hands it to the desk, and tells what the desk says is new.
+
+ghost use Rattle.std.specs.Prelude.{◌≢◌, IfErr};
+
+use crate::fault::{Fault, fault_of_evidence};
+use crate::publishing::{publish, replicas_of};
+use crate::queue::Line;
+use crate::shop::{Delivery, Shop, StoredPart, Told};
+use crate::verdict_files::{Kept, VerdictFolder};
+use fork_picture::recent_picture;
+use program_parts::ProgramFault;
+use std::alloc::AllocError;
+use std::fs::{File, Files};
+use std::sync::Wait;
+use std::sync::atomic::Ordering;
+use std::thread::Threads;
+use std::time::{Clock, Duration, Instant};
+use watch_desk::{Desk, FoundVerdict, KeptVerdicts, News, VerdictPlace, put_news};
+use watch_lines::{put_kept, put_lost, put_unstored, stamp, utc_text};
+use watch_service::seconds_now;
+
+/// How long the collector waits for what comes, in milliseconds: then it looks whether the watch is to end. So long an audit
+/// waits at most, too.
+const PATIENCE_MILLISECONDS: u64 = 500;
+
+/// How many times as long as an audit took the next one waits.
+const REST: u64 = 3;
+
+/// The desk of a watch, and what the shell around it knows.
+#[derive(Drop)]
+pub(crate) struct Rounds<'c> {
+    pub desk: Desk<'c>,
+    /// Where the verdicts are that the desk knows, in their order.
+    pub places: Vec<VerdictPlace>,
+    // Of each replica, whether something else is under the first name of its verdict.
+    taken: Vec<bool>,
+    /// The picture of the last audit.
+    pub picture: Option<String>,
+    pub round: u64,
+    /// A part of a log could not be stored.
+    pub has_gap: bool,
+    // Something came that was not audited yet.
+    is_due: bool,
+    // When the last audit ended, and how many milliseconds the next one waits from then on.
+    audited: Option<Instant>,
+    rest: u64,
+}
+
+/// Collects until the watch ends. Answers whether there are culprits.
+pub(crate) fn collect<'c, T: Files<File = File> + Threads + Wait + Clock + Sync>(
+    shop: &Shop<'_, '_, 'c, T>,
+) -> Result<bool, Fault<'static>>
+    ensures { IfErr result (λ fault. fault ≢ ProgramFault.Output) }
+{
+    let folder = VerdictFolder {
+        files: shop.rt,
+        alloc: shop.alloc,
+        path: shop.words.folder,
+    };
+    let mut rounds = Rounds::open(shop, &folder)?;
+    for _ in shop.rt.forever() {
+        if rounds.is_over(shop) {
+            break;
+        }
+        let told = shop.take_all(rounds.patience(shop))?;
+        rounds.take_round(shop, &folder, told)?;
+    }
+    rounds.finish(shop, &folder)?;
+    Ok(rounds.desk.has_culprits())
+}
+
+impl<'c> Rounds<'c> {
+    // Nothing came yet. The verdicts that are kept in the folder are told.
+    fn open<T: Files<File = File> + Wait + Clock>(
+        shop: &Shop<'_, '_, 'c, T>,
+        folder: &VerdictFolder<'_, '_, T>,
+    ) -> Result<Rounds<'c>, AllocError> {
+        let stamp = stamp_now(shop, 0)?;
+        let mut kept = KeptVerdicts::new(shop.alloc, shop.committee);
+        let mut places = Vec::new(shop.alloc);
+        let mut taken = Vec::new(shop.alloc);
+        for replica in 0..shop.committee.n() {
+            let found = folder.kept(&mut kept, replica)?;
+            taken.push(found == Kept::Other)?;
+            if let Some(place) = tell_kept(shop, folder, &stamp, replica, found)? {
+                places.push(place)?;
+                shop.accuse(replica);
+            }
+        }
+        Ok(Rounds {
+            desk: kept.open(&replicas_of(shop.alloc, shop.targets)?)?,
+            places,
+            taken,
+            picture: None,
+            round: 0,
+            has_gap: false,
+            is_due: false,
+            audited: None,
+            rest: 0,
+        })
+    }
+
+    // Whether the watch is to end.
+    fn is_over<T: Wait + Clock>(&self, shop: &Shop<'_, '_, 'c, T>) -> bool {
+        if shop.is_ending() || (shop.words.until_culprit && self.has_stored()) {
+            return true;
+        }
+        shop.words.until_input_ends && shop.input_ended.load(Ordering::SeqCst)
+    }
+
+    fn has_stored(&self) -> bool {
+        self.places.iter().any(|place| !place.is_unstored)
+    }
+
+    /// Whether something could not be stored.
+    pub fn is_unstored(&self) -> bool {
+        self.has_gap || self.places.iter().any(|place| place.is_unstored)
+    }
+
+    // How many milliseconds the next audit is still to wait.
+    fn rest_left<T: Wait + Clock>(&self, shop: &Shop<'_, '_, 'c, T>) -> u64 {
+        let Some(since) = self.audited else {
+            return 0;
+        };
+        match since.elapsed(shop.rt) {
+            Ok(elapsed) => self.rest.saturating_sub(milliseconds_of(elapsed)),
+            Err(_) => 0,
+        }
+    }
+
+    // How long to wait for what comes.
+    fn patience<T: Wait + Clock>(&self, shop: &Shop<'_, '_, 'c, T>) -> Duration {
+        if self.is_due && !shop.reads_kept() {
+            return Duration::from_millis(self.rest_left(shop));
+        }
+        Duration::from_millis(PATIENCE_MILLISECONDS)
+    }
+
+    // Hands what was told to the desk, audits it where something is new, and publishes what is known then.
+    fn take_round<T: Files<File = File> + Threads + Wait + Clock + Sync>(
+        &mut self,
+        shop: &Shop<'_, '_, 'c, T>,
+        folder: &VerdictFolder<'_, '_, T>,
+        told: Vec<Delivery<'c>>,
+    ) -> Result<(), Fault<'static>>
+        ensures { IfErr result (λ fault. fault ≢ ProgramFault.Output) }
+    {
+        self.round = self.round.saturating_add(1);
+        let stamp = stamp_now(shop, self.round)?;
+        tell_lost(shop, &stamp)?;
+        for delivery in told {
+            self.take(shop, &stamp, &delivery)?;
+        }
+        self.store_again(folder);
+        // What is kept is audited once, when all of it was added.
+        if self.is_due && !shop.reads_kept() && self.rest_left(shop) == 0 {
+            self.audit(shop, folder, &stamp)?;
+        }
+        publish(shop, self)?;
+        Ok(())
+    }
+
+    // Where the watch ends while an audit waits, that is made.
+    fn finish<T: Files<File = File> + Wait + Clock>(
+        &mut self,
+        shop: &Shop<'_, '_, 'c, T>,
+        folder: &VerdictFolder<'_, '_, T>,
+    ) -> Result<(), AllocError> {
+        if self.is_due && !shop.is_ending() && !shop.reads_kept() {
+            let stamp = stamp_now(shop, self.round)?;
+            self.audit(shop, folder, &stamp)?;
+        }
+        Ok(())
+    }
+
+    // Hands what was told of a source to the desk.
+    fn take<T: Threads + Wait + Clock + Sync>(
+        &mut self,
+        shop: &Shop<'_, '_, 'c, T>,
+        stamp: &[u8],
+        delivery: &Delivery<'c>,
+    ) -> Result<(), Fault<'static>>
+        ensures { IfErr result (λ fault. fault ≢ ProgramFault.Output) }
+    {
+        let i = delivery.source;
+        if i >= self.desk.sources() {
+            return Ok(());
+        }
+        match &delivery.told {
+            Told::Part(stored) => return self.take_part(shop, stamp, i, stored),
+            Told::WentBack => tell_one(shop, stamp, self.desk.go_back(i, self.round))?,
+            Told::GivesKept(log) => tell_all(shop, stamp, &self.desk.count_kept(i, *log)?)?,
+            Told::Beyond => tell_one(shop, stamp, self.desk.go_beyond(i))?,
+            Told::Unstored(path) => self.tell_unstored(shop, stamp, path)?,
+        }
+        Ok(())
+    }
+
+    // Hands a part of a log of a source to the desk.
+    fn take_part<T: Threads + Wait + Clock + Sync>(
+        &mut self,
+        shop: &Shop<'_, '_, 'c, T>,
+        stamp: &[u8],
+        i: usize,
+        stored: &StoredPart<'c>,
+    ) -> Result<(), Fault<'static>>
+        ensures { IfErr result (λ fault. fault ≢ ProgramFault.Output) }
+    {
+        if let Some(path) = &stored.unstored {
+            self.tell_unstored(shop, stamp, path)?;
+        }
+        if i >= self.desk.sources() {
+            return Ok(());
+        }
+        let news = match self.desk.take(shop.rt, i, &stored.new) {
+            Ok(news) => news,
+            Err(refusal) => return Err(fault_of_evidence(refusal)),
+        };
+        tell_all(shop, stamp, &news)?;
+        if stored.new.part.report().frames > 0 {
+            self.is_due = true;
+        }
+        if stored.new.is_kept {
+            shop.note_added();
+        }
+        Ok(())
+    }
+
+    // A part of a log is not stored at this path.
+    fn tell_unstored<T: Wait + Clock>(
+        &mut self,
+        shop: &Shop<'_, '_, 'c, T>,
+        stamp: &[u8],
+        path: &String,
+    ) -> Result<(), AllocError> {
+        self.has_gap = true;
+        let mut line = Vec::new(shop.alloc);
+        put_unstored(&mut line, stamp, path.as_bytes())?;
+        shop.queue.say(shop.rt, Line::Lasting(line));
+        Ok(())
+    }
+
+    // Audits what came so far, and tells what is new.
+    fn audit<T: Files<File = File> + Wait + Clock>(
+        &mut self,
+        shop: &Shop<'_, '_, 'c, T>,
+        folder: &VerdictFolder<'_, '_, T>,
+        stamp: &[u8],
+    ) -> Result<(), AllocError> {
+        self.is_due = false;
+        let begun = Instant::now(shop.rt).ok();
+        let audited = self.desk.audit()?;
+        for news in &audited.news {
+            match news {
+                News::Culprit(found) => self.name(shop, folder, stamp, news, found)?,
+                _ => tell(shop, stamp, news, b"")?,
+            }
+        }
+        if shop.server.is_some() {
+            self.picture = Some(recent_picture(shop.alloc, &audited.evidence, &audited.report)?);
+        }
+        self.note_audit(shop, begun);
+        Ok(())
+    }
+
+    // An audit that began then has ended now.
+    fn note_audit<T: Wait + Clock>(&mut self, shop: &Shop<'_, '_, 'c, T>, begun: Option<Instant>) {
+        self.rest = 0;
+        if let Some(begun) = begun
+            && let Ok(took) = begun.elapsed(shop.rt)
+        {
+            let rest = milliseconds_of(took).saturating_mul(REST);
+            self.rest = rest.min(PATIENCE_MILLISECONDS);
+        }
+        self.audited = Instant::now(shop.rt).ok();
+    }
+
+    // Stores the verdict on a culprit, and tells it.
+    fn name<T: Files<File = File> + Wait + Clock>(
+        &mut self,
+        shop: &Shop<'_, '_, 'c, T>,
+        folder: &VerdictFolder<'_, '_, T>,
+        stamp: &[u8],
+        news: &News,
+        found: &FoundVerdict,
+    ) -> Result<(), AllocError> {
+        let replica = found.replica();
+        let second = match self.taken.get(usize::from(replica)) {
+            Some(taken) => *taken,
+            None => false,
+        };
+        let path = folder.path_of(replica, second)?;
+        let is_unstored = folder.store(&path, found.known().get().as_bytes()).is_err();
+        tell(shop, stamp, news, path.as_bytes())?;
+        if is_unstored {
+            let mut line = Vec::new(shop.alloc);
+            put_unstored(&mut line, stamp, path.as_bytes())?;
+            shop.queue.say(shop.rt, Line::Lasting(line));
+        }
+        shop.accuse(replica);
+        self.places.push(VerdictPlace { path, is_unstored })?;
+        Ok(())
+    }
+
+    // Tries again to store what could not be stored.
+    fn store_again<T: Files<File = File>>(&mut self, folder: &VerdictFolder<'_, '_, T>) {
+        let verdicts = self.desk.told().verdicts();
+        for (place, verdict) in self.places.iter_mut().zip(verdicts) {
+            if place.is_unstored && folder.store(&place.path, verdict.get().as_bytes()).is_ok() {
+                place.is_unstored = false;
+            }
+        }
+    }
+}
+
+// Tells what was found under the names of a replica's verdict. Answers where that is, where it is one.
+fn tell_kept<T: Files<File = File> + Wait + Clock>(
+    shop: &Shop<'_, '_, '_, T>,
+    folder: &VerdictFolder<'_, '_, T>,
+    stamp: &[u8],
+    replica: u16,
+    found: Kept,
+) -> Result<Option<VerdictPlace>, AllocError> {
+    let mut line = Vec::new(shop.alloc);
+    match found {
+        Kept::Free => Ok(None),
+        Kept::Verdict(second) => {
+            let path = folder.path_of(replica, second)?;
+            put_kept(&mut line, stamp, replica, path.as_bytes())?;
+            shop.queue.say(shop.rt, Line::Lasting(line));
+            Ok(Some(VerdictPlace {
+                path,
+                is_unstored: false,
+            }))
+        }
+        Kept::Other => {
+            let path = folder.path_of(replica, false)?;
+            put_unstored(&mut line, stamp, path.as_bytes())?;
+            shop.queue.say(shop.rt, Line::Lasting(line));
+            Ok(None)
+        }
+    }
+}
+
+// How many lines were dropped, where there is room for that.
+fn tell_lost<T: Wait + Clock>(shop: &Shop<'_, '_, '_, T>, stamp: &[u8]) -> Result<(), AllocError> {
+    let lost = shop.queue.take_lost(shop.rt);
+    if lost > 0 {
+        let mut line = Vec::new(shop.alloc);
+        put_lost(&mut line, stamp, lost)?;
+        shop.queue.say(shop.rt, Line::Lasting(line));
+    }
+    Ok(())
+}
+
+// Puts the line of something new into the queue. A source that is set aside is read no more.
+fn tell<T: Wait + Clock>(
+    shop: &Shop<'_, '_, '_, T>,
+    stamp: &[u8],
+    news: &News,
+    path: &[u8],
+) -> Result<(), AllocError> {
+    let mut line = Vec::new(shop.alloc);
+    put_news(&mut line, stamp, news, path)?;
+    match news {
+        News::Status(_, _) | News::WentBack(_, _) => {
+            shop.queue.say(shop.rt, Line::Passing(line));
+        }
+        News::SetAside(i, _) => {
+            shop.set_aside(*i);
+            shop.queue.say(shop.rt, Line::Lasting(line));
+        }
+        _ => shop.queue.say(shop.rt, Line::Lasting(line)),
+    }
+    Ok(())
+}
+
+fn tell_one<T: Wait + Clock>(
+    shop: &Shop<'_, '_, '_, T>,
+    stamp: &[u8],
+    news: Option<News>,
+) -> Result<(), AllocError> {
+    match news {
+        Some(news) => tell(shop, stamp, &news, b""),
+        None => Ok(()),
+    }
+}
+
+fn tell_all<T: Wait + Clock>(
+    shop: &Shop<'_, '_, '_, T>,
+    stamp: &[u8],
+    all: &[News],
+) -> Result<(), AllocError> {
+    for news in all {
+        tell(shop, stamp, news, b"")?;
+    }
+    Ok(())
+}
+
+fn milliseconds_of(time: Duration) -> u64 {
+    u64::try_from(time.as_millis()).unwrap_or(u64::MAX)
+}
+
+// What stands before each line of a round that is told now.
+fn stamp_now<T: Wait + Clock>(
+    shop: &Shop<'_, '_, '_, T>,
+    round: u64,
+) -> Result<Vec<u8>, AllocError> {
+    let time = utc_text(shop.alloc, seconds_now(shop.rt))?;
+    stamp(shop.alloc, &time, round)
+}

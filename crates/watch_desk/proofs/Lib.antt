@@ -1,0 +1,10 @@
+pub mod Highest
+pub mod KeptBad
+pub mod Once
+pub mod Pairs
+pub mod Pieces
+pub mod Showing
+pub mod Sourcing
+pub mod Opened
+pub mod HeardAudits
+pub mod DeskRounds

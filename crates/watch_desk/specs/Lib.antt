@@ -1,0 +1,11 @@
+pub mod Verdicts
+pub mod News
+pub mod Sources
+pub mod Hearing
+pub mod Taking
+pub mod Desks
+pub mod Opening
+pub mod Keeping
+pub mod DeskLines
+pub mod Shown
+pub mod DeskLaws
