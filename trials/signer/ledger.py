@@ -244,13 +244,29 @@ def stored(folder):
         return payloads_of(held.read())
 
 
-def spoil(folder, number):
-    """Changes a byte of the signature of a vote that a log has."""
+def flipped(text, at):
+    """The bytes with a bit of one changed."""
+    return text[:at] + bytes([text[at] ^ 1]) + text[at + 1 :]
+
+
+def renamed(entry):
+    """An entry whose own vote is on the view and id of its header, whatever it was on."""
+    header = entry[1:85]
+    return entry[:170] + header[4:12] + id_of(header) + entry[210:]
+
+
+def rewrite(folder, number, change):
+    """Puts other bytes, just as many, in the place of an entry that a log has."""
     with open(f"{folder}/log.hsj", "r+b") as held:
         text = held.read()
-        at = text.index(vote_of(payloads_of(text)[number])) + 1400
-        held.seek(at)
-        held.write(bytes([text[at] ^ 1]))
+        entry = payloads_of(text)[number]
+        held.seek(text.index(entry))
+        held.write(change(entry))
+
+
+def spoil(folder, number):
+    """Changes a byte of the signature of a vote that a log has."""
+    rewrite(folder, number, lambda entry: flipped(entry, 169 + 1400))
 
 
 def taken(folder):

@@ -26,7 +26,7 @@ module _ {D : Type 0} (disk : Ghosts D) (committee : List ℕ) (replica : ℕ) (
 
   pub spoilt_beside : (c : Certificate) (found : Option Receipt) (v : SignedVote) (e : LogError)
       → IsFoundIn disk committee replica opening [] c.view found → IsFirstForgotten committee replica (votes_found found) c v
-      → IsSpoilt committee v.id found e → IsSpoiltBesideVote disk committee replica opening e
+      → IsSpoilt committee found e → IsSpoiltBesideVote disk committee replica opening e
   spoilt_beside c found v e read first spoilt = record {
     vote = v;
     found = found;

@@ -34,17 +34,17 @@ IsUnreadable Device = Unit {0}
 IsUnreadable (BadEntry number) = Unit {0}
 IsUnreadable _ = ⊥
 
--- ---- whether what a log has can tell of another vote on a block
+-- ---- whether what a log has can tell of another vote in its view
 
--- what was found is on another block, or is a good vote, or there is none
-abbrev pub IsSound : (committee id : List ℕ) → Option Receipt → Type 0
-IsSound committee id (Some receipt) = receipt.vote.id ≡ id → IsGoodVote committee receipt.vote
-IsSound committee id None = Unit {0}
+-- what was found is a good vote, whatever block it is on, or there is none
+abbrev pub IsSound : List ℕ → Option Receipt → Type 0
+IsSound committee (Some receipt) = IsGoodVote committee receipt.vote
+IsSound committee None = Unit {0}
 
--- it is a vote on this block that is not good, so that bytes of it changed on the disk: its entry is bad
-abbrev pub IsSpoilt : (committee id : List ℕ) → Option Receipt → LogError → Type 0
-IsSpoilt committee id (Some receipt) e = (receipt.vote.id ≡ id) × (IsGoodVote committee receipt.vote → ⊥) × (e ≡ BadEntry receipt.number)
-IsSpoilt committee id None e = ⊥
+-- it is a vote that is not good, so that bytes of it changed on the disk: its entry is bad
+abbrev pub IsSpoilt : List ℕ → Option Receipt → LogError → Type 0
+IsSpoilt committee (Some receipt) e = (IsGoodVote committee receipt.vote → ⊥) × (e ≡ BadEntry receipt.number)
+IsSpoilt committee None e = ⊥
 
 module _ {D : Type 0} (disk : Ghosts D) (committee : List ℕ) (replica : ℕ) (opening : List Stored) where
   -- ---- what a log has in a view
@@ -72,14 +72,14 @@ module _ {D : Type 0} (disk : Ghosts D) (committee : List ℕ) (replica : ℕ) (
     pub found : Option Receipt
     pub read : IsFoundIn receipts c.view found
     pub foreign : ShowsForeignVote replica (votes_found found) c
-    pub sound : IsSound committee c.id found
+    pub sound : IsSound committee found
 
   -- .. which is spoilt
   pub record IsSpoiltBeside (receipts : List Receipt) (c : Certificate) (e : LogError) : Type 0 where
     pub found : Option Receipt
     pub read : IsFoundIn receipts c.view found
     pub foreign : ShowsForeignVote replica (votes_found found) c
-    pub spoilt : IsSpoilt committee c.id found e
+    pub spoilt : IsSpoilt committee found e
 
   -- it can't be told whether the certificate is remembered: the log can't be read in its view, or what it has there is spoilt
   abbrev pub IsUndecided : List Receipt → Certificate → LogError → Type 0
@@ -115,7 +115,7 @@ module _ {D : Type 0} (disk : Ghosts D) (committee : List ℕ) (replica : ℕ) (
     pub found : Option Receipt
     pub read : IsFoundIn [] vote.view found
     pub forgotten : IsForgottenVote committee replica (votes_found found) vote
-    pub sound : IsSound committee vote.id found
+    pub sound : IsSound committee found
     pub on : ballot ≡ ballot_of vote
 
   -- beside a good vote the one in the log, which is another, is spoilt
@@ -124,7 +124,7 @@ module _ {D : Type 0} (disk : Ghosts D) (committee : List ℕ) (replica : ℕ) (
     pub found : Option Receipt
     pub read : IsFoundIn [] vote.view found
     pub forgotten : IsForgottenVote committee replica (votes_found found) vote
-    pub spoilt : IsSpoilt committee vote.id found e
+    pub spoilt : IsSpoilt committee found e
 
   -- a good certificate showed it to a caller, or such a vote in a log
   abbrev pub WasPutBack : Ballot → Type 0

@@ -23,7 +23,7 @@ module _ {D : Type 0} (disk : Ghosts D) (committee : List ℕ) (replica : ℕ) (
     pub found : Option Receipt
     pub read : IsFoundIn disk committee replica opening [] c.view found
     pub first : IsFirstForgotten committee replica (votes_found found) c v
-    pub sound : IsSound committee v.id found
+    pub sound : IsSound committee found
 
   -- it has no vote of this replica, or none that is good and is not the one in the log
   abbrev pub ShowsNone : Certificate → Type 0
@@ -40,7 +40,7 @@ module _ {D : Type 0} (disk : Ghosts D) (committee : List ℕ) (replica : ℕ) (
     pub found : Option Receipt
     pub read : IsFoundIn disk committee replica opening [] v.view found
     pub forgotten : IsForgottenVote committee replica (votes_found found) v
-    pub sound : IsSound committee v.id found
+    pub sound : IsSound committee found
 
   -- there is none, or one that is not good or is the one in the log
   abbrev pub OwnVoteShowsNone : Entry → Type 0

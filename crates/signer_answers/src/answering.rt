@@ -27,8 +27,8 @@ use vote_desk::{Answer, DeskError, DeskNaming, Reply, Session};
 /// certificate was found good: if another payload is approved, or none, the block is raised or held, and never voted for.
 /// A good certificate that has a vote of this replica, other than the one in the log, stops the callers of the desk: the block
 /// is not delivered, and `PutBack` is answered, behind what the keeper does where it is the first. The caller then has what shows
-/// it, and must not ask any more. That callers which come later are stopped is up to who calls this. Where the one in the log is on
-/// the same block and not good, bytes of it changed on the disk: nobody is stopped, and `Unread` is told. Where the desk holds a block
+/// it, and must not ask any more. That callers which come later are stopped is up to who calls this. If the one in the log is
+/// not good, on whatever block it is, bytes of it changed on the disk: nobody is stopped, and `Unread` is told. Where the desk holds a block
 /// for which the log has this replica's vote, that vote is told `Again`; the desk's refusal, where the log can't be read then for
 /// want of memory or since another call stopped it; and that the block is held, where it can't be read otherwise.
 pub fn answer<'a, N: DeskNaming, T: Wait, D: Disk, V: Verifier, K: Approver + Keeper>(

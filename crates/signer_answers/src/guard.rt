@@ -10,7 +10,7 @@ use crate::approver::Approver;
 use crate::keeper::Keeper;
 use crate::office::Office;
 use crate::shown::Shown;
-use blocks::{Ballot, CommitteeView, Id, NamedHeader};
+use blocks::{Ballot, CommitteeView, NamedHeader};
 use certificates::{CheckedBlock, check_vote};
 use own_votes::shows_foreign_vote;
 use stable_log::Disk;
@@ -57,22 +57,15 @@ fn has_other_vote(replica: u16, found: &Option<Receipt>, block: &CheckedBlock) -
     }
 }
 
-// Sees that what was found can tell of another vote on the block of this id. Where it is itself a vote on that block and is not good,
-// bytes of it changed on the disk, and another signature on the same block tells nothing.
-pub(crate) fn see_sound(
-    committee: &CommitteeView,
-    id: &Id,
-    found: &Option<Receipt>,
-) -> Result<(), LogError>
-    ensures sound { OnOk result (IsSound committee.now id.now found.now) }
-    ensures spoilt { IfErr result (IsSpoilt committee.now id.now found.now) }
+// Sees that what was found can tell of another vote in its view. If it is itself not good, whatever block it is on, bytes of it
+// changed on the disk: it may have been just the vote that was shown, so it tells nothing of that one.
+pub(crate) fn see_sound(committee: &CommitteeView, found: &Option<Receipt>) -> Result<(), LogError>
+    ensures sound { OnOk result (IsSound committee.now found.now) }
+    ensures spoilt { IfErr result (IsSpoilt committee.now found.now) }
 {
     let Some(receipt) = found else {
         return Ok(());
     };
-    if receipt.vote.id != *id {
-        return Ok(());
-    }
     match check_vote(committee, &receipt.vote) {
         Ok(()) => Ok(()),
         Err(_) => Err(LogError::BadEntry(receipt.number as usize)),
@@ -105,7 +98,7 @@ pub(crate) fn forgets<N: DeskNaming, T: Wait, D: Disk, K: Approver + Keeper>(
     if !has_other_vote(office.replica, &found, block) {
         return Ok(false);
     }
-    match see_sound(office.committee, certificate.id(), &found) {
+    match see_sound(office.committee, &found) {
         Ok(()) => Ok(true),
         Err(error) => Err(error),
     }

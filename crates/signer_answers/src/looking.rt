@@ -71,7 +71,7 @@ fn forgotten_in<N: DeskNaming, T: Wait, D: Disk, K: Approver + Keeper>(
     let Some(vote) = first_other(office.committee, office.replica, &found, certificate) else {
         return Ok(None);
     };
-    match see_sound(office.committee, &vote.id, &found) {
+    match see_sound(office.committee, &found) {
         Ok(()) => Ok(Some(vote)),
         Err(error) => Err(error),
     }
@@ -113,7 +113,7 @@ fn own_forgotten_in<N: DeskNaming, T: Wait, D: Disk, K: Approver + Keeper>(
     if !is_other(office.committee, office.replica, &found, &vote) {
         return Ok(None);
     }
-    match see_sound(office.committee, &vote.id, &found) {
+    match see_sound(office.committee, &found) {
         Ok(()) => Ok(Some(vote)),
         Err(error) => Err(error),
     }
@@ -205,7 +205,7 @@ fn stop_for<'a, N: DeskNaming, T: Wait, D: Disk, K: Approver + Keeper>(
 /// own vote, where the owner is this replica. Only such a vote is checked, and what the log has in its place. Where there is one, the
 /// callers of the desk are stopped, as by `answer`: what the vote is on is answered, and what shows it, behind what the keeper does
 /// where it is the first that shows it. `Memory` where an entry could not be read; else the log could not be read, or what it has in
-/// the vote's place is on the same block and not good, so that bytes of it changed: `BadEntry`.
+/// the vote's view is a vote that is not good, on whatever block, so that bytes of it changed: `BadEntry`.
 pub fn look_through<'a, N: DeskNaming, T: Wait, D: Disk, K: Approver + Keeper>(
     rt: &T,
     alloc: Global,

@@ -21,12 +21,10 @@ returns-in-Err-see_sound-clause-refused g c =
     let certificate = c.args.block.now.certificate in
     let found = c.in-Ok.found in
     let view : c.view.result ≡ certificate.view = search rules in
-    let id : c.id.result.now ≡ certificate.id = search rules in
     let foreign : ShowsForeignVote office.replica (votes_found found) certificate = search rules in
     inr (record {
       found = found;
       read = subst (λ (v : ℕ). IsFoundIn g.D.Disk n.committee n.replica n.opening c.args.receipts.now v found) view c.in-Ok.ensures.found;
       foreign = subst (λ (r : ℕ). ShowsForeignVote r (votes_found found) certificate) office.replica_is foreign;
-      spoilt = subst (λ (x : List ℕ). IsSpoilt x certificate.id found c.in-Err-see_sound.error) office.committee_is
-          (subst (λ (i : List ℕ). IsSpoilt office.committee.now i found c.in-Err-see_sound.error) id c.in-Err-see_sound.ensures.spoilt);
+      spoilt = subst (λ (x : List ℕ). IsSpoilt x found c.in-Err-see_sound.error) office.committee_is c.in-Err-see_sound.ensures.spoilt;
     })

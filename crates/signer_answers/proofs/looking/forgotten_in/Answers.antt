@@ -36,4 +36,4 @@ returns-in-Err-see_sound-clause-refused g c =
     (subst (λ (o : Option SignedVote). IsFirstOther n.replica n.committee certificate found o) some
     (subst (λ (r : ℕ). IsFirstOther r n.committee certificate found c.first_other.result) office.replica_is
     (subst (λ (x : List ℕ). IsFirstOther office.replica x certificate found c.first_other.result) office.committee_is c.first_other.ensures)))
-    (subst (λ (x : List ℕ). IsSpoilt x vote.id found e) office.committee_is c.in-Err-see_sound.ensures.spoilt))
+    (subst (λ (x : List ℕ). IsSpoilt x found e) office.committee_is c.in-Err-see_sound.ensures.spoilt))
