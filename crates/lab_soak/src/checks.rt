@@ -1,5 +1,6 @@
 //! What must hold at the end of a round.
 
+use crate::counts::Counts;
 use crate::failure::{Failure, same};
 use crate::keys::MOST_KEYS;
 use crate::model::{Kept, is_marked, known_blocks, linked};
@@ -209,13 +210,34 @@ fn is_whole(evidence: &Evidence, entries: usize) -> bool {
     evidence.sources() == [whole].as_slice()
 }
 
-// An audit of the log accuses just those signers that broke a rule, and proves just the commits of the model.
+// An audit of the evidence accuses just those signers that broke a rule, and proves just the commits of the model.
 fn nobody_honest_is_accused(
+    alloc: Global,
+    evidence: &Evidence,
+    round: &Round,
+    counts: &mut Counts,
+) -> Result<(), Failure> {
+    let report = audit(alloc, evidence)?;
+    let findings = Findings::of(alloc, &round.tree, round.desk.replica.stored())?;
+    if !names_signers(&report, findings.signers_broke_a_rule()) {
+        return Err(Failure::Refused("an audit names those who broke a rule"));
+    }
+    let commits = report.commits().len();
+    same(alloc, "commits", &findings.commits(alloc)?, &commits)?;
+    counts.commits = counts.commits.saturating_add(commits as u64);
+    counts.culprits = counts
+        .culprits
+        .saturating_add(report.verdicts().len() as u64);
+    Ok(())
+}
+
+// The log is audited as it is sent.
+fn audit_is_right(
     alloc: Global,
     committee: &CommitteeView,
     log: &mut VoteLog<MemoryDisk>,
     round: &Round,
-    run: &mut Run,
+    counts: &mut Counts,
 ) -> Result<(), Failure> {
     let texts = [exported(alloc, log)?];
     let Ok(evidence) = evidence_of(alloc, committee, &texts) else {
@@ -224,33 +246,32 @@ fn nobody_honest_is_accused(
     if !is_whole(&evidence, log.count()) {
         return Err(Failure::Refused("an export is whole"));
     }
-    let report = audit(alloc, &evidence)?;
-    let findings = Findings::of(alloc, &round.tree, round.desk.replica.stored())?;
-    if !names_signers(&report, findings.signers_broke_a_rule()) {
-        return Err(Failure::Refused("an audit names those who broke a rule"));
-    }
-    let commits = report.commits().len();
-    same(alloc, "commits", &findings.commits(alloc)?, &commits)?;
-    let counts = &mut run.counts;
-    counts.commits = counts.commits.saturating_add(commits as u64);
-    counts.culprits = counts
-        .culprits
-        .saturating_add(report.verdicts().len() as u64);
-    Ok(())
+    nobody_honest_is_accused(alloc, &evidence, round, counts)
 }
 
-/// Checks what is found at the end of a round.
-pub(crate) fn check(
+// Checks what is found at the end of a round.
+fn check(
     alloc: Global,
     committee: &CommitteeView,
     log: &mut VoteLog<MemoryDisk>,
     round: &Round,
-    run: &mut Run,
+    counts: &mut Counts,
 ) -> Result<(), Failure> {
     nothing_is_lost(log, &round.released)?;
     let votes = no_index_comes_twice(alloc, committee, log)?;
-    let counts = &mut run.counts;
     counts.stored_votes = counts.stored_votes.saturating_add(votes);
     counts.beyond = counts.beyond.saturating_add(u64::from(round.beyond));
-    nobody_honest_is_accused(alloc, committee, log, round, run)
+    audit_is_right(alloc, committee, log, round, counts)
+}
+
+/// Checks the log that is found at the end of a round.
+pub(crate) fn check_log(
+    alloc: Global,
+    committee: &CommitteeView,
+    log: VoteLog<MemoryDisk>,
+    round: &Round,
+    run: &mut Run,
+) -> Result<(), Failure> {
+    let mut log = log;
+    check(alloc, committee, &mut log, round, &mut run.counts)
 }

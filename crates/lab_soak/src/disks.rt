@@ -24,11 +24,18 @@ const MOST_INDEX_CALLS: u32 = 8;
 /// How many calls of a recovery succeed at the most before one fails.
 const MOST_READS: u32 = 8;
 
-/// What is left of a replica.
+/// The two disks.
 #[derive(Drop)]
 pub(crate) struct Disks {
-    pub index: MemoryDisk,
-    pub log: MemoryDisk,
+    index: MemoryDisk,
+    log: MemoryDisk,
+}
+
+/// What is left of a replica.
+#[derive(Drop)]
+pub(crate) struct Remains {
+    pub trees: Vec<SigningTree>,
+    pub disks: Disks,
 }
 
 /// Why a disk could not be read.
@@ -172,12 +179,43 @@ fn fuses(random: &mut Random) -> Fuses {
     }
 }
 
+// The stores of a replica.
+type Stores = (IndexStore<MemoryDisk>, VoteLog<MemoryDisk>);
+
+// The stores on the disks, which fail so from then on.
+fn stores_on(
+    alloc: Global,
+    committee: &CommitteeView,
+    disks: Disks,
+    fuses: Fuses,
+    run: &mut Run,
+) -> Result<Stores, Failure> {
+    let Disks { index, log } = disks;
+    let index = come_up::<IndexStore<MemoryDisk>>(alloc, committee, index, fuses.index, run)?;
+    let log = come_up::<VoteLog<MemoryDisk>>(alloc, committee, log, fuses.log, run)?;
+    Ok((index, log))
+}
+
+// The model restarts on the stores, which have what it says.
+fn restart(
+    alloc: Global,
+    log: &VoteLog<MemoryDisk>,
+    index: &IndexStore<MemoryDisk>,
+    round: &mut Round,
+    run: &mut Run,
+) -> Result<(), Failure> {
+    let Round { tree, desk, .. } = round;
+    if desk.restart(alloc, tree, log.count(), index.left())? {
+        one_more(&mut run.counts.found);
+    }
+    judge(alloc, round, log, index)
+}
+
 /// The replica comes up on its disks, and finds there what the model says. A round that is over meets no failure any more.
 pub(crate) fn recovered(
     alloc: Global,
     committee: &CommitteeView,
-    trees: Vec<SigningTree>,
-    disks: Disks,
+    remains: Remains,
     round: &mut Round,
     run: &mut Run,
 ) -> Result<Parts<MemoryDisk>, Failure> {
@@ -186,15 +224,9 @@ pub(crate) fn recovered(
     } else {
         fuses(&mut run.random)
     };
-    let index = come_up::<IndexStore<MemoryDisk>>(alloc, committee, disks.index, fuses.index, run)?;
-    let log = come_up::<VoteLog<MemoryDisk>>(alloc, committee, disks.log, fuses.log, run)?;
-    let is_found = round
-        .desk
-        .restart(alloc, &round.tree, log.count(), index.left())?;
-    if is_found {
-        one_more(&mut run.counts.found);
-    }
-    judge(alloc, round, &log, &index)?;
+    let Remains { trees, disks } = remains;
+    let (index, log) = stores_on(alloc, committee, disks, fuses, run)?;
+    restart(alloc, &log, &index, round, run)?;
     round.desk.fuse(fuses);
     Ok(Parts { trees, index, log })
 }
@@ -226,22 +258,27 @@ fn choice(random: &mut Random) -> Choice {
     }
 }
 
-/// The keys, and what a crash or a restart leaves of the disks.
-pub(crate) fn left(
-    parts: Parts<MemoryDisk>,
-    run: &mut Run,
-) -> Result<(Vec<SigningTree>, Disks), AllocError> {
-    let Parts { trees, index, log } = parts;
-    let index = index.into_disk();
-    let log = log.into_disk();
+// What a crash or a restart leaves of the disks.
+fn after_all(disks: Disks, run: &mut Run) -> Result<Disks, AllocError> {
     if run.random.percent(40) {
         one_more(&mut run.counts.restarts);
-        return Ok((trees, Disks { index, log }));
+        return Ok(disks);
     }
     one_more(&mut run.counts.crashes);
-    let index = index.crash(choice(&mut run.random))?;
-    let log = log.crash(choice(&mut run.random))?;
-    Ok((trees, Disks { index, log }))
+    let index = disks.index.crash(choice(&mut run.random))?;
+    let log = disks.log.crash(choice(&mut run.random))?;
+    Ok(Disks { index, log })
+}
+
+/// The keys, and what a crash or a restart leaves of the disks.
+pub(crate) fn left(parts: Parts<MemoryDisk>, run: &mut Run) -> Result<Remains, AllocError> {
+    let Parts { trees, index, log } = parts;
+    let disks = Disks {
+        index: index.into_disk(),
+        log: log.into_disk(),
+    };
+    let disks = after_all(disks, run)?;
+    Ok(Remains { trees, disks })
 }
 
 // The index disk of a new replica all of whose indices below this one were given.

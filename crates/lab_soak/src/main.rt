@@ -44,14 +44,19 @@ const SHORT: Plan = Plan {
     operations: 1_000,
 };
 
+fn number(word: &str) -> Option<u64> {
+    word.parse::<u64>().ok()
+}
+
 impl Plan {
     fn read(words: &[String]) -> Option<Plan> {
         match words {
             [] => Some(SHORT),
-            [seed, operations] => Some(Plan {
-                seed: seed.parse::<u64>().ok()?,
-                operations: operations.parse::<u64>().ok()?,
-            }),
+            [seed, operations] => {
+                let seed = number(seed)?;
+                let operations = number(operations)?;
+                Some(Plan { seed, operations })
+            }
             _ => None,
         }
     }

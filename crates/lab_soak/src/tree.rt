@@ -126,8 +126,10 @@ impl BlockTree {
         let Ok(certificate) = Certificate::read(alloc, &block.certificate) else {
             return Err(Failure::Refused("a certificate is read"));
         };
-        let checked = check_block(committee, &LmsVerifier, block.header, certificate);
-        checked.map_err(|_| Failure::Refused("a certificate is good"))
+        match check_block(committee, &LmsVerifier, block.header, certificate) {
+            Ok(checked) => Ok(checked),
+            Err(_) => Err(Failure::Refused("a certificate is good")),
+        }
     }
 }
 
