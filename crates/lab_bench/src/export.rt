@@ -56,15 +56,23 @@ impl Export {
         let Ok(length) = u32::try_from(certificate.len().saturating_add(ENTRY_LEN)) else {
             return Err(io::Error::from(io::ErrorKind::InvalidInput));
         };
-        self.text.extend_from_slice(&length.to_be_bytes())?;
-        self.text.push(VOTED)?;
-        self.text.extend_from_slice(&block.to_bytes())?;
-        self.text.extend_from_slice(&parent.to_bytes())?;
-        self.text.push(vote.key)?;
-        self.text.extend_from_slice(&vote.view.to_be_bytes())?;
-        self.text.extend_from_slice(&vote.id)?;
-        self.text.extend_from_slice(&vote.signature)?;
-        self.text.extend_from_slice(certificate)?;
+        let (block, parent) = (block.to_bytes(), parent.to_bytes());
+        let (length, view) = (length.to_be_bytes(), vote.view.to_be_bytes());
+        let (voted, key) = ([VOTED], [vote.key]);
+        let pieces: [&[u8]; 9] = [
+            &length,
+            &voted,
+            &block,
+            &parent,
+            &key,
+            &view,
+            &vote.id,
+            &vote.signature,
+            certificate,
+        ];
+        for piece in pieces {
+            self.text.extend_from_slice(piece)?;
+        }
         self.frames = self.frames.saturating_add(1);
         Ok(())
     }

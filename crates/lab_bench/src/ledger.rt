@@ -4,7 +4,7 @@ use crate::chain::{Certified, Votes, block_on};
 use crate::export::{Export, certificate};
 use crate::keys::Keys;
 use crate::plan::{BRANCH, Kind, LOG_ENTRIES, Plan};
-use blocks::{CommitteeView, NamedHeader};
+use blocks::{CommitteeView, Header, NamedHeader};
 use certificates::SignedVote;
 use parallel_verify::SourceText;
 use std::alloc::Global;
@@ -54,6 +54,9 @@ impl Stretch {
     }
 }
 
+// A part of a chain, and what its first block stands on.
+type Part<'a> = (&'a Certified, &'a Stretch);
+
 fn refused() -> io::Error {
     io::Error::from(io::ErrorKind::InvalidInput)
 }
@@ -64,6 +67,15 @@ fn log_of(replica: u16, export: Export) -> io::Result<SourceText> {
         replica,
         text: export.end()?,
     })
+}
+
+// The log of a replica that votes for these parts of a chain.
+fn log_along<'b>(alloc: Global, replica: u16, parts: &'b [Part<'b>]) -> io::Result<SourceText> {
+    let mut export = Export::new(alloc)?;
+    for (base, stretch) in parts {
+        stretch.put(base, replica, &mut export)?;
+    }
+    log_of(replica, export)
 }
 
 // The log of replica 0 alone.
@@ -119,6 +131,41 @@ impl<'a, R: Threads + Sync> Site<'a, R> {
         })
     }
 
+    // So many blocks from a view on, the first on `base`.
+    fn blocks_on(
+        &self,
+        base: &NamedHeader,
+        first_view: u64,
+        count: u16,
+    ) -> io::Result<Vec<NamedHeader>> {
+        let mut headers = Vec::new(self.alloc);
+        let mut parent = *base;
+        for view in (first_view..u64::MAX).take(usize::from(count)) {
+            parent = block_on(&parent, view).ok_or_else(refused)?;
+            headers.push(parent)?;
+        }
+        Ok(headers)
+    }
+
+    // These blocks, with certificates that a quorum from a replica on signs.
+    fn certified(
+        &self,
+        headers: &[NamedHeader],
+        votes: &Votes,
+        first_signer: u16,
+    ) -> io::Result<Vec<Certified>> {
+        let quorum = self.quorum();
+        let mut blocks = Vec::new(self.alloc);
+        for (place, block) in headers.iter().enumerate() {
+            let certificate = votes.certificate(self.alloc, block, place, first_signer, quorum)?;
+            blocks.push(Certified {
+                block: *block,
+                certificate,
+            })?;
+        }
+        Ok(blocks)
+    }
+
     // So many blocks from a view on, the first on `base`. Those who sign their certificates are a quorum from a replica on.
     fn stretch(
         &self,
@@ -127,22 +174,9 @@ impl<'a, R: Threads + Sync> Site<'a, R> {
         count: u16,
         first_signer: u16,
     ) -> io::Result<Stretch> {
-        let alloc = self.alloc;
-        let mut headers = Vec::new(alloc);
-        let mut parent = base.block;
-        for view in (first_view..u64::MAX).take(usize::from(count)) {
-            parent = block_on(&parent, view).ok_or_else(refused)?;
-            headers.push(parent)?;
-        }
+        let headers = self.blocks_on(&base.block, first_view, count)?;
         let votes = self.votes(self.keys.trees().len(), &headers)?;
-        let quorum = self.quorum();
-        let mut blocks = Vec::new(alloc);
-        for (place, block) in headers.iter().enumerate() {
-            blocks.push(Certified {
-                block: *block,
-                certificate: votes.certificate(alloc, block, place, first_signer, quorum)?,
-            })?;
-        }
+        let blocks = self.certified(&headers, &votes, first_signer)?;
         Ok(Stretch { blocks, votes })
     }
 
@@ -153,21 +187,40 @@ impl<'a, R: Threads + Sync> Site<'a, R> {
         Votes::sign(self.rt, self.alloc, trees, self.committee.chain(), blocks)
     }
 
+    // The logs of all replicas. Those of the first quorum have votes for `first`, the others for `others`.
+    fn logs<'b>(
+        &self,
+        first: &'b [Part<'b>],
+        others: &'b [Part<'b>],
+    ) -> io::Result<Vec<SourceText>> {
+        let mut logs = Vec::new(self.alloc);
+        for replica in 0..self.committee.n() {
+            let parts = if replica < self.quorum() {
+                first
+            } else {
+                others
+            };
+            logs.push(log_along(self.alloc, replica, parts)?)?;
+        }
+        Ok(logs)
+    }
+
+    // These logs, all of whose votes are good.
+    fn good(&self, logs: Vec<SourceText>, sample: &[SignedVote]) -> io::Result<Ledger> {
+        Ok(Ledger {
+            logs,
+            bad_votes: 0,
+            sample: sample.to_vec(self.alloc)?,
+        })
+    }
+
     // All replicas vote for all blocks of one chain, and send the same entries but for their own votes.
     fn honest(&self, blocks: u16) -> io::Result<Ledger> {
         let genesis = self.genesis()?;
         let trunk = self.stretch(&genesis, 1, blocks, 0)?;
-        let mut logs = Vec::new(self.alloc);
-        for replica in 0..self.committee.n() {
-            let mut export = Export::new(self.alloc)?;
-            trunk.put(&genesis, replica, &mut export)?;
-            logs.push(log_of(replica, export)?)?;
-        }
-        Ok(Ledger {
-            logs,
-            bad_votes: 0,
-            sample: trunk.votes.of(0).to_vec(self.alloc)?,
-        })
+        let parts = [(&genesis, &trunk)];
+        let logs = self.logs(&parts, &parts)?;
+        self.good(logs, trunk.votes.of(0))
     }
 
     // The first 2f + 1 replicas vote for the one branch and the last 2f + 1 for the other, so that f + 1 vote for both. These
@@ -176,27 +229,14 @@ impl<'a, R: Threads + Sync> Site<'a, R> {
         let genesis = self.genesis()?;
         let trunk = self.stretch(&genesis, 1, blocks, 0)?;
         let fork = trunk.blocks.last().unwrap_or(&genesis);
-        let left_view = u64::from(blocks) + 1;
-        let left = self.stretch(fork, left_view, BRANCH, 0)?;
-        let right_view = left_view + u64::from(BRANCH);
-        let right = self.stretch(fork, right_view, BRANCH, self.faulty())?;
-        let mut logs = Vec::new(self.alloc);
-        for replica in 0..self.committee.n() {
-            let mut export = Export::new(self.alloc)?;
-            trunk.put(&genesis, replica, &mut export)?;
-            let branch = if replica < self.quorum() {
-                &left
-            } else {
-                &right
-            };
-            branch.put(fork, replica, &mut export)?;
-            logs.push(log_of(replica, export)?)?;
-        }
-        Ok(Ledger {
-            logs,
-            bad_votes: 0,
-            sample: trunk.votes.of(0).to_vec(self.alloc)?,
-        })
+        let view = u64::from(blocks) + 1;
+        let left = self.stretch(fork, view, BRANCH, 0)?;
+        let right = self.stretch(fork, view + u64::from(BRANCH), BRANCH, self.faulty())?;
+        let logs = self.logs(
+            &[(&genesis, &trunk), (fork, &left)],
+            &[(&genesis, &trunk), (fork, &right)],
+        )?;
+        self.good(logs, trunk.votes.of(0))
     }
 
     // The log of replica 0 that has its votes for these blocks on genesis.
@@ -214,13 +254,19 @@ impl<'a, R: Threads + Sync> Site<'a, R> {
         log_of(0, export)
     }
 
+    // Blocks on genesis, one in each view.
+    fn flat_blocks(&self, genesis: &NamedHeader, blocks: u16) -> io::Result<Vec<NamedHeader>> {
+        let mut headers = Vec::new(self.alloc);
+        for view in 1..=u64::from(blocks) {
+            headers.push(block_on(genesis, view).ok_or_else(refused)?)?;
+        }
+        Ok(headers)
+    }
+
     // Replica 0 votes for one block on genesis in each view, and hands out full logs, of which the last may be shorter.
     fn flat(&self, blocks: u16) -> io::Result<Ledger> {
         let genesis = self.genesis()?;
-        let mut headers = Vec::new(self.alloc);
-        for view in 1..=u64::from(blocks) {
-            headers.push(block_on(&genesis.block, view).ok_or_else(refused)?)?;
-        }
+        let headers = self.flat_blocks(&genesis.block, blocks)?;
         let votes = self.votes(1, &headers)?;
         let votes = votes.of(0);
         let mut logs = Vec::new(self.alloc);
@@ -228,11 +274,23 @@ impl<'a, R: Threads + Sync> Site<'a, R> {
         for (blocks, votes) in headers.chunks(entries).zip(votes.chunks(entries)) {
             logs.push(self.votes_on(&genesis, blocks, votes)?)?;
         }
-        Ok(Ledger {
-            logs,
-            bad_votes: 0,
-            sample: votes.to_vec(self.alloc)?,
-        })
+        self.good(logs, votes)
+    }
+
+    // The log of replica 0 that has the entry of its vote for a block so often.
+    fn copies(
+        &self,
+        count: u16,
+        block: &Header,
+        parent: &Header,
+        vote: &SignedVote,
+        certificate: &[u8],
+    ) -> io::Result<Vec<SourceText>> {
+        let mut export = Export::new(self.alloc)?;
+        for _ in 0..count {
+            export.put_entry(block, parent, vote, certificate)?;
+        }
+        only_log(self.alloc, export)
     }
 
     // An entry whose certificate on block 1 has the signatures that a quorum made for block 2.
@@ -244,12 +302,9 @@ impl<'a, R: Threads + Sync> Site<'a, R> {
         };
         let quorum = self.quorum();
         let bad = votes.certificate(self.alloc, &first.block, 1, 0, quorum)?;
-        let mut export = Export::new(self.alloc)?;
-        for _ in 0..copies {
-            export.put_entry(second.block.header(), first.block.header(), vote, &bad)?;
-        }
+        let (block, parent) = (second.block.header(), first.block.header());
         Ok(Ledger {
-            logs: only_log(self.alloc, export)?,
+            logs: self.copies(copies, block, parent, vote, &bad)?,
             bad_votes: usize::from(quorum),
             sample: votes.of(0).to_vec(self.alloc)?,
         })

@@ -43,7 +43,7 @@ fn run<R: Threads + Wait + Clock + Sync>(
 ) -> io::Result<Measured> {
     let site = Site::of(rt, alloc, keys)?;
     let ledger = site.ledger(plan)?;
-    measure(rt, alloc, site.committee(), ledger)
+    measure(rt, alloc, site.committee(), &ledger)
 }
 
 // Small ledgers, and what is found in them.
@@ -56,7 +56,7 @@ fn run_small<R: Threads + Wait + Clock + Print + Sync>(rt: &R, alloc: Global) ->
             blocks,
         };
         let measured = run(rt, alloc, &keys, plan)?;
-        print_counts(rt, plan, &measured)?;
+        print_counts(rt, plan, &measured.found)?;
     }
     Ok(())
 }

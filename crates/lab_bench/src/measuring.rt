@@ -9,8 +9,8 @@ use crate::lent::Lent;
 use crate::phases::{Phases, Times, since};
 use blocks::CommitteeView;
 use certificates::{SignedVote, check_vote};
-use culprit_search::audit;
-use log_transfer::Watched;
+use culprit_search::{Report, audit};
+use log_transfer::{Connector, Watched};
 use parallel_verify::{
     Evidence, EvidenceRefusal, Judging, Source, SourceText, evidence_of, read_sources, unobserved,
 };
@@ -26,15 +26,21 @@ const MOST_TIMED: usize = 200;
 /// How often their checks are timed.
 const PASSES: u8 = 3;
 
-/// What an audit found, and how long it took.
+/// What an audit found.
 #[derive(Clone, Copy)]
-pub(crate) struct Measured {
+pub(crate) struct Found {
     /// How many frames spell entries.
     pub entries: usize,
     /// How many different votes were shown, good or bad.
     pub votes: usize,
     pub commits: usize,
     pub culprits: usize,
+}
+
+/// What an audit found, and how long it took.
+#[derive(Clone, Copy)]
+pub(crate) struct Measured {
+    pub found: Found,
     /// How long it takes to check each different vote once, in microseconds, as measured on some of them.
     pub floor: u64,
     /// How long the evidence takes on one thread, in microseconds.
@@ -88,15 +94,23 @@ fn floor_of<R: Clock>(
 // A log in memory whose reading is watched.
 type Log<'a, R> = Watched<'a, Lent<'a>, Phases<'a, R>>;
 
+// A source that is read once.
+fn once<C: Connector>(replica: u16, connector: C) -> Source<C>
+    ensures { MayBeTried (λ c. 1) result }
+{
+    Source {
+        replica,
+        connector,
+        tries: 1,
+    }
+}
+
 // A source that sends this log, and is read once.
 fn source<'a, R: Clock>(phases: &'a Phases<'a, R>, log: &'a SourceText) -> Source<Log<'a, R>>
     ensures { MayBeTried (λ c. 1) result }
 {
-    Source {
-        replica: log.replica,
-        connector: Watched::new(Lent::new(&log.text), phases, log.replica.into()),
-        tries: 1,
-    }
+    let lent = Lent::new(&log.text);
+    once(log.replica, Watched::new(lent, phases, log.replica.into()))
 }
 
 // Adds a source.
@@ -156,30 +170,35 @@ fn entries_in(evidence: &Evidence) -> usize {
     entries
 }
 
-// The evidence of the logs on one thread, and what an audit of it finds.
+fn found_in(evidence: &Evidence, report: &Report) -> Found {
+    Found {
+        entries: entries_in(evidence),
+        votes: evidence.votes().len(),
+        commits: report.commits().len(),
+        culprits: report.verdicts().len(),
+    }
+}
+
+// What an audit finds in the evidence, and how long that takes.
+fn search<R: Clock>(rt: &R, alloc: Global, evidence: &Evidence) -> io::Result<(Found, u64)> {
+    let start = Instant::now(rt)?;
+    let report = audit(alloc, evidence)?;
+    let time = since(rt, start)?;
+    Ok((found_in(evidence, &report), time))
+}
+
+// What an audit of the logs finds, and how long their evidence takes on one thread, and its search.
 fn audit_alone<R: Clock>(
     rt: &R,
     alloc: Global,
     committee: &CommitteeView,
     logs: &[SourceText],
-) -> io::Result<Measured> {
+) -> io::Result<(Found, u64, u64)> {
     let start = Instant::now(rt)?;
     let evidence = evidence_of(alloc, committee, logs).map_err(error_of)?;
     let one_thread = since(rt, start)?;
-    let start = Instant::now(rt)?;
-    let report = audit(alloc, &evidence)?;
-    let audit = since(rt, start)?;
-    Ok(Measured {
-        entries: entries_in(&evidence),
-        votes: evidence.votes().len(),
-        commits: report.commits().len(),
-        culprits: report.verdicts().len(),
-        floor: 0,
-        one_thread,
-        threads: Times::default(),
-        judged: Times::default(),
-        audit,
-    })
+    let (found, audit) = search(rt, alloc, &evidence)?;
+    Ok((found, one_thread, audit))
 }
 
 /// Audits the ledger: its evidence is gathered on one thread and searched, and then gathered with a thread for each log, first alone and
@@ -188,20 +207,20 @@ pub(crate) fn measure<R: Threads + Wait + Clock + Sync>(
     rt: &R,
     alloc: Global,
     committee: &CommitteeView,
-    ledger: Ledger,
+    ledger: &Ledger,
 ) -> io::Result<Measured> {
-    let Ledger {
-        logs,
-        bad_votes,
-        sample,
-    } = ledger;
-    let found = audit_alone(rt, alloc, committee, &logs)?;
-    let votes = found.votes.saturating_add(bad_votes);
+    let logs = ledger.logs.as_slice();
+    let (good, one_thread, audit) = audit_alone(rt, alloc, committee, logs)?;
+    let votes = good.votes.saturating_add(ledger.bad_votes);
+    let floor = floor_of(rt, committee, &ledger.sample, votes)?;
+    let threads = time_of_threads(rt, alloc, committee, logs, good.votes, Judging::No)?;
+    let judged = time_of_threads(rt, alloc, committee, logs, good.votes, Judging::Each)?;
     Ok(Measured {
-        votes,
-        floor: floor_of(rt, committee, &sample, votes)?,
-        threads: time_of_threads(rt, alloc, committee, &logs, found.votes, Judging::No)?,
-        judged: time_of_threads(rt, alloc, committee, &logs, found.votes, Judging::Each)?,
-        ..found
+        found: Found { votes, ..good },
+        floor,
+        one_thread,
+        threads,
+        judged,
+        audit,
     })
 }

@@ -1,6 +1,6 @@
 //! What is printed.
 
-use crate::measuring::Measured;
+use crate::measuring::{Found, Measured};
 use crate::plan::Plan;
 use std::io;
 
@@ -10,18 +10,17 @@ pub(crate) const HEAD: &str =
 |---|---|---|---|---|---|---|---|---|---|---|---|---|";
 
 /// Prints what was found.
-pub(crate) fn print_counts<R: Print>(rt: &R, plan: Plan, found: &Measured) -> io::Result<()> {
+pub(crate) fn print_counts<R: Print>(rt: &R, plan: Plan, found: &Found) -> io::Result<()> {
     let Plan {
         kind,
         replicas,
         blocks,
     } = plan;
-    let Measured {
+    let Found {
         entries,
         votes,
         commits,
         culprits,
-        ..
     } = *found;
     println!(rt;
         "{} {replicas} {blocks}: entries {entries} votes {votes} commits {commits} culprits {culprits}",
@@ -44,7 +43,7 @@ pub(crate) fn print_row<R: Print>(rt: &R, plan: Plan, found: &Measured) -> io::R
         blocks,
     } = plan;
     let name = kind.name();
-    let votes = found.votes;
+    let votes = found.found.votes;
     let floor = found.floor / 1_000;
     let one_thread = found.one_thread / 1_000;
     let threads = found.threads.whole() / 1_000;
