@@ -316,3 +316,32 @@ def audit_files(room, logs):
             out.write(export_of(entries))
         sources.append(f"{number}=file:{path}")
     return audit(room, sources)
+
+
+VOTES_OF_A_KEY = 1024
+
+
+def make_committee(room, replicas, blocks):
+    """A committee of so many replicas, with keys enough for so many votes each: its file, and the folder of each."""
+    words, folders = [], []
+    keys = -(-blocks // VOTES_OF_A_KEY)
+    for number in range(replicas):
+        folder = f"{room}/replica-{number}"
+        os.mkdir(folder, 0o700)
+        for key in range(keys):
+            seed = bytes([number, key]) * 24
+            subprocess.run([TOOL, "keygen", seed.hex(), folder, *(["--key", str(key)] if key else [])], check=True, stdout=subprocess.DEVNULL)
+        words.append("1=" + ",".join(f"{folder}/key-{key}.pub" if key else f"{folder}/key.pub" for key in range(keys)))
+        folders.append(folder)
+    committee = f"{room}/committee.hsc"
+    subprocess.run([TOOL, "weighted", committee, *words], check=True, stdout=subprocess.DEVNULL)
+    return committee, folders
+
+
+def vote_all(pool, signers, tip, view):
+    """The block of a view on a tip, and who it is by the votes of these signers, who are asked at once."""
+    header = tip.child(view)
+    answers = list(pool.map(lambda signer: signer.deliver(header, tip.certificate), signers))
+    if not all(answer and answer[1].startswith(b"voted ") for answer in answers):
+        raise Failed(f"the block of view {view} is answered {answers}")
+    return tip.after(header, [Vote(answer[1]).bytes for answer in answers])
