@@ -338,10 +338,10 @@ def make_committee(room, replicas, blocks):
     return committee, folders
 
 
-def vote_all(pool, signers, tip, view):
-    """The block of a view on a tip, and who it is by the votes of these signers, who are asked at once."""
+def vote_all(pool, signers, tip, view, most=None):
+    """The block of a view on a tip, by the votes of these signers, who are asked at once; its certificate has so many of them at most."""
     header = tip.child(view)
     answers = list(pool.map(lambda signer: signer.deliver(header, tip.certificate), signers))
     if not all(answer and answer[1].startswith(b"voted ") for answer in answers):
         raise Failed(f"the block of view {view} is answered {answers}")
-    return tip.after(header, [Vote(answer[1]).bytes for answer in answers])
+    return tip.after(header, [Vote(answer[1]).bytes for answer in answers[:most]])

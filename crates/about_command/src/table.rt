@@ -191,6 +191,7 @@ hs_tool audit | culprit R rule K views V V | Replica R broke rule K by its votes
 hs_follow | culprit R rule K views V V | Replica R broke rule K by its votes in these views. | hs_tool audit over the same sources writes the verdict.\n\
 hs_tool audit, hs_follow | culprits N | So many replicas broke a rule in what was read. With 0 none was found in it: a log that was withheld may hold more. | Read the lines of the sources.\n\
 hs_tool audit, hs_follow | culprits N weight S of W | So many replicas broke a rule, and weigh so much of the whole weight. | A conflict has more than a third of it. Read the lines of the sources.\n\
+hs_tool audit, hs_follow | handover V ID committed, N commits after it | The committee hands its ledger over by the block ID of view V, and so many of the commits above are of blocks after it: these count for nothing. | Begin the new chain behind block ID.\n\
 hs_follow | follows view V id ID | By what the logs prove the old committee handed its ledger over to NEW, in block ID of view V. | Go on with NEW.\n\
 hs_follow | follows another view V id ID payload HEX | The old committee handed its ledger over to another file than NEW. | Get the file whose digest begins as the payload says, behind HSN1.\n\
 hs_follow | follows none | The logs prove no handover. | Get more logs, or later ones.\n\

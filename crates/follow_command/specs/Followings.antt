@@ -7,6 +7,8 @@ use Rattle.evidence.specs.Evidence.{Evidence}
 use Rattle.commit_search.specs.Commits.{HasNoConflict}
 use Rattle.handover.specs.Handovers.{IsFirstCommitted, IsHandover, handover_payload}
 use Rattle.handover_proof.specs.Proofs.{IsHandedOverBy}
+use Rattle.handover_lines.specs.HandoverLines.{commits_after, handover_line}
+use Rattle.culprit_search.specs.declared.report.Commit.{Commit}
 use Rattle.follow_command.specs.declared.following.Following.{Following}
 use Rattle.follow_command.specs.declared.following.Following.TheVariants.{Conflict, New, Another, Nobody}
 
@@ -36,12 +38,16 @@ new_line view id = codes "follows" ++ place_text view id ++ codes "\n"
 unfoldable pub another_line : ℕ → (id payload : List ℕ) → List ℕ
 another_line view id payload = codes "follows another" ++ place_text view id ++ codes " payload " ++ encode_lower payload ++ codes "\n"
 
+-- "handover V ID committed, N commits after it", by these proved commits
+abbrev pub committed_line : Header → List Commit → List ℕ
+committed_line b commits = handover_line b (commits_after b commits)
+
 -- where commits conflict there is no line
-abbrev pub following_line : Following → List ℕ
-following_line Conflict = []
-following_line (New b) = new_line b.view (header_id b)
-following_line (Another b) = another_line b.view (header_id b) b.payload
-following_line Nobody = codes "follows none\n"
+abbrev pub following_lines : Following → List Commit → List ℕ
+following_lines Conflict commits = []
+following_lines (New b) commits = committed_line b commits ++ new_line b.view (header_id b)
+following_lines (Another b) commits = committed_line b commits ++ another_line b.view (header_id b) b.payload
+following_lines Nobody commits = codes "follows none\n"
 
 abbrev pub status_of : Following → ℕ
 status_of Conflict = 3

@@ -11,7 +11,7 @@ use Rattle.evidence.specs.declared.source.SourceReport.{SourceReport}
 use Rattle.culprit_search.specs.Reports.{AreMoreThanAThird, IsAudit, Report}
 use Rattle.culprit_search.specs.ReportText.{report_text}
 use Rattle.program_parts.specs.declared.words.SourceWord.{SourceWord}
-use Rattle.follow_command.specs.Followings.{IsFollowing, following_line, status_of}
+use Rattle.follow_command.specs.Followings.{IsFollowing, following_lines, status_of}
 use Rattle.handover.specs.OldKeys.{HaveNoCommonKey}
 use Rattle.follow_command.specs.Sources.{IsShown}
 use Rattle.follow_command.specs.Words.{AskForStep}
@@ -32,9 +32,9 @@ pub record IsReportOf (e : Evidence) (r : Report) : Type 0 where
   pub accepted : All (IsProof e.committee) r.verdicts
   pub more_than_a_third : IsSome r.conflict → AreMoreThanAThird e.committee r
 
--- the lines of a report, and the line that says what follows
+-- the lines of a report, and the lines that say what follows
 abbrev pub step_text : List SourceReport → Report → Following → List ℕ
-step_text sources r f = report_text sources r ++ following_line f
+step_text sources r f = report_text sources r ++ following_lines f r.commits
 
 -- the status and the text of a step: the report on what these sources show under the old committee, and what that says of
 -- the new one, some two committees

@@ -6,11 +6,10 @@ ghost use Rattle.culprit_search.specs.Reports.{IsAudit};
 ghost use Rattle.follow_command.specs.Followings.{IsFollowing, status_of};
 
 use blocks::NamedHeader;
-use commit_search::{certified_chains, proved_commits};
 use culprit_search::Report;
 use evidence::Evidence;
 use handover::handover_payload;
-use handover_search::first_handover;
+use handover_lines::handover_of;
 use std::alloc::{AllocError, Global};
 
 /// What the evidence on a committee says of the one that is to come next.
@@ -60,9 +59,7 @@ pub fn follow(
     if report.conflict().is_some() {
         return Ok(Following::Conflict);
     }
-    let chains = certified_chains(alloc, evidence)?;
-    let commits = proved_commits(alloc, &chains)?;
-    match first_handover(&chains, &commits) {
+    match handover_of(alloc, evidence)? {
         Some(block) if is_to(&block, file) => Ok(Following::New(block)),
         Some(block) => Ok(Following::Another(block)),
         None => Ok(Following::Nobody),

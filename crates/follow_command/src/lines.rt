@@ -1,10 +1,13 @@
-//! The line that says which committee follows.
+//! The lines that say which committee follows.
 
 ghost use Rattle.std.specs.Prelude.{◌≡◌, ◌++◌, IfOk, OnOk};
-ghost use Rattle.follow_command.specs.Followings.{another_line, following_line, new_line, place_text};
+ghost use Rattle.handover_lines.specs.HandoverLines.{commits_after, handover_line};
+ghost use Rattle.follow_command.specs.Followings.{another_line, following_lines, new_line, place_text};
 
 use crate::following::Following;
-use blocks::Id;
+use blocks::{Id, NamedHeader};
+use culprit_search::Commit;
+use handover_lines::{commits_after, put_handover};
 use printed_lines::{put_id, put_number};
 use std::alloc::{AllocError, Global};
 use wire::append;
@@ -43,16 +46,37 @@ fn put_another(text: &mut Vec<u8>, view: u64, id: &Id, payload: &[u8; 32]) -> Re
     append(text, b"\n")
 }
 
-/// The line, or nothing where commits conflict.
-pub(crate) fn following_text(alloc: Global, following: &Following) -> Result<Vec<u8>, AllocError>
-    ensures { IfOk result (λ text. text.items ≡ following_line following.now) }
+// Adds the line of the handover, with how many of the commits are above it.
+fn put_committed(
+    text: &mut Vec<u8>,
+    block: &NamedHeader,
+    commits: &[Commit],
+) -> Result<(), AllocError>
+    ensures { OnOk result (text.new.items
+        ≡ text.old.items ++ handover_line block.now (commits_after block.now commits.now)) }
+{
+    put_handover(text, block, commits_after(block, commits))
+}
+
+/// The lines: of the handover that is proved, with how many of these commits are above it, and of who follows. Nothing where commits
+/// conflict.
+pub(crate) fn following_text(
+    alloc: Global,
+    following: &Following,
+    commits: &[Commit],
+) -> Result<Vec<u8>, AllocError>
+    ensures { IfOk result (λ text. text.items ≡ following_lines following.now commits.now) }
 {
     let mut text = Vec::new(alloc);
     match following {
         Following::Conflict => {}
-        Following::New(block) => put_new(&mut text, block.header().view, block.id())?,
+        Following::New(block) => {
+            put_committed(&mut text, block, commits)?;
+            put_new(&mut text, block.header().view, block.id())?;
+        }
         Following::Another(block) => {
             let header = block.header();
+            put_committed(&mut text, block, commits)?;
             put_another(&mut text, header.view, block.id(), &header.payload)?;
         }
         Following::Nobody => append(&mut text, b"follows none\n")?,

@@ -197,9 +197,9 @@ fn print<'a, W: Sink>(
         (step_text evidence.now.sources report.now following.now))) }
     ensures counted { CountsWrites result (W.failed out.old) (W.failed out.new) }
 {
-    let line = following_text(alloc, following)?;
+    let lines = following_text(alloc, following, report.commits())?;
     match write_report(alloc, evidence, report, out) {
-        Ok(()) => write_out(out, &line),
+        Ok(()) => write_out(out, &lines),
         Err(ReportError::Memory) => Err(ProgramFault::Memory),
         Err(ReportError::Sink) => Err(ProgramFault::Output),
     }

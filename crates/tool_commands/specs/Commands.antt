@@ -1,5 +1,5 @@
 -- What a command that was done has printed.
-use Rattle.std.specs.Prelude.{◌≡◌, ℕ, List, Option, codes, length, true}
+use Rattle.std.specs.Prelude.{◌≡◌, ◌⊎◌, ℕ, List, Option, codes, length, true}
 use Rattle.streams.specs.Streams.{Wrote}
 use Rattle.streams.specs.declared.feed.Feed.{Ghosts as FeedGhosts}
 use Rattle.stable_log.specs.declared.disk.Disk.{Ghosts as DiskGhosts}
@@ -10,6 +10,7 @@ use Rattle.tool_words.specs.declared.command.Command.{Command}
 use Rattle.tool_words.specs.declared.command.Command.TheVariants.{Usage, Keygen, Committee, Weighted, Replica, Audit, Migrate, Export}
 use Rattle.tool_commands.specs.AuditFiles.{HasStored}
 use Rattle.tool_commands.specs.Audits.{AreCulpritsPrinted, IsEnoughPrinted, IsTooLittlePrinted}
+use Rattle.tool_commands.specs.HandedOver.{TellsHandover}
 use Rattle.tool_commands.specs.Lines.{IsChainPrinted, IsExportPrinted, IsKeyPrinted, IsMigrationPrinted, IsTextOfKeys, IsTextOfReplicas}
 use Rattle.tool_commands.specs.Seeds.{IsSeedOf}
 use Rattle.tool_commands.specs.Stays.{AreReadOf, IsReplicaDone, IsStopPrinted}
@@ -53,10 +54,10 @@ abbrev pub AreTooFewSound : {D S F : Type 0} → Lent D S F → Command → (bef
 AreTooFewSound lent (Audit committee folder sources tries wishes) before after = IsTooLittlePrinted lent.connector wishes.strictness sources.items tries.count before after (HasStored lent.stored folder.now sources.items wishes.json)
 AreTooFewSound lent command before after = ⊥
 
--- it is asked to tell reasons
-abbrev pub TellsReasons : Command → Type 0
-TellsReasons (Audit committee folder sources tries wishes) = wishes.tells_why ≡ true
-TellsReasons command = ⊥
+-- beside its report it tells reasons, for which it is asked, or a handover
+abbrev pub TellsBeside : Command → (before after : Option (List ℕ)) → Type 0
+TellsBeside (Audit committee folder sources tries wishes) before after = (wishes.tells_why ≡ true) ⊎ TellsHandover before after
+TellsBeside command before after = ⊥
 
 -- .. of one that was stopped: it is a replica
 abbrev pub IsStopped : {D S F : Type 0} → Lent D S F → Command → (before after : Option (List ℕ)) → Type 0

@@ -3,6 +3,7 @@ pub mod AuditFiles
 pub mod Audits
 pub mod Commands
 pub mod FaultLines
+pub mod HandedOver
 pub mod Keeping
 pub mod Lines
 pub mod Occupied

@@ -8,6 +8,7 @@ ghost use Rattle.program_parts.specs.Writes.{CountsWrites};
 ghost use Rattle.report_json.specs.Data.{verdict_path};
 ghost use Rattle.tool_commands.specs.AuditFiles.{AreReportsOn, AreTried, HasStored, IsTried, fault_in, first_of, verdict_files};
 ghost use Rattle.tool_commands.specs.Audits.{AreCulpritsPrinted, Both, EndsAs, IsAuditPrinted, IsEndOf, IsEnoughPrinted, IsTooLittlePrinted, Of, status_of};
+ghost use Rattle.tool_commands.specs.HandedOver.{TellsHandover};
 ghost use Rattle.tool_commands.specs.Keeping.{AreKept};
 ghost use Rattle.tool_commands.specs.StoredFiles.{Stored, StoredFile};
 ghost use Rattle.tool_commands.specs.Strict.{AreFound, AreJudgedFor};
@@ -15,6 +16,7 @@ ghost use Rattle.parallel_verify.specs.Readings.{MayBeTriedIn, sources_of};
 ghost use Rattle.parallel_verify.specs.declared.judging.Judging.{Judging as JudgingValue};
 
 use crate::fault::{Fault, FolderFile, ToolFault, fault_of_run};
+use crate::handed_over::tell_handover;
 use crate::host::Host;
 use crate::keep::{KeepOne, Keeper};
 use crate::progress::Progress;
@@ -68,9 +70,9 @@ impl AuditEnd {
 
 /// Audits the logs of the sources that the words name, under the committee of the file, as `source_audit::audit_judged` does, which
 /// prints the report. Then the verdict on each culprit is stored in `folder`, new or in place of what was there. If `folder` is no
-/// folder, no source is read and nothing printed. If it is asked for, the logs are kept as they are read, `extras.whys` is told why
-/// sources are not sound, and where the verdicts are, and last a report for programs is stored, of which an older one is removed
-/// first. Answers how it ended.
+/// folder, no source is read and nothing printed. `extras.whys` is told of a handover. If it is asked for, the logs are kept as they are
+/// read, `extras.whys` is told why sources are not sound, and where the verdicts are, and last a report for programs is stored, of which
+/// an older one is removed first. Answers how it ended.
 pub(crate) fn audit_sources<
     'a,
     F: Files<File = File> + Sync,
@@ -105,7 +107,8 @@ where
         (HasStored (Stored (D.stored extras.old.files) (D.stored extras.new.files))
         folder.now words.now wishes.entry.json)) }
     ensures counted { CountsWrites result (W.failed out.old) (W.failed out.new) }
-    ensures reasons { (extras.new.whys ≡ extras.old.whys) ⊎ (wishes.entry.tells_why ≡ true) }
+    ensures reasons { (extras.new.whys ≡ extras.old.whys) ⊎ ((wishes.entry.tells_why ≡ true)
+        ⊎ TellsHandover (Y.text extras.old.whys) (Y.text extras.new.whys)) }
 {
     if let Some(path) = wishes.json {
         clear_report(host.files, host.alloc, path, committee, words)?;
@@ -149,7 +152,8 @@ fn audit_opened<
         (W.text out.old) (W.text out.new) (HasStored (Stored (D.stored extras.old.files)
         (D.stored extras.new.files)) folder.now words.now wishes.entry.json)) }
     ensures counted { CountsWrites result (W.failed out.old) (W.failed out.new) }
-    ensures reasons { (extras.new.whys ≡ extras.old.whys) ⊎ (wishes.entry.tells_why ≡ true) }
+    ensures reasons { (extras.new.whys ≡ extras.old.whys) ⊎ ((wishes.entry.tells_why ≡ true)
+        ⊎ TellsHandover (Y.text extras.old.whys) (Y.text extras.new.whys)) }
 {
     let mut keeper = keeper;
     let found = audit_kept(host, committee, verifier, sources, wishes, &mut keeper, out)?;
@@ -224,7 +228,8 @@ fn finish<'a, F: Files<File = File>, T: Clock, Y: Sink, D: StoreFiles>(
         × AreReportsOn folder.now words.now wishes.entry.json (status_of end) committee.now
         found.now.judged.items found.now.report reports) }
     ensures fault { IfErr result (λ fault. fault ≢ ProgramFault.Output) }
-    ensures reasons { (extras.new.whys ≡ extras.old.whys) ⊎ (wishes.entry.tells_why ≡ true) }
+    ensures reasons { (extras.new.whys ≡ extras.old.whys) ⊎ ((wishes.entry.tells_why ≡ true)
+        ⊎ TellsHandover (Y.text extras.old.whys) (Y.text extras.new.whys)) }
 {
     store_verdicts(&mut extras.files, host.alloc, folder, &found.report)?;
     tell_whys(
@@ -250,7 +255,7 @@ fn finish<'a, F: Files<File = File>, T: Clock, Y: Sink, D: StoreFiles>(
     )
 }
 
-// Tells why, if it is asked for.
+// Tells of a handover, and why, if it is asked for.
 fn tell_whys<'a, F: Files<File = File>, T, Y: Sink>(
     host: &Host<'a, F, T>,
     committee: &CommitteeView,
@@ -261,8 +266,11 @@ fn tell_whys<'a, F: Files<File = File>, T, Y: Sink>(
     end: AuditEnd,
     whys: &mut Y,
 )
-    ensures { (whys.new ≡ whys.old) ⊎ (wishes.entry.tells_why ≡ true) }
+    ensures { (whys.new ≡ whys.old) ⊎ ((wishes.entry.tells_why ≡ true)
+        ⊎ TellsHandover (Y.text whys.old) (Y.text whys.new)) }
 {
+    // What can't be told is lost.
+    let _ = tell_handover(host.alloc, found, whys);
     if !wishes.tells_why {
         return;
     }

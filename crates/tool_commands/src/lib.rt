@@ -6,6 +6,7 @@ mod audit;
 mod committee;
 mod export;
 mod fault;
+mod handed_over;
 mod host;
 mod keep;
 mod keygen;

@@ -4,7 +4,7 @@ ghost use Rattle.std.specs.Prelude.{◌≡◌, ◌≢◌, ◌⊎◌, ◌↔◌, 
 ghost use Rattle.program_parts.specs.Writes.{CountsWrites};
 ghost use Rattle.tool_words.specs.Commands.{IsAskedBy};
 ghost use Rattle.tool_words.specs.declared.command.Command.{Command as CommandValue};
-ghost use Rattle.tool_commands.specs.Commands.{AreCulpritsFound, AreTooFewSound, IsDone, IsStopped, TellsReasons, lend};
+ghost use Rattle.tool_commands.specs.Commands.{AreCulpritsFound, AreTooFewSound, IsDone, IsStopped, TellsBeside, lend};
 ghost use Rattle.tool_commands.specs.StoredFiles.{Stored};
 ghost use Rattle.tool_commands.specs.Writes.{TellsFault};
 
@@ -49,7 +49,7 @@ hs_tool migrate OLD NEW COMMITTEE
 ";
 
 /// Does what the words ask for, and answers the exit status: `DONE`, `CULPRITS`, `TOO_FEW_SOUND` or `FAULT`. Facts go to `out`, what
-/// an audit with `--why` tells and the files that it stores to `extras`, and with `FAULT` a fault's line to `faults`, which is else left
+/// an audit tells of a handover, and with `--why`, and the files that it stores to `extras`, and with `FAULT` a fault's line to `faults`, which is else left
 /// alone: `fault output` exactly if a write of facts failed. If a disk failed under a replica, the facts say it, and there is no fault's
 /// line with `FAULT`. The words stand without the program's name; only `replica` and `keygen --stdin` read `lines`, and only
 /// `keygen --random` draws of `seeds`.
@@ -89,7 +89,8 @@ where
         (Stored (D.stored extras.old.files) (D.stored extras.new.files))) command (W.text out.old) (W.text out.new) }
     ensures quiet { result ≢ 2 → (faults.new ≡ faults.old) × (W.failed out.new ≡ W.failed out.old) }
     ensures reasons { (extras.new.whys ≡ extras.old.whys) ⊎ ((command : CommandValue)
-        × IsAskedBy words.now command × TellsReasons command) }
+        × IsAskedBy words.now command
+        × TellsBeside command (Y.text extras.old.whys) (Y.text extras.new.whys)) }
     ensures told { result ≡ 2 → ((faults.new ≡ faults.old) × (W.failed out.new ≡ W.failed out.old)
         × (command : CommandValue) × IsAskedBy words.now command
         × IsStopped (lend ⟦<FileDisk as Disk>⟧ ⟦<SourceConnector<'a, T, F> as Connector>⟧
@@ -196,7 +197,8 @@ where
         (S.draws seeds.now) R.Feed lines.old lines.new
         (Stored (D.stored extras.old.files) (D.stored extras.new.files))) command (W.text out.old) (W.text out.new)) }
     ensures reasons { (extras.new.whys ≡ extras.old.whys) ⊎ ((command : CommandValue)
-        × IsAskedBy words.now command × TellsReasons command) }
+        × IsAskedBy words.now command
+        × TellsBeside command (Y.text extras.old.whys) (Y.text extras.new.whys)) }
     ensures counted { CountsWrites result (W.failed out.old) (W.failed out.new) }
 {
     match read_words(host.alloc, words) {
@@ -245,7 +247,8 @@ where
         (S.draws seeds.now) R.Feed lines.old lines.new
         (Stored (D.stored extras.old.files) (D.stored extras.new.files)))
         command.now (W.text out.old) (W.text out.new)) }
-    ensures reasons { (extras.new.whys ≡ extras.old.whys) ⊎ TellsReasons command.now }
+    ensures reasons { (extras.new.whys ≡ extras.old.whys)
+        ⊎ TellsBeside command.now (Y.text extras.old.whys) (Y.text extras.new.whys) }
     ensures counted { CountsWrites result (W.failed out.old) (W.failed out.new) }
 {
     let (files, alloc) = (host.files, host.alloc);

@@ -2,15 +2,15 @@ use Rattle.std.proofs.Common.{◌∙◌, Err, ap, inr, refl}
 use Rattle.culprit_search.specs.ReportText.{report_text}
 use Rattle.culprit_search.specs.declared.writing.ReportError.{ReportError}
 use Rattle.printed_lines.proofs.Pieces.{part_of_front}
-use Rattle.follow_command.specs.Followings.{following_line}
+use Rattle.follow_command.specs.Followings.{following_lines}
 use Rattle.follow_command.proofs.Printing.{cut_behind}
 use Rattle.follow_command.proofs.program.print.Goals as goal
 
 pub returns-in-Ok-clause-refused : goal.returns-in-Ok-clause-refused
 returns-in-Ok-clause-refused g c =
-    cut_behind c.write_out.result g.W.Sink.text c.args.out.now c.write_report.new.sink c.write_out.new.out (report_text c.args.evidence.now.sources c.args.report.now) (following_line c.args.following.now) c.deref.result.now
-    c.in-Ok.ensures.ok (c.deref.ensures.value ∙ c.in_ok-line.ensures) c.write_out.ensures.refused c.write_out.ensures.err
+    cut_behind c.write_out.result g.W.Sink.text c.args.out.now c.write_report.new.sink c.write_out.new.out (report_text c.args.evidence.now.sources c.args.report.now) (following_lines c.args.following.now c.args.report.now.commits) c.deref.result.now
+    c.in-Ok.ensures.ok (c.deref.ensures.value ∙ c.in_ok-lines.ensures ∙ ap (following_lines c.args.following.now) c.commits.ensures) c.write_out.ensures.refused c.write_out.ensures.err
 
 pub returns-clause-refused : goal.returns-clause-refused
 returns-clause-refused g c =
-    inr (refl, part_of_front _ _ (report_text c.args.evidence.now.sources c.args.report.now) (following_line c.args.following.now) (c.in-Err-Sink.ensures.sink (ap (λ (e : ReportError). Err e) c.in-Err-Sink.field-0-is)))
+    inr (refl, part_of_front _ _ (report_text c.args.evidence.now.sources c.args.report.now) (following_lines c.args.following.now c.args.report.now.commits) (c.in-Err-Sink.ensures.sink (ap (λ (e : ReportError). Err e) c.in-Err-Sink.field-0-is)))

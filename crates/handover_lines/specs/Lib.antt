@@ -1,0 +1,2 @@
+pub use Rattle.handover.specs.Handovers
+pub mod HandoverLines
