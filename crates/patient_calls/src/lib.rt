@@ -4,6 +4,8 @@
 
 mod calls_read;
 mod gathering;
+mod short_first;
 
 pub use calls_read::{CallsRead, Found};
 pub use gathering::{Answerer, CallTalk, CallsSoFar};
+pub use short_first::{FrontSoFar, ShortFirst};

@@ -7,12 +7,12 @@ use crate::heard::Hearing;
 use crate::link::{Answering, Asking, Link};
 use crate::listening::{Listener, Place};
 use crate::pace::{Pace, tick};
-use crate::reading::{MOST_OF_A_CALL, ReadTalk, Reader, config};
+use crate::reading::{MOST_OF_A_CALL, Reader, SHORT, config};
 use crate::stay::{Room, THREADS_BESIDE};
 use crate::{handing_out, reading};
 use good_votes::SideBySide;
 use http_server::Connection;
-use patient_calls::{CallTalk, CallsRead};
+use patient_calls::{CallTalk, CallsRead, ShortFirst};
 use patient_sockets::{Rules as CrowdRules, Talk, connections_at, most_open_files, talk_to_all};
 use signing_service::{
     Approver, Gate, Keeper, Office, Reception, Signer, Sources, Witness, serve_calls,
@@ -299,7 +299,7 @@ fn take_reads<
     W: Witness,
 >(shop: &'x Shop<'x, '_, N, T, S, D, K, W>, place: &Place, session: Session<N>) -> Session<N> {
     let rules = reading::rules(shop.connections());
-    let mut talk = ReadTalk {
+    let mut talk = ShortFirst {
         calls: CallTalk {
             alloc: shop.alloc,
             answerer: Reader {
@@ -316,9 +316,10 @@ fn take_reads<
             },
             most: MOST_OF_A_CALL,
         },
+        short: SHORT,
     };
     shop.talk_at(place, &rules, &mut talk);
-    let ReadTalk { calls } = talk;
+    let ShortFirst { calls, .. } = talk;
     let CallTalk { answerer, .. } = calls;
     let Reader { signer, .. } = answerer;
     signer.into_session()

@@ -5,8 +5,8 @@ ghost use Rattle.std.specs.Prelude.{◌≡◌, true};
 use good_votes::Checker;
 use http_server::{Config, Connection};
 use http1::Limits;
-use patient_calls::{Answerer, CallTalk, CallsSoFar};
-use patient_sockets::{Bounds, Next, Rules, Talk};
+use patient_calls::Answerer;
+use patient_sockets::{Bounds, Rules};
 use signing_service::{Approver, Keeper, Signer, Witness, serve_calls};
 use stable_log::Disk;
 use std::alloc::Global;
@@ -29,15 +29,12 @@ const BOUNDS: Bounds = Bounds {
 const FULL: usize = 20 * 1024 * 1024;
 
 /// How the calls of probes and scrapes begin, whose answers have at most some 12 KB.
-const SHORT: [&[u8]; 4] = [
+pub(crate) const SHORT: &[&[u8]] = &[
     b"GET /metrics",
     b"GET /status",
     b"GET /health",
     b"GET /live",
 ];
-
-/// How many bytes the longest of these has.
-const FRONT_LEN: usize = 12;
 
 /// The longest body: a header of 84 bytes and a certificate of 45,147.
 const LONGEST_BODY: usize = 45_231;
@@ -86,69 +83,5 @@ impl<N: DeskNaming, T: Wait + Clock, D: Disk, V: Checker, A: Approver + Keeper, 
     fn answer<R: Read, W: Write>(&mut self, reader: &mut R, writer: &mut W) -> io::Result<()> {
         let mut connection = Connection::new(self.alloc, self.keys, config());
         serve_calls(&mut self.signer, &mut connection, reader, writer)
-    }
-}
-
-/// Has calls answered as `CallTalk` has; but the first one of a connection also where memory is full, if it is one of a probe or a
-/// scrape. So answers that others ask for and do not take keep none of those out.
-#[derive(Drop)]
-pub(crate) struct ReadTalk<A> {
-    pub calls: CallTalk<A>,
-}
-
-/// What came over a connection, how it begins, and whether something was answered.
-#[derive(Drop)]
-pub(crate) struct ReadLine {
-    calls: CallsSoFar,
-    front: [u8; FRONT_LEN],
-    have: usize,
-    has_answered: bool,
-}
-
-impl ReadLine {
-    // Keeps the first bytes.
-    fn take(&mut self, bytes: &[u8]) {
-        for byte in bytes.iter().take(FRONT_LEN) {
-            if let Some(at) = self.front.get_mut(self.have) {
-                *at = *byte;
-                self.have += 1;
-            }
-        }
-    }
-
-    // Whether the next call is the first, and is short by what came of it.
-    fn is_short(&self) -> bool {
-        let front = self.front.get(..self.have).unwrap_or(&[]);
-        !self.has_answered
-            && SHORT
-                .iter()
-                .any(|call| front.starts_with(*call) || call.starts_with(front))
-    }
-}
-
-impl<A: Answerer> Talk for ReadTalk<A> {
-    type Line = ReadLine;
-
-    fn begin(&mut self) -> io::Result<ReadLine> {
-        Ok(ReadLine {
-            calls: self.calls.begin()?,
-            front: [0; FRONT_LEN],
-            have: 0,
-            has_answered: false,
-        })
-    }
-
-    fn hear(&mut self, line: &mut ReadLine, bytes: &[u8]) -> io::Result<()> {
-        line.take(bytes);
-        self.calls.hear(&mut line.calls, bytes)
-    }
-
-    fn next(&mut self, line: &mut ReadLine, is_full: bool) -> io::Result<Next> {
-        let waits = is_full && !line.is_short();
-        let next = self.calls.next(&mut line.calls, waits)?;
-        if matches!(&next, Next::Piece(_)) {
-            line.has_answered = true;
-        }
-        Ok(next)
     }
 }

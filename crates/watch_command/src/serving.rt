@@ -5,7 +5,7 @@ ghost use Rattle.std.specs.Prelude.{◌≡◌};
 use crate::shop::Shop;
 use http_server::{Config, Connection};
 use http1::Limits;
-use patient_calls::{Answerer, CallTalk};
+use patient_calls::{Answerer, CallTalk, ShortFirst};
 use patient_sockets::{Bounds, Rules, bind, connections_at, most_open_files, talk_to_all};
 use shared_values::Shared;
 use std::alloc::Global;
@@ -32,8 +32,14 @@ const BOUNDS: Bounds = Bounds {
     whole: 15_000,
 };
 
-/// From how many bytes on that were made and not taken, over the readers of one thread, no further answer is made.
-const FULL: usize = 28 * 1024 * 1024;
+/// From how many bytes on that were made and not taken, over the readers of one thread, no further answer is made but short ones. One
+/// answer has at most some 300 KB, the picture. 512 short ones have at most 55 MB, of 64 sources with words of 80 bytes each. So the two
+/// threads hold at most 145 MB, and with four sources 40 MB.
+const FULL: usize = 16 * 1024 * 1024;
+
+/// How the requests of probes and scrapes begin, and those for verdicts: of metrics each source has eight lines, of at most some 130 bytes
+/// beside its word.
+const SHORT: &[&[u8]] = &[b"GET /metrics", b"GET /health", b"GET /verdict-"];
 
 /// How many bytes of a request are kept at most: a head of 16,384. No request has a body.
 const MOST_OF_A_REQUEST: usize = 32_768;
@@ -119,14 +125,17 @@ pub(crate) fn answer_all<
         most: connections(shop),
         full: FULL,
     };
-    let mut talk = CallTalk {
-        alloc: shop.alloc,
-        answerer: Teller {
+    let mut talk = ShortFirst {
+        calls: CallTalk {
             alloc: shop.alloc,
-            keys: server.keys,
-            watcher: Watcher::new(shop.rt, shop.alloc, hosts, &server.seen),
+            answerer: Teller {
+                alloc: shop.alloc,
+                keys: server.keys,
+                watcher: Watcher::new(shop.rt, shop.alloc, hosts, &server.seen),
+            },
+            most: MOST_OF_A_REQUEST,
         },
-        most: MOST_OF_A_REQUEST,
+        short: SHORT,
     };
     talk_to_all(
         shop.rt,
