@@ -97,7 +97,7 @@ def chain_of(room):
 
 
 class Server:
-    """Hands out frames, which may be changed, in a manner that may be changed: whole, cut, flip (whole and cut in turn), hang, drip, reset or endless."""
+    """Hands out frames, which may be changed, in a manner that may be changed: whole, cut, flip (whole and cut in turn), hang, drip, reset, endless or silent (the connection ends, with no byte)."""
 
     def __init__(self, frames=(), manner="whole"):
         self.frames, self.manner, self.asked = list(frames), manner, []

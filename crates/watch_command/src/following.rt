@@ -74,7 +74,9 @@ fn read_on<'c, T: Files<File = File> + Wait + Clock + Net<Stream = TcpStream>>(
     };
     let frames = Frames::of(shop.alloc, &answer.text)?;
     let status = status_of(frames.status(), answer.end);
-    note_answer(shop, reader.source, status);
+    if !answer.text.is_empty() {
+        note_answer(shop, reader.source);
+    }
     if !reader.goes_on(&frames) {
         reader.part_ways(shop, status)?;
         return Ok(false);
@@ -137,7 +139,9 @@ fn read_file_once<'c, T: Files<File = File> + Wait + Clock>(
             Err(FetchError::Memory) => return Err(EvidenceRefusal::Memory),
         }
     }
-    note_answer(shop, reader.source, ended);
+    if ended != Status::Failed {
+        note_answer(shop, reader.source);
+    }
     reader.finish(shop, draft, ended)?;
     reader.end_round(shop);
     Ok(())

@@ -8,7 +8,7 @@ ghost use Rattle.watch_command.specs.FaultLines.{watch_fault_line};
 use crate::exporting::give_out;
 use crate::fault::{Fault, FolderFile, WatchFault, fault_of_evidence};
 use crate::following::follow;
-use crate::publishing::first_snapshot;
+use crate::publishing::{bytes_in, first_snapshot};
 use crate::queue::{Line, Queue};
 use crate::rounds::collect;
 use crate::serving::{Server, answer_all};
@@ -224,7 +224,7 @@ where
     T::Dir: Send,
 {
     let queue = Queue::new(host.alloc);
-    let server = server_of(host, words, committee, targets, parts_in(state), &queue)?;
+    let server = server_of(host, words, committee, targets, state, &queue)?;
     let shop = Shop::new(
         host.rt,
         host.alloc,
@@ -270,18 +270,25 @@ fn parts_in<T: Files<File = File>>(state: Option<&StateFolder<'_, '_, T>>) -> u6
 }
 
 // Where what the watch knows is told, if it is. The line that says so is the first that is printed.
-fn server_of<T: Wait + Clock + Net<Listener = TcpListener, Stream = TcpStream> + RandomSource>(
+fn server_of<
+    T: Files<File = File>
+        + Wait
+        + Clock
+        + Net<Listener = TcpListener, Stream = TcpStream>
+        + RandomSource,
+>(
     host: &Host<'_, T>,
     words: &Words<'_>,
     committee: &CommitteeView<'_>,
     targets: &[Target<'_>],
-    kept: u64,
+    state: Option<&StateFolder<'_, '_, T>>,
     queue: &Queue,
 ) -> Result<Option<Server>, Fault<'static>> {
     let Some(address) = words.listen else {
         return Ok(None);
     };
-    let seen = first_snapshot(host.rt, host.alloc, committee, words, targets, kept)?;
+    let (kept, bytes) = (parts_in(state), bytes_in(state));
+    let seen = first_snapshot(host.rt, host.alloc, committee, words, targets, kept, bytes)?;
     match listen(host, address, seen, queue) {
         Ok(server) => Ok(Some(server)),
         Err(error) => Err(Fault::unless_memory(&error, Fault::Own(WatchFault::Listen))),

@@ -6,7 +6,9 @@ use crate::shop::{Place, Shop, Target};
 use crate::words::Words;
 use blocks::CommitteeView;
 use shared_values::Shared;
+use state_folder::StateFolder;
 use std::alloc::{AllocError, Global};
+use std::fs::{File, Files};
 use std::sync::Wait;
 use std::sync::atomic::Ordering;
 use std::time::Clock;
@@ -22,6 +24,7 @@ pub(crate) fn first_snapshot(
     words: &Words,
     targets: &[Target],
     kept: u64,
+    state_bytes: u64,
 ) -> Result<Snapshot, AllocError> {
     let now = seconds_now(clock);
     let desk = KeptVerdicts::new(alloc, committee).open(&replicas_of(alloc, targets)?)?;
@@ -29,11 +32,14 @@ pub(crate) fn first_snapshot(
         started: now,
         round: 0,
         stamped: now,
+        took: 0,
         every: words.every,
         is_unstored: false,
         lines_lost: 0,
         kept,
         kept_read: 0,
+        state_bytes,
+        state_bytes_max: bytes_max(words),
         sources: source_places(alloc, targets)?,
         picture: None,
     };
@@ -74,7 +80,23 @@ fn kept_read<T: Wait + Clock>(shop: &Shop<'_, '_, '_, T>, kept: u64) -> u64 {
     kept
 }
 
-fn moment_of<T: Wait + Clock>(
+/// How many bytes are kept.
+pub(crate) fn bytes_in<T: Files<File = File>>(state: Option<&StateFolder<'_, '_, T>>) -> u64 {
+    match state {
+        Some(state) => state.held(),
+        None => 0,
+    }
+}
+
+// How many may be, 0 where there is no bound.
+fn bytes_max(words: &Words) -> u64 {
+    match words.state {
+        Some(_) if words.keep_most < u64::MAX => words.keep_most,
+        _ => 0,
+    }
+}
+
+fn moment_of<T: Files<File = File> + Wait + Clock>(
     shop: &Shop<'_, '_, '_, T>,
     server: &Server,
     rounds: &Rounds,
@@ -87,18 +109,21 @@ fn moment_of<T: Wait + Clock>(
         started: server.started,
         round: rounds.round,
         stamped: seconds_now(shop.rt),
+        took: rounds.took / 1_000,
         every: shop.words.every,
         is_unstored: rounds.is_unstored(),
         lines_lost: shop.queue.lost(),
         kept: server.kept,
         kept_read: kept_read(shop, server.kept),
+        state_bytes: bytes_in(shop.state),
+        state_bytes_max: bytes_max(shop.words),
         sources: source_places(shop.alloc, shop.targets)?,
         picture,
     })
 }
 
 /// Publishes what is known after a round, where it is told.
-pub(crate) fn publish<T: Wait + Clock>(
+pub(crate) fn publish<T: Files<File = File> + Wait + Clock>(
     shop: &Shop<'_, '_, '_, T>,
     rounds: &Rounds,
 ) -> Result<(), AllocError> {

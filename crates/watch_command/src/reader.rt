@@ -11,8 +11,9 @@ use std::fs::{File, Files};
 use std::sync::Wait;
 use std::sync::atomic::Ordering;
 use std::time::{Clock, Instant};
-use watch_desk::NewPart;
+use watch_desk::{Extent, NewPart};
 use watch_service::seconds_now;
+use watch_snapshot::lasts_back;
 use wire::MOST_ENTRIES;
 
 /// What all of a log is compared with, once it was read from the beginning.
@@ -25,6 +26,9 @@ pub(crate) enum Compared {
     /// The logs that were kept, at a start: it is to begin with one of them.
     Kept,
 }
+
+// No frame of any log.
+const NOTHING_GIVEN: Extent = Extent { log: 0, frames: 0 };
 
 /// What was read of a source so far.
 #[derive(Drop)]
@@ -40,6 +44,13 @@ pub(crate) struct Reader {
     digest: LogDigest,
     // The log that the last frame came to.
     log: usize,
+    // The log of which what was read is the beginning.
+    begins: usize,
+    // What it had before all of it is read, if that is known.
+    pub before: Option<Extent>,
+    // When it last went back, and how much it gave since as that was told.
+    back: Option<Instant>,
+    told_given: Extent,
     // How what came last ended, as it was told.
     status: Option<Status>,
     // From this log on none was begun, since there is a verdict on its replica.
@@ -72,6 +83,10 @@ impl Reader {
             front: NO_FRAMES,
             digest: NO_FRAMES,
             log: 0,
+            begins: 0,
+            before: None,
+            back: None,
+            told_given: NOTHING_GIVEN,
             status: None,
             closed: None,
             is_closed: false,
@@ -115,6 +130,7 @@ impl Reader {
             self.is_anew = true;
             self.compared = Compared::Before;
             self.read_whole = None;
+            self.before = Some(self.extent());
             self.restart()?;
         }
         Ok(())
@@ -131,13 +147,80 @@ impl Reader {
     /// All that is there was read, and is compared.
     pub fn end_round<T: Wait + Clock>(&mut self, shop: &Shop<'_, '_, '_, T>) {
         self.let_others_read_anew(shop);
-        if self.status != Some(Status::Whole) {
+        if self.status == Some(Status::Whole) {
+            self.compare(shop);
+            if self.read_whole.is_none() {
+                self.read_whole = Instant::now(shop.rt).ok();
+            }
+        }
+        self.tell_given(shop);
+    }
+
+    /// How much of which log was read.
+    pub fn extent(&self) -> Extent {
+        Extent {
+            log: self.begins,
+            frames: self.logs.read(),
+        }
+    }
+
+    // What it had before it went back: what it is compared with, or what was read.
+    fn had(&self) -> Option<Extent> {
+        match self.compared {
+            Compared::Nothing => Some(self.extent()),
+            Compared::Before | Compared::Kept => self.before,
+        }
+    }
+
+    // It went back, when it had this.
+    fn go_back<T: Wait + Clock>(&mut self, shop: &Shop<'_, '_, '_, T>, had: Option<Extent>) {
+        self.back = Instant::now(shop.rt).ok();
+        self.told_given = NOTHING_GIVEN;
+        self.tell(shop, Told::WentBack(had));
+    }
+
+    // Tells how much it gives, as long as it is shown as one that went back, and where that changed.
+    fn tell_given<T: Wait + Clock>(&mut self, shop: &Shop<'_, '_, '_, T>) {
+        let given = self.extent();
+        if given == self.told_given || !self.is_back(shop) {
             return;
         }
-        self.compare(shop);
-        if self.read_whole.is_none() {
-            self.read_whole = Instant::now(shop.rt).ok();
+        self.told_given = given;
+        self.tell(shop, Told::Gives(given));
+    }
+
+    fn is_back<T: Wait + Clock>(&self, shop: &Shop<'_, '_, '_, T>) -> bool {
+        let Some(since) = self.back else {
+            return false;
+        };
+        match since.elapsed(shop.rt) {
+            Ok(elapsed) => lasts_back(0, elapsed.as_secs()),
+            Err(_) => true,
         }
+    }
+
+    // The next frame, which was placed there behind so many, is of this log. If that is another one, how much of the one before
+    // it gave is told.
+    fn come_to<T: Wait + Clock>(
+        &mut self,
+        shop: &Shop<'_, '_, '_, T>,
+        place: source_reading::Place,
+        read: usize,
+    ) {
+        let log = match place {
+            source_reading::Place::Known(log)
+            | source_reading::Place::Next(log)
+            | source_reading::Place::Opens(log) => log,
+            source_reading::Place::Beyond => return,
+        };
+        if log != self.begins && read > 0 && self.is_back(shop) {
+            let given = Extent {
+                log: self.begins,
+                frames: read,
+            };
+            self.tell(shop, Told::Gives(given));
+        }
+        self.begins = log;
     }
 
     // Where it does not begin with what it is compared with, it went back.
@@ -148,7 +231,7 @@ impl Reader {
             Compared::Kept => self.kept.begun(self.logs.present()).is_none(),
         };
         if has_lost {
-            self.tell(shop, Told::WentBack);
+            self.go_back(shop, self.before);
         }
     }
 
@@ -167,8 +250,9 @@ impl Reader {
             let draft = self.draft(shop)?;
             return self.finish(shop, draft, status);
         }
+        let had = self.had();
         self.compared = Compared::Nothing;
-        self.tell(shop, Told::WentBack);
+        self.go_back(shop, had);
         self.restart()?;
         Ok(())
     }
@@ -197,7 +281,9 @@ impl Reader {
         }
         let digest = digest_of(frame);
         let mut place = self.next_place(0);
+        let read = self.logs.read();
         let found = self.logs.place(&digest)?;
+        self.come_to(shop, found, read);
         self.is_closed = self.close(shop, found);
         if self.is_closed {
             return Ok(false);
@@ -367,15 +453,9 @@ fn first_digest(frames: &Frames) -> Option<FrameDigest> {
     Some(digest_of(frames.payload(0)))
 }
 
-/// A source answered.
-pub(crate) fn note_answer<T: Wait + Clock>(
-    shop: &Shop<'_, '_, '_, T>,
-    source: usize,
-    status: Status,
-) {
-    if let Some(target) = shop.targets.get(source)
-        && status != Status::Failed
-    {
+/// A source gave a byte.
+pub(crate) fn note_answer<T: Wait + Clock>(shop: &Shop<'_, '_, '_, T>, source: usize) {
+    if let Some(target) = shop.targets.get(source) {
         target
             .answered
             .store(seconds_now(shop.rt), Ordering::SeqCst);

@@ -12,6 +12,7 @@ use std::alloc::AllocError;
 use std::fs::{File, Files};
 use std::sync::Wait;
 use std::time::Clock;
+use watch_desk::Extent;
 use wire::MOST_ENTRIES;
 
 impl Reader {
@@ -43,6 +44,13 @@ impl Reader {
         }
         if kept.len() > 0 {
             self.compared = Compared::Kept;
+        }
+        // Of two kept logs it may have had either last.
+        if kept.len() == 1 {
+            self.before = Some(Extent {
+                log: 0,
+                frames: self.logs.read(),
+            });
         }
         self.kept = kept;
         self.restart()?;

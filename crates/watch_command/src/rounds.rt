@@ -41,6 +41,8 @@ pub(crate) struct Rounds<'c> {
     pub has_gap: bool,
     // Something came that was not audited yet.
     is_due: bool,
+    /// How many microseconds the rounds took, but for what they publish.
+    pub took: u64,
     // When the last audit ended, and how many milliseconds the next one waits from then on.
     audited: Option<Instant>,
     rest: u64,
@@ -95,6 +97,7 @@ impl<'c> Rounds<'c> {
             round: 0,
             has_gap: false,
             is_due: false,
+            took: 0,
             audited: None,
             rest: 0,
         })
@@ -145,6 +148,7 @@ impl<'c> Rounds<'c> {
     ) -> Result<(), Fault<'static>>
         ensures { IfErr result (λ fault. fault ≢ ProgramFault.Output) }
     {
+        let begun = Instant::now(shop.rt).ok();
         self.round = self.round.saturating_add(1);
         let stamp = stamp_now(shop, self.round)?;
         tell_lost(shop, &stamp)?;
@@ -156,6 +160,7 @@ impl<'c> Rounds<'c> {
         if self.is_due && !shop.reads_kept() && self.rest_left(shop) == 0 {
             self.audit(shop, folder, &stamp)?;
         }
+        self.note_round(shop, begun);
         publish(shop, self)?;
         Ok(())
     }
@@ -188,7 +193,11 @@ impl<'c> Rounds<'c> {
         }
         match &delivery.told {
             Told::Part(stored) => return self.take_part(shop, stamp, i, stored),
-            Told::WentBack => tell_one(shop, stamp, self.desk.go_back(i, self.round))?,
+            Told::WentBack(had) => {
+                let second = seconds_now(shop.rt).max(1);
+                tell_one(shop, stamp, self.desk.go_back(i, self.round, second, *had))?;
+            }
+            Told::Gives(given) => self.desk.give(i, *given),
             Told::GivesKept(log) => tell_all(shop, stamp, &self.desk.count_kept(i, *log)?)?,
             Told::Beyond => tell_one(shop, stamp, self.desk.go_beyond(i))?,
             Told::Unstored(path) => self.tell_unstored(shop, stamp, path)?,
@@ -261,6 +270,16 @@ impl<'c> Rounds<'c> {
         }
         self.note_audit(shop, begun);
         Ok(())
+    }
+
+    // A round that began then has ended now, but for what it publishes.
+    fn note_round<T: Wait + Clock>(&mut self, shop: &Shop<'_, '_, 'c, T>, begun: Option<Instant>) {
+        if let Some(begun) = begun
+            && let Ok(took) = begun.elapsed(shop.rt)
+        {
+            let took = u64::try_from(took.as_micros()).unwrap_or(u64::MAX);
+            self.took = self.took.saturating_add(took);
+        }
     }
 
     // An audit that began then has ended now.

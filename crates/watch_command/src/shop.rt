@@ -12,7 +12,7 @@ use std::sync::atomic::{AtomicBool, AtomicU32, AtomicU64, Ordering};
 use std::sync::{Condvar, Mutex, Wait};
 use std::thread;
 use std::time::{Clock, Duration};
-use watch_desk::NewPart;
+use watch_desk::{Extent, NewPart};
 
 /// How long the threads are waited for to start, in looks a hundredth of a second apart.
 const MOST_LOOKS: u32 = 1_000;
@@ -35,8 +35,10 @@ pub(crate) struct StoredPart<'c> {
 pub(crate) enum Told<'c> {
     /// More came of a log of the source, or how it ends changed.
     Part(StoredPart<'c>),
-    /// Its log went back.
-    WentBack,
+    /// Its log went back, when it had this, if that is known.
+    WentBack(Option<Extent>),
+    /// It went back within the hour, and gives this of a log.
+    Gives(Extent),
     /// At a start: what it gives goes on with this log, which was kept.
     GivesKept(usize),
     /// It gave one log too many.
@@ -89,7 +91,7 @@ pub(crate) struct Target<'a> {
     /// Which of the sources of that replica it is, from 0.
     pub nth: u16,
     pub place: Place<'a>,
-    /// When it last answered, in seconds since 1970, or 0.
+    /// When it last gave a byte, in seconds since 1970, or 0.
     pub answered: AtomicU64,
     /// When a frame last came of it.
     pub framed: AtomicU64,

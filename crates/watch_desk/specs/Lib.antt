@@ -1,6 +1,7 @@
 pub mod Verdicts
 pub mod News
 pub mod Sources
+pub mod Backs
 pub mod Hearing
 pub mod Taking
 pub mod Desks

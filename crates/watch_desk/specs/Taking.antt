@@ -4,7 +4,9 @@ use Rattle.std.specs.List.{All, Contains}
 use Rattle.certificates.specs.declared.vote.SignedVote.{SignedVote}
 use Rattle.evidence.specs.declared.source.SourceReport.{SourceReport}
 use Rattle.log_format.specs.declared.status.Status.{Status}
+use Rattle.watch_desk.specs.Backs.{back_after, back_then}
 use Rattle.watch_desk.specs.Sources.{GainsOnce, most_bad_votes, aside_told, back_told, beyond_told, status_told, top_from}
+use Rattle.watch_desk.specs.declared.back.Extent.{Extent}
 use Rattle.watch_desk.specs.declared.news.News.{News}
 use Rattle.watch_desk.specs.declared.source.LogKnown.{LogKnown}
 use Rattle.watch_desk.specs.declared.source.NewPart.{NewPart}
@@ -38,6 +40,7 @@ pub record IsFreshSource (s : SourceKnown) : Type 0 where
   pub status : s.status ≡ None
   pub bad : s.bad.items ≡ []
   pub times_back : s.times_back ≡ 0
+  pub back : s.back ≡ None
   pub is_beyond : s.is_beyond ≡ false
 
 -- a source of each of these replicas, of which nothing came
@@ -53,6 +56,7 @@ pub record SameButLogs (old new : SourceKnown) : Type 0 where
   pub top_view : new.top_view ≡ old.top_view
   pub times_back : new.times_back ≡ old.times_back
   pub back_told : new.back_told ≡ old.back_told
+  pub back : new.back ≡ old.back
   pub is_beyond : new.is_beyond ≡ old.is_beyond
   pub digest : new.digest ≡ old.digest
 
@@ -66,6 +70,7 @@ pub record IsCountedIn (old new : SourceKnown) (i : ℕ) (votes : List SignedVot
   pub top_view : new.top_view ≡ old.top_view
   pub times_back : new.times_back ≡ old.times_back
   pub back_told : new.back_told ≡ old.back_told
+  pub back : new.back ≡ old.back
   pub is_beyond : new.is_beyond ≡ old.is_beyond
   pub digest : new.digest ≡ old.digest
 
@@ -111,12 +116,14 @@ pub record IsNoted (old new : SourceKnown) (i : ℕ) (p : NewPart) (report : Sou
   pub replica : new.replica ≡ old.replica
   pub times_back : new.times_back ≡ old.times_back
   pub back_told : new.back_told ≡ old.back_told
+  pub back : new.back ≡ old.back
   pub is_beyond : new.is_beyond ≡ old.is_beyond
 
 -- ---- what else is noted of a source
 
--- it went back once more in this round
-pub record IsBack (old new : SourceKnown) (i round : ℕ) (heard : Option News) : Type 0 where
+-- it went back once more in this round and at this second, when it had this
+pub record IsBack (old new : SourceKnown) (i round second : ℕ) (had : Option Extent) (heard : Option News) : Type 0 where
+  pub back : new.back ≡ Some (back_then old.back second had)
   pub times_back : new.times_back ≡ min (old.times_back + 1) (2 ^ 64 - 1)
   pub told : new.back_told ≡ round
   pub heard_is : heard ≡ back_told i old.replica old.back_told round
@@ -124,10 +131,15 @@ pub record IsBack (old new : SourceKnown) (i round : ℕ) (heard : Option News) 
   pub status : new.status ≡ old.status
   pub replica : new.replica ≡ old.replica
 
+-- it gives this of a log, and nothing else changed
+abbrev pub IsGiven : (old new : SourceKnown) → Extent → Type 0
+IsGiven old new given = new ≡ record old { back = back_after old.back given }
+
 -- it gave one log too many
 pub record IsBeyond (old new : SourceKnown) (i : ℕ) (heard : Option News) : Type 0 where
   pub beyond : new.is_beyond ≡ true
   pub heard_is : heard ≡ beyond_told i old.replica old.is_beyond
+  pub back : new.back ≡ old.back
   pub bad : new.bad ≡ old.bad
   pub status : new.status ≡ old.status
   pub replica : new.replica ≡ old.replica
@@ -141,5 +153,6 @@ bad_of (Some l) = l.kept_bad.items
 pub record AreKeptCounted (old new : SourceKnown) (i log : ℕ) (heard : List News) : Type 0 where
   pub bad : GainsOnce old.bad.items new.bad.items (Contains (bad_of (slice_get old.logs.items log)))
   pub heard_is : heard ≡ aside_told i old.replica (length old.bad.items) (length new.bad.items)
+  pub back : new.back ≡ old.back
   pub status : new.status ≡ old.status
   pub replica : new.replica ≡ old.replica

@@ -9,8 +9,9 @@ ghost use Rattle.watch_search.specs.Audits.{IsAuditOfLogs};
 ghost use Rattle.watch_desk.specs.Hearing.{IsHeard};
 ghost use Rattle.watch_desk.specs.Desks.{told_first};
 ghost use Rattle.watch_desk.specs.Opening.{IsAddedAt, IsNotedAt, IsOpenedAt, IsTaken};
-ghost use Rattle.watch_desk.specs.Taking.{AreFreshSources, AreKeptCounted, IsBack, IsBeyond};
+ghost use Rattle.watch_desk.specs.Taking.{AreFreshSources, AreKeptCounted, IsBack, IsBeyond, IsGiven};
 
+use crate::back::Extent;
 use crate::known::KnownVerdict;
 use crate::news::News;
 use crate::source::{NewPart, SourceKnown};
@@ -200,12 +201,28 @@ impl<'c> Desk<'c> {
         })
     }
 
-    /// The log of a source went back in this round, the first of which is 1. It is told at most once a round.
-    pub fn go_back(&mut self, i: usize, round: u64) -> Option<News>
+    /// The log of a source went back in this round, the first of which is 1, and at this second, when it had this of a log. It is
+    /// told at most once a round.
+    pub fn go_back(
+        &mut self,
+        i: usize,
+        round: u64,
+        second: u64,
+        had: Option<Extent>,
+    ) -> Option<News>
         requires { i < length self.old.sources }
-        ensures { IsNotedAt (λ before after. IsBack before after i round result) i self.old self.new }
+        ensures { IsNotedAt (λ before after. IsBack before after i round second had result)
+            i self.old self.new }
     {
-        self.sources[i].go_back(i, round)
+        self.sources[i].go_back(i, round, second, had)
+    }
+
+    /// A source gives this of a log: where that is all that it had when it went back, it is back no more.
+    pub fn give(&mut self, i: usize, given: Extent)
+        requires { i < length self.old.sources }
+        ensures { IsNotedAt (λ before after. IsGiven before after given) i self.old self.new }
+    {
+        self.sources[i].give(given);
     }
 
     /// A source gave one log too many.

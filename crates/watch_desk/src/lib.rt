@@ -2,6 +2,7 @@
 //! files, locks, clock or sockets.
 #![tactic(auto)]
 
+mod back;
 mod certified;
 mod commits;
 mod desk;
@@ -16,6 +17,7 @@ mod source;
 mod told;
 mod votes;
 
+pub use back::{Back, Extent};
 pub use desk::{Audited, Desk};
 pub use kept::KeptVerdicts;
 pub use known::{FoundVerdict, KnownVerdict, judge_kept};

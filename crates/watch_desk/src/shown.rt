@@ -3,6 +3,7 @@
 ghost use Rattle.std.specs.Prelude.{◌≡◌, IfOk, drop, length, map};
 ghost use Rattle.watch_desk.specs.Shown.{IsSnapshotOf, commit_shown, conflict_shown, culprit_facts, known_facts, last_commits, seen_facts, verdict_facts, weight_in};
 
+use crate::back::back_at;
 use crate::commits::MOST_COMMITS;
 use crate::desk::Desk;
 use crate::known::KnownVerdict;
@@ -21,7 +22,7 @@ pub struct SourcePlace {
     pub word: String,
     /// It is a file, which is read once.
     pub is_file: bool,
-    /// When it last answered.
+    /// When it last gave a byte.
     pub last_answer: u64,
     /// When a frame last came of it.
     pub last_frame: u64,
@@ -45,7 +46,9 @@ pub struct Moment {
     pub round: u64,
     /// When that was.
     pub stamped: u64,
-    /// How many milliseconds lie between two rounds of a source.
+    /// How many milliseconds the rounds took so far, but for what they publish.
+    pub took: u64,
+    /// After how many milliseconds a source is asked again.
     pub every: u32,
     /// Something could not be stored.
     pub is_unstored: bool,
@@ -55,6 +58,10 @@ pub struct Moment {
     pub kept: u64,
     /// How many of them were read.
     pub kept_read: u64,
+    /// How many bytes the files with parts of logs have, 0 where none are kept.
+    pub state_bytes: u64,
+    /// How many they may have, 0 where there is no bound.
+    pub state_bytes_max: u64,
     /// The sources, in the order of the desk's.
     pub sources: Vec<SourcePlace>,
     /// The picture of the last audit; none before the first one.
@@ -124,6 +131,8 @@ fn source_seen(
         last_answer,
         last_frame,
         times_back: known.times_back,
+        went_back_at: back_at(known.back),
+        is_beyond: known.is_beyond,
         is_aside: known.is_aside(),
     })
 }
@@ -253,11 +262,14 @@ pub fn snapshot_of(
         started,
         round,
         stamped,
+        took,
         every,
         is_unstored,
         lines_lost,
         kept,
         kept_read,
+        state_bytes,
+        state_bytes_max,
         sources,
         picture,
     } = moment;
@@ -268,17 +280,21 @@ pub fn snapshot_of(
         started,
         round,
         stamped,
+        took,
         every,
         chain: committee.chain(),
         is_unstored,
         lines_lost,
         kept,
         kept_read,
+        state_bytes,
+        state_bytes_max,
         sources: seen,
         certified: told.certified(),
         commits: last_commits(alloc, told.commits())?,
         commit_count: told.commits().len() as u64,
         conflict: conflict_shown(told.conflict()),
+        has_handover: told.has_handover(),
         weight: weight_together(&culprits),
         culprits,
         total: committee.total(),

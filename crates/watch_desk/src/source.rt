@@ -2,8 +2,9 @@
 
 ghost use Rattle.std.specs.Prelude.{◌≡◌, ◌++◌, IfOk, OnOk, option_map, slice_get};
 ghost use Rattle.watch_desk.specs.Sources.{aside_told, is_status, status_place, status_told};
-ghost use Rattle.watch_desk.specs.Taking.{AreKeptCounted, AreLogsKept, HasBegun, IsBack, IsBeyond, IsCountedIn, IsFreshLog, IsFreshSource, IsNoted, SameButLogs, bad_of, is_aside, logs_told, told_of, top_then};
+ghost use Rattle.watch_desk.specs.Taking.{AreKeptCounted, AreLogsKept, HasBegun, IsBack, IsBeyond, IsCountedIn, IsFreshLog, IsFreshSource, IsGiven, IsNoted, SameButLogs, bad_of, is_aside, logs_told, told_of, top_then};
 
+use crate::back::{Back, Extent, back_after, back_then};
 use crate::news::News;
 use crate::votes::{add_each, copies, top_from};
 use certificates::SignedVote;
@@ -71,6 +72,8 @@ pub struct SourceKnown {
     pub times_back: u64,
     /// The round in which that was told last, or 0.
     pub back_told: u64,
+    /// It went back, and did not give all again that it had.
+    pub back: Option<Back>,
     /// It gave one log too many.
     pub is_beyond: bool,
     /// What the frames of its first log digest to.
@@ -146,6 +149,7 @@ impl SourceKnown {
             top_view: 0,
             times_back: 0,
             back_told: 0,
+            back: None,
             is_beyond: false,
             digest: [0; 32],
         })
@@ -259,10 +263,17 @@ impl SourceKnown {
         tell_aside(news, i, self.replica, before, self.bad.len())
     }
 
-    /// It went back once more, in this round: that is told once a round.
-    pub(crate) fn go_back(&mut self, i: usize, round: u64) -> Option<News>
-        ensures { IsBack self.old self.new i round result }
+    /// It went back once more, in this round and at this second, when it had this: that is told once a round.
+    pub(crate) fn go_back(
+        &mut self,
+        i: usize,
+        round: u64,
+        second: u64,
+        had: Option<Extent>,
+    ) -> Option<News>
+        ensures { IsBack self.old self.new i round second had result }
     {
+        self.back = Some(back_then(self.back, second, had));
         let is_told = self.back_told == round;
         self.times_back = self.times_back.saturating_add(1);
         self.back_told = round;
@@ -270,6 +281,13 @@ impl SourceKnown {
             return None;
         }
         Some(News::WentBack(i, self.replica))
+    }
+
+    /// It gives this of a log: where that is all that it had, it is back no more.
+    pub(crate) fn give(&mut self, given: Extent)
+        ensures { IsGiven self.old self.new given }
+    {
+        self.back = back_after(self.back, given);
     }
 
     /// It gave one log too many: that is told once.

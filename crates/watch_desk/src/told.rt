@@ -154,6 +154,13 @@ impl Told {
         self.conflict
     }
 
+    /// Whether a handover was told.
+    pub fn has_handover(&self) -> bool
+        ensures { result ≡ self.now.handover }
+    {
+        self.has_handover
+    }
+
     /// The verdicts, in the order in which they were told.
     pub fn verdicts(&self) -> &[Shared<KnownVerdict>]
         ensures { result.now ≡ self.now.verdicts }

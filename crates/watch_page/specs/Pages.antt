@@ -4,7 +4,7 @@ use Rattle.std.specs.List.{flat_map}
 use Rattle.hex.specs.Hex.{encode_lower}
 use Rattle.watch_lines.specs.Times.{IsUtcText}
 use Rattle.watch_snapshot.specs.Standings.{answering_of, standing_of}
-use Rattle.watch_snapshot.specs.Times.{is_late}
+use Rattle.watch_snapshot.specs.Times.{is_old_round}
 use Rattle.blocks.specs.declared.ballot.Ballot.{Ballot}
 use Rattle.watch_snapshot.specs.declared.snapshot.Culprit.{Culprit}
 use Rattle.watch_snapshot.specs.declared.snapshot.Fork.{Fork}
@@ -72,6 +72,11 @@ lost_line lost = codes "<p>Lines that were dropped, since nobody took them: " ++
 unfoldable pub lost_text : (lost : ℕ) → List ℕ
 lost_text lost = if nat_lt 0 lost then lost_line lost else codes ""
 
+-- that the committee handed its ledger over, where it is proved
+unfoldable pub handover_text : (has_handover : Bool) → List ℕ
+handover_text false = codes ""
+handover_text true = codes "<p>It is proved that this committee handed its ledger over to the next one. Watch that one with a watch of its own: the ledger does not go on here.</p>\n"
+
 unfoldable pub first_text : Standing → (k m : ℕ) → (time : List ℕ) → (round : ℕ) → List ℕ
 first_text standing k m time round =
     codes "<h1>" ++ state_text standing k m ++ codes "</h1>\n<p>" ++ advice_text standing ++ codes "</p>\n<p>Round " ++ decimal round ++ codes ", " ++ time
@@ -106,8 +111,8 @@ body_text s second is_still time =
 unfoldable pub front_text : Snapshot → (second : ℕ) → (is_still : Bool) → (time : List ℕ) → List ℕ
 front_text s second is_still time =
     title_text (standing_of s second) (answering_of s second) (length s.sources.items) is_still ++ looks_text (level_of (standing_of s second))
-    ++ banner_text (is_late s.stamped s.every second) ++ first_text (standing_of s second) (answering_of s second) (length s.sources.items) time s.round
-    ++ kept_text s.kept_read s.kept ++ lost_text s.lines_lost
+    ++ banner_text (is_old_round s.stamped second) ++ first_text (standing_of s second) (answering_of s second) (length s.sources.items) time s.round
+    ++ kept_text s.kept_read s.kept ++ lost_text s.lines_lost ++ handover_text s.has_handover
 
 abbrev pub page_text : Snapshot → (second : ℕ) → (is_still : Bool) → (time : List ℕ) → List ℕ
 page_text s second is_still time = front_text s second is_still time ++ body_text s second is_still time

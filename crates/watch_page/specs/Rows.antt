@@ -6,7 +6,7 @@ use Rattle.log_format.specs.Readings.{status_name}
 use Rattle.log_format.specs.declared.status.Status.{Status}
 use Rattle.escaped_text.specs.Escapes.{escaped}
 use Rattle.escaped_text.specs.declared.Inside.TheVariants.{Html}
-use Rattle.watch_snapshot.specs.Standings.{answers, is_whole}
+use Rattle.watch_snapshot.specs.Standings.{answers, is_back, is_whole}
 use Rattle.watch_snapshot.specs.declared.snapshot.Culprit.{Culprit}
 use Rattle.watch_snapshot.specs.declared.snapshot.Fork.{Fork}
 use Rattle.watch_snapshot.specs.declared.snapshot.Pair.{Pair}
@@ -34,7 +34,7 @@ bad_text bad = codes "votes that are not good: " ++ decimal bad ++ codes " (anot
 unfoldable pub remark_text : SourceSeen → (every second : ℕ) → List ℕ
 remark_text s every second =
     if s.is_aside then codes "set aside"
-    else if nat_lt 0 s.times_back then codes "went back"
+    else if is_back second s then codes "went back"
     else if nat_lt 0 s.bad_votes then bad_text s.bad_votes
     else if answers every second s then codes "answers"
     else if is_whole s.status then codes "silent"

@@ -51,7 +51,7 @@ icon_text Fine = codes "%3Ccircle cx='4' cy='4' r='4' fill='%23187a3c'/%3E"
 unfoldable pub advice_text : Standing → List ℕ
 advice_text Conflict = codes "Two blocks are committed of which neither is the other's ancestor. Stop what rests on this ledger, keep the logs, and send the verdicts to the other operators."
 advice_text Culprits = codes "Each verdict below shows by two signed votes that its replica broke a voting rule. Send it to the other operators, who check it with hs_check or check.html of their own copy of this project."
-advice_text WentBack = codes "A source gave less than it had given, or something else. This accuses nobody: what comes of a source is not signed by its replica. Ask the replica's operator whether a backup was put back: a replica that runs on one may vote twice without knowing it, and is to be stopped."
+advice_text WentBack = codes "A source gave less than it had given, or something else. This accuses nobody: what comes of a source is not signed by its replica. Ask the replica's operator whether a backup was put back: a replica that runs on one may vote twice without knowing it, and is to be stopped. This is shown until the source has given all again that it had, for an hour at most."
 advice_text SetAside = codes "64 votes of a source were not good: it is another committee's log, another replica's, or a liar's. Compare the word of the source with the committee's file."
 advice_text BadVotes = codes "A log of a correct replica has no vote that is not good: this one is of another committee, or of another replica than its word says. Compare the chain id below with the other operators' and the word of the source with the committee's file."
 advice_text NotStored = codes "The disk of this watch is full, or has as much as it may hold, or a file stands where one is to be. The verdicts below can be fetched from this page."

@@ -1,7 +1,7 @@
 //! The page of a watch.
 
 ghost use Rattle.std.specs.Prelude.{◌≡◌, ◌++◌, IfOk, OnOk};
-ghost use Rattle.watch_page.specs.Pages.{IsPage, banner_text, body_text, commits_text, culprits_text, first_text, foot_text, found_text, front_text, kept_line, kept_text, links_text, looks_text, lost_line, lost_text, none_text, page_text, picture_text, reload_text, sources_text, style_text, title_text};
+ghost use Rattle.watch_page.specs.Pages.{IsPage, banner_text, body_text, commits_text, culprits_text, first_text, foot_text, found_text, front_text, handover_text, kept_line, kept_text, links_text, looks_text, lost_line, lost_text, none_text, page_text, picture_text, reload_text, sources_text, style_text, title_text};
 
 use crate::rows::{put_commits, put_conflict, put_culprits, put_sources};
 use crate::words::{Level, level_of, put_advice, put_class, put_icon, put_share, put_state};
@@ -9,7 +9,7 @@ use blocks::{Ballot, Id};
 use printed_lines::{put_id, put_number};
 use std::alloc::{AllocError, Global};
 use watch_lines::utc_text;
-use watch_snapshot::{Culprit, Fork, Snapshot, SourceSeen, Standing, is_late};
+use watch_snapshot::{Culprit, Fork, Snapshot, SourceSeen, Standing, is_old_round};
 use wire::append;
 
 // ---- the head
@@ -224,6 +224,20 @@ fn put_lost(text: &mut Vec<u8>, lost: u64) -> Result<(), AllocError>
     append(text, b"")
 }
 
+// That the committee handed its ledger over, where it is proved.
+#[tactic(auto, unfolding(crate::specs::Pages::handover_text))]
+fn put_handover(text: &mut Vec<u8>, has_handover: bool) -> Result<(), AllocError>
+    ensures { OnOk result (text.new.items ≡ text.old.items ++ handover_text has_handover) }
+{
+    if !has_handover {
+        return append(text, b"");
+    }
+    append(
+        text,
+        b"<p>It is proved that this committee handed its ledger over to the next one. Watch that one with a watch of its own: the ledger does not go on here.</p>\n",
+    )
+}
+
 fn put_all_sources(
     text: &mut Vec<u8>,
     every: u32,
@@ -292,10 +306,11 @@ fn put_front(
     let standing = seen.standing(second);
     put_title(text, standing, k, m, is_still)?;
     put_looks(text, level_of(standing))?;
-    put_banner(text, is_late(seen.stamped, seen.every, second))?;
+    put_banner(text, is_old_round(seen.stamped, second))?;
     put_first(text, standing, k, m, time, seen.round)?;
     put_kept(text, seen.kept_read, seen.kept)?;
-    put_lost(text, seen.lines_lost)
+    put_lost(text, seen.lines_lost)?;
+    put_handover(text, seen.has_handover)
 }
 
 #[tactic(auto, unfolding(crate::specs::Pages::body_text))]

@@ -72,7 +72,7 @@ fn put_remark(
     if source.is_aside {
         return append(text, b"set aside");
     }
-    if 0 < source.times_back {
+    if source.is_back(second) {
         return append(text, b"went back");
     }
     if 0 < source.bad_votes {

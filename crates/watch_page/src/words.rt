@@ -100,7 +100,7 @@ pub(crate) fn put_advice(text: &mut Vec<u8>, standing: Standing) -> Result<(), A
         ),
         Standing::WentBack => append(
             text,
-            b"A source gave less than it had given, or something else. This accuses nobody: what comes of a source is not signed by its replica. Ask the replica's operator whether a backup was put back: a replica that runs on one may vote twice without knowing it, and is to be stopped.",
+            b"A source gave less than it had given, or something else. This accuses nobody: what comes of a source is not signed by its replica. Ask the replica's operator whether a backup was put back: a replica that runs on one may vote twice without knowing it, and is to be stopped. This is shown until the source has given all again that it had, for an hour at most.",
         ),
         Standing::SetAside => append(
             text,

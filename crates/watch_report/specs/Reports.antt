@@ -47,7 +47,8 @@ source_counts s =
 unfoldable pub source_times : SourceSeen → List ℕ
 source_times s =
     codes ",\"last_answer\":" ++ decimal s.last_answer ++ codes ",\"last_frame\":" ++ decimal s.last_frame
-    ++ codes ",\"went_back\":" ++ decimal s.times_back ++ codes ",\"set_aside\":" ++ bool_text s.is_aside ++ codes "}"
+    ++ codes ",\"went_back\":" ++ decimal s.times_back ++ codes ",\"went_back_at\":" ++ decimal s.went_back_at
+    ++ codes ",\"set_aside\":" ++ bool_text s.is_aside ++ codes ",\"beyond\":" ++ bool_text s.is_beyond ++ codes "}"
 
 abbrev pub source_text : SourceSeen → List ℕ
 source_text s = source_front s ++ source_counts s ++ source_times s
@@ -87,10 +88,10 @@ report_front status chain round started time =
 unfoldable pub report_sources : List SourceSeen → List ℕ
 report_sources sources = codes ",\"sources\":[" ++ listed source_text sources ++ codes "]"
 
-unfoldable pub report_commits : (count : ℕ) → List Ballot → Option Fork → List ℕ
-report_commits count commits conflict =
+unfoldable pub report_commits : (count : ℕ) → List Ballot → Option Fork → (handover : Bool) → List ℕ
+report_commits count commits conflict handover =
     codes ",\"commit_count\":\"" ++ decimal count ++ codes "\",\"commits\":[" ++ listed block_text commits
-    ++ codes "],\"conflict\":" ++ conflict_text conflict
+    ++ codes "],\"conflict\":" ++ conflict_text conflict ++ codes ",\"handover\":" ++ bool_text handover
 
 unfoldable pub report_culprits : List Culprit → (unstored : Bool) → (weight total : ℕ) → List ℕ
 report_culprits culprits unstored weight total =
@@ -100,4 +101,4 @@ report_culprits culprits unstored weight total =
 unfoldable pub report_text : Snapshot → List ℕ
 report_text s =
     report_front (status_of s) s.chain s.round s.started s.stamped ++ report_sources s.sources.items
-    ++ report_commits s.commit_count s.commits.items s.conflict ++ report_culprits s.culprits.items s.is_unstored s.weight s.total
+    ++ report_commits s.commit_count s.commits.items s.conflict s.has_handover ++ report_culprits s.culprits.items s.is_unstored s.weight s.total

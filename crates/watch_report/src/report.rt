@@ -84,8 +84,12 @@ fn put_source_times(text: &mut Vec<u8>, source: &SourceSeen) -> Result<(), Alloc
     put_number(text, source.last_frame)?;
     append(text, b",\"went_back\":")?;
     put_number(text, source.times_back)?;
+    append(text, b",\"went_back_at\":")?;
+    put_number(text, source.went_back_at)?;
     append(text, b",\"set_aside\":")?;
     put_bool(text, source.is_aside)?;
+    append(text, b",\"beyond\":")?;
+    put_bool(text, source.is_beyond)?;
     append(text, b"}")?;
     Ok(())
 }
@@ -204,9 +208,10 @@ fn put_commits(
     count: u64,
     commits: &[Ballot],
     conflict: &Option<Fork>,
+    handover: bool,
 ) -> Result<(), AllocError>
     ensures { OnOk result (text.new.items
-        ≡ text.old.items ++ report_commits count commits.now conflict.now) }
+        ≡ text.old.items ++ report_commits count commits.now conflict.now handover) }
 {
     append(text, b",\"commit_count\":\"")?;
     put_number(text, count)?;
@@ -214,6 +219,8 @@ fn put_commits(
     put_blocks(text, commits)?;
     append(text, b"],\"conflict\":")?;
     put_conflict(text, conflict)?;
+    append(text, b",\"handover\":")?;
+    put_bool(text, handover)?;
     Ok(())
 }
 
@@ -254,7 +261,13 @@ pub fn report_of(alloc: Global, seen: &Snapshot) -> Result<Vec<u8>, AllocError>
         seen.stamped,
     )?;
     put_all_sources(&mut text, &seen.sources)?;
-    put_commits(&mut text, seen.commit_count, &seen.commits, &seen.conflict)?;
+    put_commits(
+        &mut text,
+        seen.commit_count,
+        &seen.commits,
+        &seen.conflict,
+        seen.has_handover,
+    )?;
     put_all_culprits(
         &mut text,
         &seen.culprits,

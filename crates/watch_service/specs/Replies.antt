@@ -3,7 +3,7 @@ use Rattle.std.specs.Prelude.{◌++◌, ◌∷◌, [], ℕ, List, codes, if◌th
 use Rattle.http1.specs.Fields.{Header}
 use Rattle.http_server.specs.declared.response.Response.{Response}
 use Rattle.http_server.specs.Response.{IsResponse}
-use Rattle.watch_snapshot.specs.Times.{is_late}
+use Rattle.watch_snapshot.specs.Times.{is_old_round}
 use Rattle.watch_snapshot.specs.declared.snapshot.Snapshot.{Snapshot}
 use Rattle.watch_service.specs.declared.writing.Kind.{Kind}
 use Rattle.watch_service.specs.declared.writing.Kind.TheVariants.{Text, Json, Metrics, Verdict, Html, Picture, Refused}
@@ -48,8 +48,8 @@ IsTold status kind body response = IsResponse status (fields_of kind) body respo
 
 -- the watch is well where its last round is not too old and all could be stored
 unfoldable pub health_status : Snapshot → (second : ℕ) → ℕ
-health_status s second = if is_late s.stamped s.every second then 503 else (if s.is_unstored then 503 else 200)
+health_status s second = if is_old_round s.stamped second then 503 else (if s.is_unstored then 503 else 200)
 
 unfoldable pub health_text : Snapshot → (second : ℕ) → List ℕ
 health_text s second =
-    if is_late s.stamped s.every second then codes "late\n" else (if s.is_unstored then codes "unstored\n" else codes "ok\n")
+    if is_old_round s.stamped second then codes "late\n" else (if s.is_unstored then codes "unstored\n" else codes "ok\n")

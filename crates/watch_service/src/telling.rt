@@ -17,7 +17,7 @@ use http_server::Response;
 use std::alloc::{AllocError, Global};
 use watch_page::page_of;
 use watch_report::{metrics_of, report_of};
-use watch_snapshot::{Culprit, Snapshot, is_late};
+use watch_snapshot::{Culprit, Snapshot, is_old_round};
 
 pub(crate) fn tell_nowhere(response: &mut Response) -> Result<(), AllocError>
     requires { IsBlank response.old }
@@ -58,7 +58,7 @@ fn tell_verdict(response: &mut Response, culprit: Option<&Culprit>) -> Result<()
 fn health_status(seen: &Snapshot, second: u64) -> StatusCode
     ensures { result ≡ health_status seen.now second }
 {
-    if is_late(seen.stamped, seen.every, second) {
+    if is_old_round(seen.stamped, second) {
         return StatusCode::SERVICE_UNAVAILABLE;
     }
     if seen.is_unstored {
@@ -71,7 +71,7 @@ fn health_status(seen: &Snapshot, second: u64) -> StatusCode
 fn health_text(seen: &Snapshot, second: u64) -> &'static [u8]
     ensures { result.now ≡ health_text seen.now second }
 {
-    if is_late(seen.stamped, seen.every, second) {
+    if is_old_round(seen.stamped, second) {
         return b"late\n";
     }
     if seen.is_unstored {

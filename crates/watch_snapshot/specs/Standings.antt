@@ -7,7 +7,7 @@ use Rattle.watch_snapshot.specs.declared.snapshot.Snapshot.{Snapshot}
 use Rattle.watch_snapshot.specs.declared.snapshot.Standing.{Standing}
 use Rattle.watch_snapshot.specs.declared.snapshot.Standing.TheVariants as stands
 use Rattle.watch_snapshot.specs.declared.source.SourceSeen.{SourceSeen}
-use Rattle.watch_snapshot.specs.Times.{is_late}
+use Rattle.watch_snapshot.specs.Times.{is_late, lasts_back}
 
 -- whether what came last of a source had its end mark
 abbrev pub is_whole : Option Status → Bool
@@ -27,8 +27,9 @@ answers every second s =
 abbrev pub answering_of : Snapshot → (second : ℕ) → ℕ
 answering_of s second = count_by (answers s.every second) s.sources.items
 
-abbrev pub went_back : SourceSeen → Bool
-went_back s = nat_lt 0 s.times_back
+-- whether a source went back and has not given all that it had again; for an hour at most
+abbrev pub is_back : (second : ℕ) → SourceSeen → Bool
+is_back second s = if s.went_back_at == 0 then false else lasts_back s.went_back_at second
 
 abbrev pub has_bad_votes : SourceSeen → Bool
 has_bad_votes s = nat_lt 0 s.bad_votes
@@ -49,7 +50,7 @@ unfoldable pub standing_of : Snapshot → (second : ℕ) → Standing
 standing_of s second =
     if is_some s.conflict then stands.Conflict
     else if nat_lt 0 (length s.culprits.items) then stands.Culprits
-    else if list_any went_back s.sources.items then stands.WentBack
+    else if list_any (is_back second) s.sources.items then stands.WentBack
     else if list_any (λ o. o.is_aside) s.sources.items then stands.SetAside
     else if list_any has_bad_votes s.sources.items then stands.BadVotes
     else reading_of s second

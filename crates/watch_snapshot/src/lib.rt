@@ -7,4 +7,4 @@ mod times;
 
 pub use snapshot::{Culprit, Fork, Pair, Snapshot, Standing};
 pub use source::SourceSeen;
-pub use times::{is_late, patience_of};
+pub use times::{is_late, is_old_round, lasts_back, patience_of};

@@ -2,7 +2,7 @@
 
 ghost use Rattle.std.specs.Prelude.{◌≡◌};
 ghost use Rattle.std.specs.List.{list_any};
-ghost use Rattle.watch_snapshot.specs.Standings.{answering_of, has_bad_votes, reading_of, standing_of, went_back};
+ghost use Rattle.watch_snapshot.specs.Standings.{answering_of, has_bad_votes, is_back, reading_of, standing_of};
 
 use crate::source::SourceSeen;
 use blocks::{Ballot, Id};
@@ -53,7 +53,9 @@ pub struct Snapshot {
     pub round: u64,
     /// When that was.
     pub stamped: u64,
-    /// How many milliseconds lie between two rounds of a source.
+    /// How many milliseconds the rounds took so far, but for what they publish.
+    pub took: u64,
+    /// After how many milliseconds a source is asked again.
     pub every: u32,
     /// The chain's id.
     pub chain: Id,
@@ -65,6 +67,10 @@ pub struct Snapshot {
     pub kept: u64,
     /// How many of them were read.
     pub kept_read: u64,
+    /// How many bytes the files with parts of logs have, 0 where none are kept.
+    pub state_bytes: u64,
+    /// How many they may have, 0 where there is no bound.
+    pub state_bytes_max: u64,
     /// The sources, in the order in which they are named.
     pub sources: Vec<SourceSeen>,
     /// The greatest view of a block for which a quorum voted, 0 where there is none.
@@ -75,6 +81,8 @@ pub struct Snapshot {
     pub commit_count: u64,
     /// The first two commits that conflict.
     pub conflict: Option<Fork>,
+    /// It is proved that the committee handed its ledger over.
+    pub has_handover: bool,
     /// The culprits, in the order in which they were found.
     pub culprits: Vec<Culprit>,
     /// How much the culprits count together.
@@ -92,7 +100,7 @@ pub enum Standing {
     Conflict,
     /// There are culprits.
     Culprits,
-    /// A source's log went back.
+    /// A source's log went back, and what it had was not given again.
     WentBack,
     /// A source was set aside.
     SetAside,
@@ -122,10 +130,10 @@ impl Snapshot {
             .count()
     }
 
-    fn has_gone_back(&self) -> bool
-        ensures { result ≡ list_any went_back self.now.sources.items }
+    fn has_gone_back(&self, second: u64) -> bool
+        ensures { result ≡ list_any (is_back second) self.now.sources.items }
     {
-        self.sources.iter().any(|source| source.went_back())
+        self.sources.iter().any(|source| source.is_back(second))
     }
 
     fn has_bad_votes(&self) -> bool
@@ -151,7 +159,7 @@ impl Snapshot {
         if !self.culprits.is_empty() {
             return Standing::Culprits;
         }
-        if self.has_gone_back() {
+        if self.has_gone_back(second) {
             return Standing::WentBack;
         }
         if self.has_aside() {

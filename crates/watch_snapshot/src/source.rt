@@ -1,9 +1,9 @@
 //! A source as a watch saw it.
 
 ghost use Rattle.std.specs.Prelude.{◌≡◌};
-ghost use Rattle.watch_snapshot.specs.Standings.{answers, has_bad_votes, is_whole, went_back};
+ghost use Rattle.watch_snapshot.specs.Standings.{answers, has_bad_votes, is_back, is_whole};
 
-use crate::times::is_late;
+use crate::times::{is_late, lasts_back};
 use blocks::Id;
 use log_format::Status;
 
@@ -30,12 +30,16 @@ pub struct SourceSeen {
     pub top_view: u64,
     /// What its first log's frames digest to: see docs/FORMATS.md.
     pub digest: Id,
-    /// When it last answered.
+    /// When it last gave a byte.
     pub last_answer: u64,
     /// When a frame last came of it.
     pub last_frame: u64,
     /// How often it went back.
     pub times_back: u64,
+    /// When it last did; 0 where it gave all again that it had then.
+    pub went_back_at: u64,
+    /// It gave one log too many, which is not read.
+    pub is_beyond: bool,
     /// No more of it is read.
     pub is_aside: bool,
 }
@@ -64,10 +68,14 @@ impl SourceSeen {
         !is_late(self.last_answer, every, second)
     }
 
-    pub(crate) fn went_back(&self) -> bool
-        ensures { result ≡ went_back self.now }
+    /// Whether it went back, and has not given all again that it had; for an hour at most.
+    pub fn is_back(&self, second: u64) -> bool
+        ensures { result ≡ is_back second self.now }
     {
-        0 < self.times_back
+        if self.went_back_at == 0 {
+            return false;
+        }
+        lasts_back(self.went_back_at, second)
     }
 
     pub(crate) fn has_bad_votes(&self) -> bool

@@ -9,7 +9,7 @@ use Rattle.watch_desk.proofs.desk.Desk.go_back.Goals as goal
 pub returns : goal.returns
 returns c =
     let i = c.args.i in
-    let Is : SourceKnown → SourceKnown → Type 0 = λ before after. IsBack before after i c.args.round c.go_back.result in
+    let Is : SourceKnown → SourceKnown → Type 0 = λ before after. IsBack before after i c.args.round c.args.second c.args.had c.go_back.result in
     let d : Desk = record { collected = c.self.inside.collector; sources = c.self.inside.sources.items; told = c.self.inside.told } in
     let there : i < length d.sources = subst (λ (e : Desk). i < length e.sources) (sym c.self.view_is) c.requires in
     let new : Desk = record { collected = c.self.inside.collector; sources = set c.self.inside.sources.items i c.go_back.new.self; told = c.self.inside.told } in
