@@ -39,14 +39,22 @@ fn key_is_spent_after_1024_votes(rt: HostRuntime) {
 
 // The entry of a vote for the block of this view on genesis. No signature in a log is checked.
 fn push_entry(bytes: &mut Vec<u8>, genesis: &Header, block: &Header) -> Result<(), AllocError> {
-    bytes.extend_from_slice(b"\x01\x00\x00\x06\xa8\x03")?;
-    bytes.extend_from_slice(&block.to_bytes())?;
-    bytes.extend_from_slice(&genesis.to_bytes())?;
-    bytes.push(0)?;
-    bytes.extend_from_slice(&block.view.to_be_bytes())?;
-    bytes.extend_from_slice(&block.id())?;
-    bytes.extend_from_slice(&[0; 1452])?;
-    bytes.extend_from_slice(texts::of_genesis())
+    let (header, parent) = (block.to_bytes(), genesis.to_bytes());
+    let (view, id, signature) = (block.view.to_be_bytes(), block.id(), [0; 1452]);
+    let pieces: [&[u8]; 8] = [
+        b"\x01\x00\x00\x06\xa8\x03",
+        &header,
+        &parent,
+        b"\x00",
+        &view,
+        &id,
+        &signature,
+        texts::of_genesis(),
+    ];
+    for piece in pieces {
+        bytes.extend_from_slice(piece)?;
+    }
+    Ok(())
 }
 
 // The bytes of a log of votes of the views from 1 to this one on genesis.

@@ -13,8 +13,20 @@ use std::marker::Brand;
 use std::process::Abort;
 use std::sync::Wait;
 use std::sync::ledger::Blank;
-use vote_desk::{Answer, Desk, DeskNaming, DeskStatus, Left, Parts, Receipt, Session};
+use vote_desk::{
+    Answer, Desk, DeskError, DeskNaming, DeskStatus, Left, Parts, Receipt, Reply, Session,
+};
 use vote_log::{Frames, MemorySink, Status};
+
+fn receipt_in(reply: &Result<Reply, DeskError>) -> Option<Receipt> {
+    match reply {
+        Ok(reply) => match reply.act {
+            Answer::Voted(receipt) => Some(receipt),
+            _ => None,
+        },
+        Err(_) => None,
+    }
+}
 
 // The receipt of a block that is voted for.
 fn votes<N: DeskNaming, R: Wait + AllocGlobal>(
@@ -26,10 +38,9 @@ fn votes<N: DeskNaming, R: Wait + AllocGlobal>(
 ) -> Option<Receipt>
     requires { committee.now ≡ N.committee }
 {
-    let block = checked_by(rt.alloc(), &LmsVerifier, committee, block)?;
-    match desk.deliver(rt, session, block).ok()?.act {
-        Answer::Voted(receipt) => Some(receipt),
-        _ => None,
+    match checked_by(rt.alloc(), &LmsVerifier, committee, block) {
+        Some(block) => receipt_in(&desk.deliver(rt, session, block)),
+        None => None,
     }
 }
 

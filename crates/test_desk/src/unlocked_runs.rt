@@ -3,7 +3,7 @@
 ghost use Rattle.std.specs.Prelude.{◌≡◌};
 
 use crate::replicas::{
-    Step, checked_by, committee, delivery_of, is_answered, new_parts, restarted, stay,
+    Delivery, Step, checked_by, committee, delivery_of, is_answered, new_parts, restarted, stay,
 };
 use crate::worked_runs::{Stay, TIMEOUT};
 use blocks::CommitteeView;
@@ -16,6 +16,22 @@ use std::sync::Wait;
 use std::sync::ledger::Blank;
 use vote_desk::{Closed, DeskNaming, DeskState, Parts, Session, close_on, deliver_on, timeout_on};
 
+// Delivers a block, and answers whether that comes to what it is to.
+fn comes_to<N: DeskNaming>(
+    alloc: Global,
+    state: &mut DeskState<N, MemoryDisk>,
+    session: &mut Session<N>,
+    committee: &CommitteeView,
+    delivery: &Delivery,
+) -> bool
+    requires { committee.now ≡ N.committee }
+{
+    match checked_by(alloc, &LmsVerifier, committee, delivery.block) {
+        Some(block) => is_answered(&deliver_on(state, session, block), delivery),
+        None => false,
+    }
+}
+
 // Takes a timeout or a delivery, and answers whether that comes to what it is to.
 fn takes<N: DeskNaming>(
     alloc: Global,
@@ -26,15 +42,10 @@ fn takes<N: DeskNaming>(
 ) -> bool
     requires { committee.now ≡ N.committee }
 {
-    if let Step::TimesOut(view) = step {
-        return timeout_on(state, view).is_ok();
-    }
-    let Some(delivery) = delivery_of(step) else {
-        return false;
-    };
-    match checked_by(alloc, &LmsVerifier, committee, delivery.block) {
-        Some(block) => is_answered(&deliver_on(state, session, block), &delivery),
-        None => false,
+    match (step, delivery_of(step)) {
+        (Step::TimesOut(view), _) => timeout_on(state, view).is_ok(),
+        (_, Some(delivery)) => comes_to(alloc, state, session, committee, &delivery),
+        _ => false,
     }
 }
 
