@@ -1,5 +1,5 @@
 -- Frames that are written one after the other.
-use Rattle.std.proofs.Common.{◌≡◌, ◌∙◌, ◌+◌, ◌++◌, ◌∷◌, [], ℕ, List, Option, Some, None, length, take, false, true, refl, sym, ap, subst, arith, append_assoc}
+use Rattle.std.proofs.Common.{◌≡◌, ◌∙◌, ◌+◌, ◌++◌, ◌∷◌, [], ℕ, List, Option, Some, None, length, false, true, refl, sym, ap, subst, arith, append_assoc}
 use Rattle.std.specs.Prelude.{codes}
 use Rattle.std.specs.List.{flat_map}
 use Rattle.std.proofs.lemmas.Bool.{false≢true}
@@ -8,10 +8,9 @@ use Rattle.std.proofs.lemmas.List.Concat.{flat_map-append}
 use Rattle.std.proofs.Math.Seq.{take-length}
 use Rattle.streams.specs.Streams.{Wrote, WrotePart}
 use Rattle.streams.proofs.Writing.{wrote_both}
-use Rattle.log_format.specs.Exports.{end_mark, export_text, frame_text, stream_text}
+use Rattle.log_format.specs.Exports.{end_mark, frame_text, stream_text}
 use Rattle.log_format.specs.declared.status.Status.{Status}
 use Rattle.log_format.specs.declared.status.Status.TheVariants.{Whole, Cut, Broken, TooLong, Failed}
-use Rattle.log_export.specs.Sent.{cut_text}
 use Rattle.log_export.proofs.Parts.{part_behind, part_of_front}
 use Rattle.evidence.specs.Logs.{ReceivedLog}
 use Rattle.kept_logs.specs.Kept.{kept_text, text_of}

@@ -4,5 +4,5 @@
 mod laws;
 mod writer;
 
-pub use laws::{a_kept_log_reads_back, what_is_kept_is_the_log};
+pub use laws::{a_kept_log_reads_back, what_a_source_gives_can_be_kept, what_is_kept_is_the_log};
 pub use writer::LogWriter;

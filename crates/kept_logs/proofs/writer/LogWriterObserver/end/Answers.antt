@@ -1,4 +1,4 @@
-use Rattle.std.proofs.Common.{◌≡◌, ◌∙◌, ℕ, List, Option, false, refl, rules, sym, ap, subst}
+use Rattle.std.proofs.Common.{◌≡◌, ◌∙◌, refl, rules, sym, ap, subst}
 use Rattle.streams.specs.Streams.{WrotePart}
 use Rattle.log_format.specs.Exports.{end_mark}
 use Rattle.log_format.specs.declared.status.Status.TheVariants.{Whole}

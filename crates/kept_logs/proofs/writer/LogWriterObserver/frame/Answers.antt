@@ -1,4 +1,4 @@
-use Rattle.std.proofs.Common.{◌≡◌, ◌∙◌, ℕ, List, Option, false, refl, sym, ap, subst}
+use Rattle.std.proofs.Common.{◌∙◌, ℕ, List, Option, refl, sym, ap, subst}
 use Rattle.streams.specs.Streams.{WrotePart}
 use Rattle.log_format.specs.Exports.{frame_text}
 use Rattle.kept_logs.specs.Written.{Writing}
