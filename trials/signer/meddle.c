@@ -7,6 +7,7 @@
  *                                WHEN is before, half (half of the bytes were written or sent) or after
  *   MEDDLE_FAIL=KIND:K:WHEN      the K-th call fails with EIO: before anything was done, or once half was written
  *   MEDDLE_CLOCK=N               the clock that only rises goes N times as fast
+ *   MEDDLE_SLEEP=N               each sleep lasts an N-th as long
  *   MEDDLE_SLOW=N                each sync takes N milliseconds more
  *
  * A KIND is write or sync, of a regular file, or send, on a socket. A note is its kind (1 byte: W a write that ended, S a sync
@@ -47,7 +48,7 @@ static struct aim killed = {KINDS, 0, BEFORE}, failed = {KINDS, 0, BEFORE};
 static atomic_long counts[KINDS];
 static pthread_mutex_t order = PTHREAD_MUTEX_INITIALIZER;
 static int notes = -1;
-static long rate = 1;
+static long rate = 1, hurry = 1;
 static struct timespec delay;
 static struct timespec first_time;
 
@@ -68,9 +69,11 @@ static struct aim aim_of(const char *name)
 __attribute__((constructor)) static void read_environment(void)
 {
     const char *path = getenv("MEDDLE_NOTE"), *fast = getenv("MEDDLE_CLOCK"), *slow = getenv("MEDDLE_SLOW");
+    const char *hurries = getenv("MEDDLE_SLEEP");
     if (path && (notes = open(path, O_WRONLY | O_CREAT | O_APPEND | O_CLOEXEC, 0600)) < 0)
         _exit(70);
     rate = fast ? atol(fast) : 1;
+    hurry = hurries ? atol(hurries) : 1;
     long more = slow ? atol(slow) : 0;
     delay = (struct timespec){more / 1000, more % 1000 * 1000000};
     killed = aim_of("MEDDLE_KILL");
@@ -164,6 +167,13 @@ ssize_t write(int file, const void *bytes, size_t count)
     return done;
 }
 
+int nanosleep(const struct timespec *asked, struct timespec *left)
+{
+    long long shorter = (asked->tv_sec * 1000000000LL + asked->tv_nsec) / hurry;
+    struct timespec time = {shorter / 1000000000LL, shorter % 1000000000LL};
+    return (int)syscall(SYS_nanosleep, &time, left);
+}
+
 static int synced(int file, long call)
 {
     long number = atomic_fetch_add(&counts[SYNCS], 1) + 1;
@@ -171,7 +181,7 @@ static int synced(int file, long call)
     if (dies && killed.when != AFTER)
         die();
     note('S', file, 0, NULL, 0);
-    nanosleep(&delay, NULL);
+    syscall(SYS_nanosleep, &delay, NULL);
     if (is_aim(&failed, SYNCS, number)) {
         errno = EIO;
         return -1;
