@@ -1,5 +1,7 @@
 //! Where calls begin and end in what a caller sends.
 
+ghost use Rattle.std.specs.Prelude.{◌≡◌, ◌++◌, ◌↔◌, [], IsFalse, OnOk, false};
+
 use bytes::{Buf, BytesMut};
 use http1::{Event, Limits, Server};
 use httparse::spans::EMPTY_HEADER_SPAN;
@@ -37,7 +39,10 @@ pub struct CallsRead {
 
 impl CallsRead {
     /// Of a connection over which nothing came.
-    pub fn new(alloc: Global) -> CallsRead {
+    pub fn new(alloc: Global) -> CallsRead
+        ensures rest { result.rest.items ≡ [] }
+        ensures head { result.has_head ≡ false }
+    {
         CallsRead {
             alloc,
             server: Server::new(Limits::default()),
@@ -48,12 +53,17 @@ impl CallsRead {
     }
 
     /// Whether a call has begun that is not whole. What is no call counts as one.
-    pub fn is_amid(&self) -> bool {
+    pub fn is_amid(&self) -> bool
+        ensures { IsFalse result ↔ ((self.now.has_head ≡ false) × (self.now.rest.items ≡ [])) }
+    {
         self.has_head || !self.rest.is_empty()
     }
 
     /// These bytes came.
-    pub fn put(&mut self, bytes: &[u8]) -> Result<(), AllocError> {
+    pub fn put(&mut self, bytes: &[u8]) -> Result<(), AllocError>
+        ensures ok { OnOk result (self.new.rest.items ≡ self.old.rest.items ++ bytes.now) }
+        ensures head { self.new.has_head ≡ self.old.has_head }
+    {
         self.rest.extend_from_slice(bytes)
     }
 

@@ -1,5 +1,9 @@
 //! Calls that are gathered until they are whole.
 
+ghost use Rattle.std.specs.Prelude.{◌≡◌, ◌≢◌, ◌↔◌, [], IfOk, IsOk, IsTrue, Ok, OnOk, true};
+ghost use Rattle.patient_sockets.specs.declared.crowd.Next.TheVariants.{Asks, End, Later, Piece};
+ghost use Rattle.patient_calls.specs.Gatherings.{Hears, IsAllAnswered, IsUnheard, MayHaveCalls};
+
 use crate::calls_read::{CallsRead, Found};
 use bytes::{Buf, BytesMut};
 use patient_sockets::{Next, Talk};
@@ -94,13 +98,18 @@ impl CallsSoFar {
     }
 
     // Whether all that came is answered.
-    fn is_done(&self) -> bool {
+    fn is_done(&self) -> bool
+        ensures { IsTrue result ↔ IsAllAnswered self.now }
+    {
         self.is_over || (self.has_answered && self.bytes.is_empty())
     }
 }
 
 // Bytes that are sent, where there are any.
-fn piece_of(bytes: Vec<u8>) -> Next {
+fn piece_of(bytes: Vec<u8>) -> Next
+    ensures none { bytes.items ≡ [] → result ≡ End }
+    ensures some { bytes.items ≢ [] → result ≡ Piece bytes }
+{
     if bytes.is_empty() {
         return Next::End;
     }
@@ -133,7 +142,10 @@ impl<A: Answerer> CallTalk<A> {
 impl<A: Answerer> Talk for CallTalk<A> {
     type Line = CallsSoFar;
 
-    fn begin(&mut self) -> io::Result<CallsSoFar> {
+    fn begin(&mut self) -> io::Result<CallsSoFar>
+        ensures made { IsOk result }
+        ensures unheard { IfOk result IsUnheard }
+    {
         Ok(CallsSoFar {
             calls: CallsRead::new(self.alloc),
             bytes: BytesMut::new(self.alloc),
@@ -142,13 +154,23 @@ impl<A: Answerer> Talk for CallTalk<A> {
         })
     }
 
-    fn hear(&mut self, line: &mut CallsSoFar, bytes: &[u8]) -> io::Result<()> {
+    fn hear(&mut self, line: &mut CallsSoFar, bytes: &[u8]) -> io::Result<()>
+        ensures { OnOk result (Hears bytes.now line.old line.new) }
+    {
         line.calls.put(bytes)?;
         line.bytes.extend_from_slice(bytes)?;
         Ok(())
     }
 
-    fn next(&mut self, line: &mut CallsSoFar, is_full: bool) -> io::Result<Next> {
+    fn next(&mut self, line: &mut CallsSoFar, is_full: bool) -> io::Result<Next>
+        // Behind the answers to what came it is over.
+        ensures over { IsAllAnswered line.old
+            → (result ≡ Ok End) × (line.new ≡ line.old) × (self.new ≡ self.old) }
+
+        // Where memory is full nothing is answered, and what came stays.
+        ensures full { MayHaveCalls line.old → is_full ≡ true
+            → (result ≡ Ok Later) × (line.new ≡ line.old) × (self.new ≡ self.old) }
+    {
         if line.is_done() {
             return Ok(Next::End);
         }

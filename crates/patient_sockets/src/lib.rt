@@ -11,8 +11,6 @@ mod listening;
 mod lobby;
 mod room;
 mod standing;
-#[cfg(test)]
-mod tests;
 mod waiting;
 
 pub use bounds::{Bounds, is_over};
@@ -21,6 +19,6 @@ pub use dialing::{PatientStream, dial};
 pub use giving_way::gives_way;
 pub use listening::{bind, bind_at_home};
 pub use lobby::{Arrival, Came, Lobby, LobbyRules};
-pub use room::{connections_at, most_open_files};
+pub use room::{connections_at, most_open_files, most_open_files_by};
 pub use standing::Standing;
 pub use waiting::{Hold, read_held, set_ticks, tick, write_held};

@@ -1,5 +1,9 @@
 //! One connection of a crowd.
 
+ghost use Rattle.std.specs.Prelude.{◌≡◌, ◌⊎◌, ◌↔◌, IsTrue, false, true, vec_len};
+ghost use Rattle.std.specs.Duration.{as_nanos};
+ghost use Rattle.patient_sockets.specs.Standings.{milliseconds, milliseconds_between};
+
 use crate::Standing;
 use crate::crowd::{Next, Talk};
 use crate::waiting::may_go_on;
@@ -77,7 +81,15 @@ impl<L> Line<L> {
     }
 
     /// How it stands.
-    pub fn standing(&self, now: Instant) -> Standing {
+    pub fn standing(&self, now: Instant) -> Standing
+        ensures { result ≡ record {
+          age = milliseconds_between self.now.made now;
+          idle = milliseconds_between self.now.moved now;
+          is_asking = self.now.is_asking;
+          bytes = self.now.bytes;
+          nth = self.now.nth;
+        } }
+    {
         Standing {
             age: milliseconds(now.saturating_duration_since(self.made)),
             idle: milliseconds(now.saturating_duration_since(self.moved)),
@@ -88,12 +100,17 @@ impl<L> Line<L> {
     }
 
     /// How many bytes of memory it holds for what goes out.
-    pub fn held(&self) -> usize {
+    pub fn held(&self) -> usize
+        ensures { result ≡ vec_len self.now.piece }
+    {
         self.piece.len()
     }
 
     /// Whether it may get on now.
-    pub fn has_work(&self, is_full: bool) -> bool {
+    pub fn has_work(&self, is_full: bool) -> bool
+        ensures { IsTrue result ↔ ((self.now.has_work ≡ true)
+            ⊎ ((self.now.waits_for_room ≡ true) × (is_full ≡ false))) }
+    {
         self.has_work || (self.waits_for_room && !is_full)
     }
 
@@ -215,10 +232,9 @@ fn write_from(stream: &mut TcpStream, bytes: &[u8], from: usize) -> io::Result<u
     }
 }
 
-pub(crate) fn milliseconds(time: Duration) -> u32 {
-    let all = time
-        .as_secs()
-        .saturating_mul(1_000)
-        .saturating_add(u64::from(time.subsec_millis()));
-    u32::try_from(all).unwrap_or(u32::MAX)
+/// So long in whole milliseconds, at most so many as the type counts.
+pub(crate) fn milliseconds(time: Duration) -> u32
+    ensures { result ≡ milliseconds (as_nanos time) }
+{
+    u32::try_from(time.as_millis()).unwrap_or(u32::MAX)
 }

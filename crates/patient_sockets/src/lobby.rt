@@ -1,5 +1,8 @@
 //! Connections whose first bytes are awaited all at once, in one thread, and which are then taken one after the other.
 
+ghost use Rattle.std.specs.Prelude.{◌≡◌, ◌-◌, ◌^◌, min, true, vec_len};
+ghost use Rattle.patient_sockets.specs.Standings.{milliseconds_between};
+
 use crate::giving_way::gives_way;
 use crate::line::{milliseconds, side_of};
 use crate::standing::Standing;
@@ -324,7 +327,15 @@ impl<'a, R: Net + Clock> Lobby<'a, R> {
 }
 
 impl Guest {
-    fn standing(&self, now: Instant) -> Standing {
+    fn standing(&self, now: Instant) -> Standing
+        ensures { result ≡ record {
+          age = milliseconds_between self.now.made now;
+          idle = milliseconds_between self.now.made now;
+          is_asking = true;
+          bytes = min (vec_len self.now.bytes) (2 ^ 32 - 1);
+          nth = self.now.nth;
+        } }
+    {
         let age = milliseconds(now.saturating_duration_since(self.made));
         Standing {
             age,

@@ -23,23 +23,27 @@ pub fn connections_at(open_files: u64, taken: u64, sockets: u64) -> u64
     (left / sockets.max(1)).min(MOST_CONNECTIONS)
 }
 
-// What stands before the number in /proc/self/limits, and how much of that is read.
+// What stands before the number in a file of limits, and how much of that is read.
 const OPEN_FILES: &str = "Max open files";
 
 const MOST_OF_LIMITS: u64 = 16_384;
 
 /// How many files this process may have open, as /proc/self/limits tells, or 1,024 where it does not.
 pub fn most_open_files<F: Files<File = File>>(files: &F, alloc: Global) -> u64 {
-    let text = match limits(files, alloc) {
-        Ok(text) => text,
-        Err(_) => return MOST_CONNECTIONS,
-    };
-    open_files_in(&text).unwrap_or(MOST_CONNECTIONS)
+    most_open_files_by(files, alloc, "/proc/self/limits")
 }
 
-fn limits<F: Files<File = File>>(files: &F, alloc: Global) -> io::Result<Vec<u8>> {
+/// How many files a process may have open whose limits this file tells, or 1,024 where it does not.
+pub fn most_open_files_by<F: Files<File = File>>(files: &F, alloc: Global, limits: &str) -> u64 {
+    match text_of(files, alloc, limits) {
+        Ok(text) => open_files_in(&text).unwrap_or(MOST_CONNECTIONS),
+        Err(_) => MOST_CONNECTIONS,
+    }
+}
+
+fn text_of<F: Files<File = File>>(files: &F, alloc: Global, limits: &str) -> io::Result<Vec<u8>> {
     let mut text = Vec::new(alloc);
-    let file = File::open(files, "/proc/self/limits")?;
+    let file = File::open(files, limits)?;
     let _length = file.take(MOST_OF_LIMITS).read_to_end(&mut text)?;
     Ok(text)
 }
@@ -54,24 +58,4 @@ fn open_files_in(text: &[u8]) -> Option<u64> {
         }
     }
     None
-}
-
-#[cfg(test)]
-mod tests {
-    use super::*;
-    use std::test::Fail;
-
-    #[test]
-    fn reads_the_limit(rt: HostRuntime) -> Result<(), Fail> {
-        let text =
-            b"Limit   Soft Limit  Hard Limit  Units\nMax processes  7  8  processes\nMax open files            4096                 524288               files\n";
-        assert_eq!(rt; open_files_in(text), Some(4_096));
-        assert_eq!(rt;
-            open_files_in(b"Max open files  unlimited unlimited files\n"),
-            Some(u64::MAX)
-        );
-        assert_eq!(rt; open_files_in(b"Max cpu time  1 2 s\n"), None);
-        assert!(rt; most_open_files(&rt, rt.alloc()) > 0);
-        Ok(())
-    }
 }

@@ -1,5 +1,7 @@
 //! Reads and writes that wait, but not for ever: between short waits it is seen whether the stream is given up.
 
+ghost use Rattle.std.specs.Prelude.{◌≡◌};
+ghost use Rattle.std.specs.Duration.{as_nanos};
 ghost use Rattle.std.specs.Io.{ReadsAtMost, WritesAtMost};
 
 use std::io;
@@ -11,7 +13,9 @@ use std::time::Duration;
 pub const TICK_MILLISECONDS: u64 = 250;
 
 /// How long one read or write of the system may wait.
-pub fn tick() -> Duration {
+pub fn tick() -> Duration
+    ensures { as_nanos result ≡ 250_000_000 }
+{
     Duration::from_millis(TICK_MILLISECONDS)
 }
 

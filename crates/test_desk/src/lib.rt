@@ -1,5 +1,5 @@
-//! Tests of the desk: worked runs over blocks, certificates and logs of an independent program, at a desk and behind no
-//! lock, calls that overlap in threads, refusals, limits, further keys, and crashes.
+//! Tests of the desk: worked runs over blocks, certificates and logs of an independent program, calls that overlap in threads,
+//! refusals, limits, further keys, and crashes.
 #![tactic(auto)]
 
 #[cfg(test)]
@@ -16,7 +16,5 @@ mod overlaps;
 mod refusals;
 #[cfg(test)]
 mod replicas;
-#[cfg(test)]
-mod unlocked_runs;
 #[cfg(test)]
 mod worked_runs;

@@ -4,48 +4,18 @@
 ghost use Rattle.std.specs.Prelude.{◌≡◌};
 
 use crate::limits::parts_with_votes;
-use crate::replicas::{Block, checked_by, committee, id_of_a1, new_keys, new_parts};
+use crate::replicas::{Block, Step, checked_by, id_of_a1, new_keys, new_parts, stay};
 use blocks::{CommitteeView, Id};
 use certificates::LmsVerifier;
-use lms_tree::SigningTree;
 use stable_log::MemoryDisk;
-use std::marker::Brand;
+use std::alloc::Global;
 use std::process::Abort;
 use std::sync::Wait;
-use std::sync::ledger::Blank;
-use vote_desk::{
-    Answer, Desk, DeskError, DeskNaming, DeskStatus, Left, Parts, Receipt, Reply, Session,
-};
+use vote_desk::{Answer, Desk, DeskNaming, DeskStatus, Left, Receipt, Session};
 use vote_log::{Frames, MemorySink, Status};
 
-fn receipt_in(reply: &Result<Reply, DeskError>) -> Option<Receipt> {
-    match reply {
-        Ok(reply) => match reply.act {
-            Answer::Voted(receipt) => Some(receipt),
-            _ => None,
-        },
-        Err(_) => None,
-    }
-}
-
-// The receipt of a block that is voted for.
-fn votes<N: DeskNaming, R: Wait + AllocGlobal>(
-    rt: &R,
-    desk: &Desk<N, MemoryDisk>,
-    session: &mut Session<N>,
-    committee: &CommitteeView,
-    block: Block,
-) -> Option<Receipt>
-    requires { committee.now ≡ N.committee }
-{
-    match checked_by(rt.alloc(), &LmsVerifier, committee, block) {
-        Some(block) => receipt_in(&desk.deliver(rt, session, block)),
-        None => None,
-    }
-}
-
-// Whether a block that is delivered unvoted is held.
-fn holds_unvoted<N: DeskNaming, R: Wait + AllocGlobal>(
+/// Whether a block that is delivered unvoted is held, and commits nothing.
+pub(crate) fn holds_unvoted<N: DeskNaming, R: Wait + AllocGlobal>(
     rt: &R,
     desk: &Desk<N, MemoryDisk>,
     session: &mut Session<N>,
@@ -61,6 +31,11 @@ fn holds_unvoted<N: DeskNaming, R: Wait + AllocGlobal>(
         Ok(reply) => reply.act == Answer::Held && reply.committed.is_none(),
         Err(_) => false,
     }
+}
+
+/// Whether a desk is at the view 2 and locked on A1.
+pub(crate) fn is_locked_on_a1(status: &DeskStatus) -> bool {
+    status.vote_view == 2 && status.lock.view == 1 && Some(status.lock.id) == id_of_a1()
 }
 
 // Whether a desk is at the view 2 that voted in view 1 and is locked on genesis, and holds two blocks.
@@ -81,98 +56,69 @@ const NEXT_LEFT: Left = Left {
     entries: 4095,
 };
 
-// Whether the log has this vote in view 1, and none in view 2.
-fn has_vote<N: DeskNaming, R: Wait>(rt: &R, desk: &Desk<N, MemoryDisk>, receipt: Receipt) -> bool {
-    desk.vote_in(rt, 1) == Ok(Some(receipt)) && desk.vote_in(rt, 2) == Ok(None)
+// Whether the log has the vote of the one receipt in view 1, and none in view 2.
+fn has_vote<N: DeskNaming, R: Wait>(
+    rt: &R,
+    desk: &Desk<N, MemoryDisk>,
+    receipts: &[Receipt],
+) -> bool {
+    match receipts {
+        [receipt] => desk.vote_in(rt, 1) == Ok(Some(*receipt)) && desk.vote_in(rt, 2) == Ok(None),
+        _ => false,
+    }
 }
 
 // Whether A1 is held, and no block of another id.
 fn holds_a1<N: DeskNaming, R: Wait>(rt: &R, desk: &Desk<N, MemoryDisk>) -> bool {
-    let Some(a1) = id_of_a1() else {
-        return false;
-    };
-    desk.holds(rt, &a1) && !desk.holds(rt, &[0; 32])
-}
-
-// A1 is voted for, A2 is held unvoted, and so it is not voted for when it comes again.
-fn lives<N: DeskNaming, R: Wait + Abort + AllocGlobal>(
-    rt: &R,
-    blank: Blank,
-    committee: &CommitteeView,
-    parts: Parts<MemoryDisk>,
-) -> Option<()>
-    requires name { blank.name ≡ N.name }
-    requires ledger { (blank.parts ≡ N.parts) × (N.parts ≡ 1) }
-    requires committee { committee.now ≡ N.committee }
-    requires replica { 0 ≡ N.replica }
-    requires opening { parts.log.steps ≡ N.opening }
-{
-    let started = Desk::<N, MemoryDisk>::start(rt.alloc(), blank, committee, 0, parts, 1);
-    let (desk, mut sessions) = started.ok()?;
-    let receipt = votes(rt, &desk, &mut sessions[0], committee, Block::A1)?;
-    assert!(rt; holds_unvoted(rt, &desk, &mut sessions[0], committee, Block::A2));
-    assert!(rt; votes(rt, &desk, &mut sessions[0], committee, Block::A2).is_none());
-    assert!(rt; is_at_view_2(&desk.status(rt), &committee.genesis().id()));
-    assert!(rt; has_vote(rt, &desk, receipt));
-    assert!(rt; holds_a1(rt, &desk));
-    Some(())
-}
-
-#[test]
-fn an_unvoted_block_is_only_held(rt: HostRuntime) {
-    let committee = committee(&rt);
-    let parts = new_parts(&rt);
-    let lived = lives::<Brand, HostRuntime>(&rt, Blank::new(1), &committee, parts);
-    assert!(rt; lived.is_some());
-}
-
-// How many frames an export from this entry on has, where it reads back as so many.
-fn frames_from<N: DeskNaming, R: Wait + AllocGlobal>(
-    rt: &R,
-    desk: &Desk<N, MemoryDisk>,
-    first: u32,
-) -> Option<u32> {
-    let mut copy = MemorySink::new(rt.alloc());
-    let count = desk.export(rt, first, u32::MAX, &mut copy).ok()?;
-    let read = Frames::of(rt.alloc(), copy.bytes()).ok()?;
-    if read.status() == Status::Whole && read.frames().len() == count as usize {
-        Some(count)
-    } else {
-        None
+    match id_of_a1() {
+        Some(a1) => desk.holds(rt, &a1) && !desk.holds(rt, &[0; 32]),
+        None => false,
     }
 }
 
-// How many frames the exports from the first entry on and from entry 64 on have; and the keys.
-fn exported<N: DeskNaming, R: Wait + AllocGlobal>(
+/// Whether a desk tells of one vote, for A1 in view 1, and of the view 2 that it gave up.
+pub(crate) fn tells_of_a1<N: DeskNaming, R: Wait>(
     rt: &R,
-    blank: Blank,
+    desk: &Desk<N, MemoryDisk>,
+    session: &Session<N>,
     committee: &CommitteeView,
-    parts: Parts<MemoryDisk>,
-) -> Option<(u32, u32, Vec<SigningTree>)>
-    requires name { blank.name ≡ N.name }
-    requires ledger { (blank.parts ≡ N.parts) × (N.parts ≡ 1) }
-    requires committee { committee.now ≡ N.committee }
-    requires replica { 0 ≡ N.replica }
-    requires opening { parts.log.steps ≡ N.opening }
-{
-    let started = Desk::<N, MemoryDisk>::start(rt.alloc(), blank, committee, 0, parts, 1);
-    let (desk, sessions) = started.ok()?;
-    let first = frames_from(rt, &desk, 0)?;
-    let rest = frames_from(rt, &desk, 64)?;
-    let closed = desk.close(rt.alloc(), sessions).ok()?;
-    Some((first, rest, closed.parts.trees))
+) -> bool {
+    is_at_view_2(&desk.status(rt), &committee.genesis().id())
+        && has_vote(rt, desk, session.receipts())
+        && holds_a1(rt, desk)
 }
 
-// The same of a desk on a log of so many votes.
-fn exported_of<R: Wait + Abort + AllocGlobal>(
+// A1 is voted for, A2 is held unvoted, and so it is not voted for when it comes again.
+const UNVOTED: [Step; 4] = [
+    Step::Votes(Block::A1, 0),
+    Step::HoldsUnvoted(Block::A2),
+    Step::Holds(Block::A2),
+    Step::TellsOfA1,
+];
+
+#[test]
+fn an_unvoted_block_is_only_held(rt: HostRuntime) {
+    stay(&rt, new_parts(&rt), &UNVOTED);
+}
+
+// Whether a stream reads back as so many frames.
+fn has_frames(alloc: Global, stream: &[u8], count: u32) -> bool {
+    match Frames::of(alloc, stream) {
+        Ok(read) => read.status() == Status::Whole && read.frames().len() == count as usize,
+        Err(_) => false,
+    }
+}
+
+/// Whether an export from this entry on has so many frames.
+pub(crate) fn exports<N: DeskNaming, R: Wait + AllocGlobal>(
     rt: &R,
-    trees: Vec<SigningTree>,
-    votes: u64,
-) -> (u32, u32, Vec<SigningTree>) {
-    let committee = committee(rt);
-    let parts = parts_with_votes(rt, trees, votes);
-    let exported = exported::<Brand, R>(rt, Blank::new(1), &committee, parts);
-    exported.expect(rt, "two exports")
+    desk: &Desk<N, MemoryDisk>,
+    first: u32,
+    count: u32,
+) -> bool {
+    let mut copy = MemorySink::new(rt.alloc());
+    desk.export(rt, first, u32::MAX, &mut copy) == Ok(count)
+        && has_frames(rt.alloc(), copy.bytes(), count)
 }
 
 // One export has at most 64 frames; the next one goes on behind them.
@@ -180,8 +126,8 @@ fn exported_of<R: Wait + Abort + AllocGlobal>(
 fn an_export_has_64_frames_at_the_most(rt: HostRuntime) {
     let mut trees = new_keys(&rt);
     for (votes, first, rest) in [(63, 63, 0), (64, 64, 0), (65, 64, 1)] {
-        let (a, b, again) = exported_of(&rt, trees, votes);
-        assert!(rt; a == first && b == rest, "{votes} votes");
-        trees = again;
+        let parts = parts_with_votes(&rt, trees, votes);
+        let steps = [Step::Exports(0, first), Step::Exports(64, rest)];
+        trees = stay(&rt, parts, &steps).parts.trees;
     }
 }

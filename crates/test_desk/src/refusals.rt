@@ -89,14 +89,17 @@ fn with_log(parts: Parts<MemoryDisk>, log: VoteLog<MemoryDisk>) -> Parts<MemoryD
     Parts { trees, index, log }
 }
 
-// The parts with other indices.
-fn with_index(parts: Parts<MemoryDisk>, index: IndexStore<MemoryDisk>) -> Parts<MemoryDisk> {
-    let Parts {
+// The keys with a new log, and an index store whose disk failed.
+fn with_stopped_indices<R: Abort + AllocGlobal>(
+    rt: &R,
+    parts: Parts<MemoryDisk>,
+) -> Parts<MemoryDisk> {
+    let Parts { trees, .. } = parts;
+    Parts {
         trees,
-        index: _,
-        log,
-    } = parts;
-    Parts { trees, index, log }
+        index: stopped_store(rt),
+        log: new_log(rt, new_disk(rt)),
+    }
 }
 
 // A log whose disk fails from now on.
@@ -141,17 +144,9 @@ fn desk_refusals(rt: HostRuntime) {
     }
     let parts = with_log(parts, log_of_another_chain(&rt));
     let parts = refused(&rt, 0, parts, StartError::WrongChain);
-    refused(
-        &rt,
-        0,
-        with_log(parts, stopped_log(&rt)),
-        StartError::Stopped,
-    );
-}
-
-#[test]
-fn a_stopped_index_store_is_refused(rt: HostRuntime) {
-    let parts = with_index(new_parts(&rt), stopped_store(&rt));
+    let parts = with_log(parts, stopped_log(&rt));
+    let parts = refused(&rt, 0, parts, StartError::Stopped);
+    let parts = with_stopped_indices(&rt, parts);
     refused(&rt, 0, parts, StartError::Stopped);
 }
 

@@ -2,6 +2,7 @@
 
 ghost use Rattle.std.specs.Prelude.{◌≡◌, ◌<◌, IfSome};
 
+use crate::live_calls::{exports, holds_unvoted, is_locked_on_a1, tells_of_a1};
 use blocks::{CommitteeView, Header, Id};
 use certificates::{Certificate, CheckedBlock, LmsVerifier, Verifier, check_block};
 use fixtures::{certificates as texts, core_blocks, verdicts};
@@ -56,8 +57,16 @@ pub(crate) enum Step {
     VotesForAll(u32),
     /// The same blocks are held.
     HoldsAll(u32),
+    /// The block is delivered unvoted, and held.
+    HoldsUnvoted(Block),
     /// The views up to this one are given up.
     TimesOut(u64),
+    /// The desk is at the view 2, and locked on A1.
+    IsLockedOnA1,
+    /// It tells of one vote, for A1, and of the view 2 that it gave up.
+    TellsOfA1,
+    /// An export from this entry on has so many frames.
+    Exports(u32, u32),
     /// A timeout is refused, since the desk is stopped.
     IsStopped,
 }
@@ -296,25 +305,23 @@ fn outcome_of(act: &Answer) -> Outcome {
     }
 }
 
-/// A block that is delivered, and what that is to come to.
+// A block that is delivered, and what that is to come to.
 #[derive(Clone, Copy)]
-pub(crate) struct Delivery {
-    pub block: Block,
+struct Delivery {
+    block: Block,
     want: Outcome,
     committed: Option<Id>,
 }
 
-/// The delivery of a step, if it is that of one block.
-pub(crate) fn delivery_of(step: Step) -> Option<Delivery> {
+// The delivery of a step, if it is that of one block.
+fn delivery_of(step: Step) -> Option<Delivery> {
     let (block, want, committed) = match step {
         Step::Votes(block, number) => (block, Outcome::Voted(number), None),
         Step::VotesAndCommitsA1(block, number) => (block, Outcome::Voted(number), id_of_a1()),
         Step::Raises(block) => (block, Outcome::Raised, None),
         Step::Holds(block) => (block, Outcome::Held, None),
         Step::Refuses(block, why) => (block, Outcome::Refused(why), None),
-        Step::VotesForAll(_) | Step::HoldsAll(_) | Step::TimesOut(_) | Step::IsStopped => {
-            return None;
-        }
+        _ => return None,
     };
     Some(Delivery {
         block,
@@ -323,8 +330,8 @@ pub(crate) fn delivery_of(step: Step) -> Option<Delivery> {
     })
 }
 
-/// Whether a delivery is answered as it is to be.
-pub(crate) fn is_answered(reply: &Result<Reply, DeskError>, delivery: &Delivery) -> bool {
+// Whether a delivery is answered as it is to be.
+fn is_answered(reply: &Result<Reply, DeskError>, delivery: &Delivery) -> bool {
     match reply {
         Ok(reply) => {
             outcome_of(&reply.act) == delivery.want && reply.committed == delivery.committed
@@ -391,8 +398,12 @@ fn takes<N: DeskNaming, R: Wait + AllocGlobal>(
     match step {
         Step::VotesForAll(count) => all_come_to(rt, desk, session, committee, count, true),
         Step::HoldsAll(count) => all_come_to(rt, desk, session, committee, count, false),
+        Step::HoldsUnvoted(block) => holds_unvoted(rt, desk, session, committee, block),
         Step::TimesOut(view) => desk.timeout(rt, view).is_ok(),
         Step::IsStopped => desk.timeout(rt, 1).is_err(),
+        Step::IsLockedOnA1 => is_locked_on_a1(&desk.status(rt)),
+        Step::TellsOfA1 => tells_of_a1(rt, desk, session, committee),
+        Step::Exports(first, count) => exports(rt, desk, first, count),
         _ => match delivery_of(step) {
             Some(delivery) => comes_to(rt, desk, session, committee, &delivery),
             None => false,

@@ -126,24 +126,28 @@ fn ancestors_of_a_fork(rt: HostRuntime) -> Result<(), Fail> {
     Ok(())
 }
 
+// Whether the strange id has no chain, and it and this block have no place to one another.
+fn has_no_place(known: &Ancestry, block: &NamedHeader) -> bool {
+    known.is_ancestor(block.id(), &STRANGE) == None
+        && known.is_ancestor(&STRANGE, block.id()) == None
+        && !known.linked(&STRANGE)
+}
+
 #[test]
 fn a_strange_id_has_no_place(rt: HostRuntime) -> Result<(), Fail> {
-    let known = fork_index(rt.alloc())?;
     let a1 = stored(fork::a1())?;
-    assert!(rt; known.is_ancestor(a1.id(), &STRANGE) == None);
-    assert!(rt; known.is_ancestor(&STRANGE, a1.id()) == None);
-    assert!(rt; !known.linked(&STRANGE));
+    let known = fork_index(rt.alloc())?;
+    assert!(rt; has_no_place(&known, &a1));
     Ok(())
 }
 
 // The stored ids are those of an independent program.
 #[test]
 fn a_block_is_found_by_its_id(rt: HostRuntime) -> Result<(), Fail> {
-    let known = fork_index(rt.alloc())?;
     let a3 = fork::id_of_a3().as_array().ok_or("no id")?;
-    assert!(rt; known.linked(a3));
-    let b8 = is_linked(&known, fork::b8())?;
-    assert!(rt; b8);
+    let b8 = stored(fork::b8())?;
+    let known = fork_index(rt.alloc())?;
+    assert!(rt; known.linked(a3) && known.linked(b8.id()));
     Ok(())
 }
 
@@ -186,20 +190,28 @@ fn above(parent: &NamedHeader) -> NamedHeader {
     })
 }
 
+// The index of A1, A2 and A3, a header that lies, and one on that.
+fn index_with(alloc: Global, lying: NamedHeader) -> Result<Ancestry, Fail> {
+    let mut headers = headers(alloc, &[fork::a1(), fork::a2(), fork::a3()])?;
+    headers.push(lying)?;
+    headers.push(above(&lying))?;
+    index(alloc, headers)
+}
+
+// Whether neither a header that lies nor one on that has a chain.
+fn is_cut_at(known: &Ancestry, lying: &NamedHeader) -> bool {
+    !known.linked(lying.id()) && !known.linked(above(lying).id())
+}
+
 // A header whose parent's view is not that of its parent has no chain, and nothing that stands on it has one.
 #[test]
 fn lying_parent_view(rt: HostRuntime) -> Result<(), Fail> {
     let a1 = stored(fork::a1())?;
     let a3 = stored(fork::a3())?;
     let lying = lying_on(&a3);
-    let above = above(&lying);
-    let mut headers = headers(rt.alloc(), &[fork::a1(), fork::a2(), fork::a3()])?;
-    headers.push(lying)?;
-    headers.push(above)?;
-    let known = index(rt.alloc(), headers)?;
+    let known = index_with(rt.alloc(), lying)?;
     assert!(rt; known.linked(a3.id()));
-    assert!(rt; !known.linked(lying.id()));
-    assert!(rt; !known.linked(above.id()));
+    assert!(rt; is_cut_at(&known, &lying));
     assert!(rt; known.is_ancestor(a1.id(), lying.id()) == None);
     Ok(())
 }
