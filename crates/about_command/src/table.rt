@@ -157,15 +157,16 @@ hs_tool replica | serve fault 5 | What came is no request. | See who connects th
 hs_tool replica | serve fault 6 | A disk failed before, and nothing was sent. | See to the disk.\n\
 hs_signer | refused call 1 NoSuchCall | There is no call of this path. | See the table of calls in hs_signer(1).\n\
 hs_signer | refused call 2 Method | The path has other methods, which allow names. | Use one of these.\n\
-hs_signer | refused call 3 Number | A number is not in its one spelling or out of range, or a parameter is not known or there twice. | Write it without sign and leading zeros.\n\
+hs_signer | refused call 3 Number | A number is not in its one spelling or out of range, or a parameter is not known or there twice, or the chain of a part of the log is no id. | Write it without sign and leading zeros, and an id in 64 digits.\n\
 hs_signer | refused call 4 Host | Over TCP: Host is missing, there twice, or a name that is not allowed. | Call by localhost or an IP address, or allow the name by --host.\n\
 hs_signer | refused call 5 Origin | Over TCP: a page in a browser called. | Call from a program.\n\
 hs_signer | refused call 6 ContentType | Over TCP: what is posted is not application/octet-stream. | Send that header.\n\
 hs_signer | refused call 7 Far | The view lies further above the vote view than is allowed; nothing was delivered. | Deliver the blocks between, or start with a greater --furthest once you know why.\n\
 hs_signer | refused call 8 NoVote | The log has no vote in this view. | Nothing: the replica did not vote there.\n\
-hs_signer | refused call 9 Target | The path is not one of the table, or has a query where none is named, or an id that is not 64 digits in lower case. | Put it right.\n\
+hs_signer | refused call 9 Target | The target is not a path, or has a query that the call does not take, or an id that is not 64 digits in lower case. | Put it right.\n\
 hs_signer | refused call 10 NotHeld | No block of this id is held. | Deliver it, its parents first.\n\
 hs_signer | refused call 11 Length | A vote has not 1,495 bytes, or a timeout has a body. | Put it right.\n\
+hs_signer | refused call 12 Chain | The call names another chain than that of the signer's committee; nothing was done. | Drop it if that chain ended; else ask the signer of that chain.\n\
 hs_signer | listening calls PLACE | It takes calls there. | Nothing.\n\
 hs_signer | listening read ADDRESS | It answers calls that only read there. | Nothing.\n\
 hs_signer | listening log ADDRESS | It hands out its log there. | Nothing.\n\
@@ -202,6 +203,7 @@ hs_watch | TIME round N conflict ID ID | Two conflicting blocks were committed: 
 hs_watch | TIME round N culprit R rule K views V V PATH.. | Replica R broke rule K by its votes in these views; the verdict is at PATH. | Send the verdict to everyone who must agree to the removal.\n\
 hs_watch | TIME round N culprit R kept PATH.. | A verdict on replica R was there at the start. | Send it to everyone who must agree to the removal.\n\
 hs_watch | TIME round N source I replica R STATUS frames F entries E | The log of source I ends otherwise than it did. | With Failed, Cut or Broken see that its server runs.\n\
+hs_watch | TIME round N source I replica R STATUS frames F entries E log LOG | A log of source I, which has more than one, ends otherwise than it did. | With Failed, Cut or Broken see that its server runs.\n\
 hs_watch | TIME round N went-back I replica R | The log of source I went back: its replica may have been put back to a backup. | Ask its operator. It accuses nobody.\n\
 hs_watch | TIME round N beyond I replica R | Source I gave a fifth log that fits none of the four before. | Ask its operator.\n\
 hs_watch | TIME round N lost N | So many lines were dropped: source and went-back since 1,000 lines waited to be read, others only since memory was refused. | See that what reads the lines keeps up; the page of --listen tells how each source stands.\n\

@@ -6,6 +6,14 @@ use Rattle.hex.specs.declared.error.FromHexError.{FromHexError}
 use Rattle.hex.proofs.HexLemmas.{decode_of-ok, decode_sized-encode_lower, decode_sized-ok, decode_sized-twice}
 use Rattle.signer_calls.specs.Places.{IsId}
 
+-- two ids of the same digits are one
+pub one_spelled : (i j : List ℕ) → IsId i → IsId j → encode_lower i ≡ encode_lower j → i ≡ j
+one_spelled i j is_i is_j same =
+    let read = decode_sized-encode_lower i 32 is_i.0 is_i.1 in
+    let read' = decode_sized-encode_lower j 32 is_j.0 is_j.1 in
+    let both : Ok i ≡ Ok j = sym read ∙ ap (λ (d : List ℕ). decode_sized d 32) same ∙ read' in
+    cc both
+
 -- an id is read again from its digits
 pub id_again : (digits id out : List ℕ) (result : Result (Unit {0}) FromHexError) → IsId id → digits ≡ encode_lower id
     → MatchResult (decode_sized digits 32) (λ bytes. (result ≡ Ok tt) × (out ≡ bytes)) (λ e. result ≡ Err e)

@@ -3,8 +3,6 @@ use Rattle.std.proofs.Common.{◌≡◌, ◌≢◌, ◌⊎◌, ◌∙◌, ℕ, L
 use Rattle.std.proofs.lemmas.Fmt.{decimal_injective}
 use Rattle.std.proofs.lemmas.List.{append_cancel_left, length-append}
 use Rattle.byteorder.specs.Endian.{big_bytes}
-use Rattle.hex.specs.Hex.{decode_sized}
-use Rattle.hex.proofs.HexLemmas.{decode_sized-encode_lower}
 use Rattle.http.specs.declared.request.Request.{Request}
 use Rattle.http.specs.Request.{body_of}
 use Rattle.wire.specs.Pieces.{number_at, piece}
@@ -15,20 +13,20 @@ use Rattle.certificates.specs.declared.vote.TheConstants.{VOTE_LEN}
 use Rattle.replica_answers.specs.Requests.{IsOfBlock}
 use Rattle.replica_answers.specs.declared.request.Request.{Request as Asked}
 use Rattle.replica_answers.specs.declared.request.Request.TheVariants as asks
-use Rattle.signer_calls.specs.Asking.{ARequestHasOneReading, HasContentType, HasGoodTarget, HasNoOrigin, HasRightMethod, IsAdmitted, IsAskedAt, IsRefusedAt, IsThere, LogAsked, NamesHost, PassesDoor, TimeoutAsked, VoteAsked, query_in}
-use Rattle.signer_calls.specs.LogParts.{IsOneParameter, IsPart, IsTwoParameters, part_of_one, part_of_two}
+use Rattle.signer_calls.specs.Asking.{ARequestHasOneReading, HasContentType, HasGoodTarget, HasNoOrigin, HasRightMethod, IsAdmitted, IsAnother, IsAskedAt, IsAskedOf, IsHeldTo, IsRefusedAt, IsThere, IsWell, NamesHost, PassesDoor, TimeoutAsked, VoteAsked, query_in}
 use Rattle.signer_calls.specs.Places.{HasNoArgument, HasNoName, IsIdOf, IsNamedPlace, IsNumberOf, IsPlace, methods_of}
+use Rattle.signer_calls.specs.Queries.{IsQuery, no_query}
 use Rattle.signer_calls.specs.SpelledVotes.{IsVote, SpellsVote}
 use Rattle.signer_calls.specs.declared.call.Call.{Call}
 use Rattle.signer_calls.specs.declared.call.Call.TheVariants as call
 use Rattle.signer_calls.specs.declared.call.CallRefusal.{CallRefusal}
 use Rattle.signer_calls.specs.declared.call.CallRefusal.TheVariants as refused
-use Rattle.signer_calls.specs.declared.log_part.LogPart.{LogPart}
-use Rattle.signer_calls.specs.declared.log_part.Parameter.{Parameter}
 use Rattle.signer_calls.specs.declared.place.Place.{Place}
 use Rattle.signer_calls.specs.declared.place.Place.TheVariants as place
+use Rattle.signer_calls.specs.declared.query.Query.{Query}
 use Rattle.signer_calls.specs.declared.rules.Rules.{Rules}
-use Rattle.signer_calls.proofs.Parameters.{contains_cut, one_cut, one_parameter}
+use Rattle.signer_calls.proofs.Ids.{one_spelled}
+use Rattle.signer_calls.proofs.Parameters.{one_of_three}
 
 -- ---- a path names one place
 
@@ -73,11 +71,7 @@ one_number digits None (Some w) none (low, is) = absurd (none w low is)
 one_number digits None None none none' = refl
 
 one_id : (digits : List ℕ) (i j : Option (List ℕ)) → IsIdOf digits i → IsIdOf digits j → i ≡ j
-one_id digits (Some i) (Some j) (is_id, is) (is_id', is') =
-    let read = decode_sized-encode_lower i 32 is_id.0 is_id.1 in
-    let read' = decode_sized-encode_lower j 32 is_id'.0 is_id'.1 in
-    let same = sym read ∙ ap (λ (d : List ℕ). decode_sized d 32) (sym is ∙ is') ∙ read' in
-    cc same
+one_id digits (Some i) (Some j) (is_id, is) (is_id', is') = ap (λ (id : List ℕ). Some id) (one_spelled i j is_id is_id' (sym is ∙ is'))
 one_id digits (Some i) None (is_id, is) none = absurd (none i is_id is)
 one_id digits None (Some j) none (is_id, is) = absurd (none j is_id is)
 one_id digits None None none none' = refl
@@ -234,53 +228,11 @@ one_vote_call body a b (inl (v, is, spells)) (inr (is', short)) = absurd (short 
 one_vote_call body a b (inr (is, short)) (inl (w, is', spells')) = absurd (short (long_vote body w spells'))
 one_vote_call body a b (inr (is, short)) (inr (is', short')) = is ∙ sym is'
 
--- ---- a query asks for one part of the log
+-- ---- a query names one thing
 
-one_part_of_one : (query : List ℕ) (p q : LogPart) → IsOneParameter query p → IsOneParameter query q → p ≡ q
-one_part_of_one query p q (x, spells, is) (y, spells', is') =
-    is ∙ ap (λ (z : Parameter). part_of_one z) (one_parameter query x y spells spells') ∙ sym is'
-
-one_part_of_two : (front back : List ℕ) (p q : LogPart) → IsTwoParameters front back p → IsTwoParameters front back q → p ≡ q
-one_part_of_two front back p q (x, y, first, second, is) (x', y', first', second', is') =
-    let one = one_parameter front x x' first first' in
-    let other = one_parameter back y y' second second' in
-    let same = sym is ∙ ap (λ (z : Parameter). part_of_two z y) one ∙ ap (λ (z : Parameter). part_of_two x' z) other ∙ is' in
-    cc same
-
-one_part : (query : Option (List ℕ)) (p q : LogPart) → IsPart query p → IsPart query q → p ≡ q
-one_part None p q is is' = is ∙ sym is'
-one_part (Some query) p q (inl (uncut, one)) (inl (uncut', one')) = one_part_of_one query p q one one'
-one_part (Some query) p q (inl (uncut, one)) (inr (front, back, cut, none, two)) =
-    absurd (uncut (rw cut (contains_cut front back)))
-one_part (Some query) p q (inr (front, back, cut, none, two)) (inl (uncut, one)) =
-    absurd (uncut (rw cut (contains_cut front back)))
-one_part (Some query) p q (inr (front, back, cut, none, two)) (inr (front', back', cut', none', two')) =
-    let same = one_cut front back front' back' none none' (sym cut ∙ cut') in
-    one_part_of_two front' back' p q (subst (λ (t : List ℕ). IsTwoParameters front' t p) same.1 (subst (λ (t : List ℕ). IsTwoParameters t back p) same.0 two)) two'
-
--- a call that a query asks for at /log
-abbrev LogCase : Option (List ℕ) → Call → Type 0
-LogCase query a =
-    ((part : LogPart) × (a ≡ call.Log part) × IsPart query part)
-    ⊎ ((a ≡ call.Refused refused.Number) × ((part : LogPart) → IsPart query part → ⊥))
-
-log_case : (query : Option (List ℕ)) (a : Call) → LogAsked query a → LogCase query a
-log_case query (call.Log part) is = inl (part, refl, is)
-log_case query (call.Judge x) is = inr is
-log_case query (call.Replica x) is = inr is
-log_case query (call.VoteIn x) is = inr is
-log_case query (call.Header x) is = inr is
-log_case query call.Status is = inr is
-log_case query call.Live is = inr is
-log_case query call.Health is = inr is
-log_case query call.Metrics is = inr is
-log_case query (call.Refused x) is = inr is
-
-one_log_call : (query : Option (List ℕ)) (a b : Call) → LogCase query a → LogCase query b → a ≡ b
-one_log_call query a b (inl (p, is, part)) (inl (q, is', part')) = is ∙ ap (λ (x : LogPart). call.Log x) (one_part query p q part part') ∙ sym is'
-one_log_call query a b (inl (p, is, part)) (inr (is', none)) = absurd (none p part)
-one_log_call query a b (inr (is, none)) (inl (q, is', part')) = absurd (none q part')
-one_log_call query a b (inr (is, none)) (inr (is', none')) = is ∙ sym is'
+one_query : (text : Option (List ℕ)) (q r : Query) → IsQuery text q → IsQuery text r → q ≡ r
+one_query None q r is is' = is ∙ sym is'
+one_query (Some text) q r is is' = one_of_three text no_query q r is is'
 
 -- ---- one thing is asked of a place
 
@@ -290,21 +242,38 @@ one_timeout view body a b (inl (empty, is)) (inr (some, is')) = absurd (some emp
 one_timeout view body a b (inr (some, is)) (inl (empty, is')) = absurd (some empty)
 one_timeout view body a b (inr (some, is)) (inr (some', is')) = is ∙ sym is'
 
-one_asked : (r : Request (List ℕ)) (p : Place) (a b : Call) → IsAskedAt r p a → IsAskedAt r p b → a ≡ b
-one_asked r place.Block a b (x, is, of) (y, is', of') = is ∙ ap (λ (z : Asked). call.Replica z) (one_block (body_of r) x y of of') ∙ sym is'
-one_asked r (place.Timeout (Some view)) a b of of' = one_timeout view (body_of r) a b of of'
-one_asked r (place.Timeout None) a b is is' = is ∙ sym is'
-one_asked r place.Vote a b of of' = one_vote_call (body_of r) a b (vote_case (body_of r) a of) (vote_case (body_of r) b of')
-one_asked r (place.VoteIn (Some view)) a b is is' = is ∙ sym is'
-one_asked r (place.VoteIn None) a b is is' = is ∙ sym is'
-one_asked r (place.Header (Some id)) a b is is' = is ∙ sym is'
-one_asked r (place.Header None) a b is is' = is ∙ sym is'
-one_asked r place.Log a b of of' = one_log_call (query_in r) a b (log_case (query_in r) a of) (log_case (query_in r) b of')
-one_asked r place.Status a b is is' = is ∙ sym is'
-one_asked r place.Live a b is is' = is ∙ sym is'
-one_asked r place.Health a b is is' = is ∙ sym is'
-one_asked r place.Metrics a b is is' = is ∙ sym is'
-one_asked r place.Nowhere a b is is' = is ∙ sym is'
+one_asked : (r : Request (List ℕ)) (p : Place) (q : Query) (a b : Call) → IsAskedAt r p q a → IsAskedAt r p q b → a ≡ b
+one_asked r place.Block q a b (x, is, of) (y, is', of') = is ∙ ap (λ (z : Asked). call.Replica z) (one_block (body_of r) x y of of') ∙ sym is'
+one_asked r (place.Timeout (Some view)) q a b of of' = one_timeout view (body_of r) a b of of'
+one_asked r (place.Timeout None) q a b is is' = is ∙ sym is'
+one_asked r place.Vote q a b of of' = one_vote_call (body_of r) a b (vote_case (body_of r) a of) (vote_case (body_of r) b of')
+one_asked r (place.VoteIn (Some view)) q a b is is' = is ∙ sym is'
+one_asked r (place.VoteIn None) q a b is is' = is ∙ sym is'
+one_asked r (place.Header (Some id)) q a b is is' = is ∙ sym is'
+one_asked r (place.Header None) q a b is is' = is ∙ sym is'
+one_asked r place.Log q a b is is' = is ∙ sym is'
+one_asked r place.Status q a b is is' = is ∙ sym is'
+one_asked r place.Live q a b is is' = is ∙ sym is'
+one_asked r place.Health q a b is is' = is ∙ sym is'
+one_asked r place.Metrics q a b is is' = is ∙ sym is'
+one_asked r place.Nowhere q a b is is' = is ∙ sym is'
+
+-- ---- a call is held to one chain
+
+one_held : (committee : List ℕ) (chain : Option (List ℕ)) (before a b : Call) → IsHeldTo committee chain before a → IsHeldTo committee chain before b → a ≡ b
+one_held committee chain before a b (inl (well, another, is)) (inl (well', another', is')) = is ∙ sym is'
+one_held committee chain before a b (inl (well, another, is)) (inr (not, is')) = absurd (not well another)
+one_held committee chain before a b (inr (not, is)) (inl (well, another, is')) = absurd (not well another)
+one_held committee chain before a b (inr (not, is)) (inr (not', is')) = is ∙ sym is'
+
+one_asked_of : (committee : List ℕ) (r : Request (List ℕ)) (p : Place) (a b : Call) → IsAskedOf committee r p a → IsAskedOf committee r p b → a ≡ b
+one_asked_of committee r p a b (inl (q, x, named, asked, held)) (inl (q', y, named', asked', held')) =
+    let same = one_query (query_in r) q q' named named' in
+    let calls = one_asked r p q' x y (subst (λ (z : Query). IsAskedAt r p z x) same asked) asked' in
+    one_held committee q'.chain y a b (subst (λ (z : Query). IsHeldTo committee z.chain y a) same (subst (λ (z : Call). IsHeldTo committee q.chain z a) calls held)) held'
+one_asked_of committee r p a b (inl (q, x, named, asked, held)) (inr (none, is)) = absurd (none q named)
+one_asked_of committee r p a b (inr (none, is)) (inl (q, x, named, asked, held)) = absurd (none q named)
+one_asked_of committee r p a b (inr (none, is)) (inr (none', is')) = is ∙ sym is'
 
 -- ---- one test fails first
 
@@ -364,6 +333,7 @@ module _ (rules : Rules) (r : Request (List ℕ)) (p : Place) where
   at_target refused.NoVote never = absurd never
   at_target refused.NotHeld never = absurd never
   at_target refused.Length never = absurd never
+  at_target refused.Chain never = absurd never
 
   pub one_refusal : (a b : CallRefusal) → IsRefusedAt rules r p a → IsRefusedAt rules r p b → a ≡ b
   one_refusal a b is is' = one_at a b (at_target a is) (at_target b is')
@@ -380,20 +350,22 @@ module _ (rules : Rules) (r : Request (List ℕ)) (p : Place) where
   not_both refused.NoVote admitted never = never
   not_both refused.NotHeld admitted never = never
   not_both refused.Length admitted never = never
+  not_both refused.Chain admitted never = never
 
 -- ---- the whole
 
-abbrev Reads : Rules → Request (List ℕ) → Place → Call → Type 0
-Reads rules r p a = (IsAdmitted rules r p × IsAskedAt r p a) ⊎ ((refusal : CallRefusal) × (a ≡ call.Refused refusal) × IsRefusedAt rules r p refusal)
+abbrev Reads : Rules → List ℕ → Request (List ℕ) → Place → Call → Type 0
+Reads rules committee r p a =
+    (IsAdmitted rules r p × IsAskedOf committee r p a) ⊎ ((refusal : CallRefusal) × (a ≡ call.Refused refusal) × IsRefusedAt rules r p refusal)
 
-one_of_place : (rules : Rules) (r : Request (List ℕ)) (p : Place) (a b : Call) → Reads rules r p a → Reads rules r p b → a ≡ b
-one_of_place rules r p a b (inl (admitted, asked)) (inl (admitted', asked')) = one_asked r p a b asked asked'
-one_of_place rules r p a b (inl (admitted, asked)) (inr (x, is, at)) = absurd (not_both rules r p x admitted at)
-one_of_place rules r p a b (inr (x, is, at)) (inl (admitted, asked)) = absurd (not_both rules r p x admitted at)
-one_of_place rules r p a b (inr (x, is, at)) (inr (y, is', at')) =
+one_of_place : (rules : Rules) (committee : List ℕ) (r : Request (List ℕ)) (p : Place) (a b : Call) → Reads rules committee r p a → Reads rules committee r p b → a ≡ b
+one_of_place rules committee r p a b (inl (admitted, asked)) (inl (admitted', asked')) = one_asked_of committee r p a b asked asked'
+one_of_place rules committee r p a b (inl (admitted, asked)) (inr (x, is, at)) = absurd (not_both rules r p x admitted at)
+one_of_place rules committee r p a b (inr (x, is, at)) (inl (admitted, asked)) = absurd (not_both rules r p x admitted at)
+one_of_place rules committee r p a b (inr (x, is, at)) (inr (y, is', at')) =
     is ∙ ap (λ (z : CallRefusal). call.Refused z) (one_refusal rules r p x y at at') ∙ sym is'
 
 pub one_reading : ARequestHasOneReading
-one_reading rules r a b x y =
+one_reading rules committee r a b x y =
     let same = one_place _ x.place y.place x.named y.named in
-    one_of_place rules r y.place a b (subst (λ (p : Place). Reads rules r p a) same x.reads) y.reads
+    one_of_place rules committee r y.place a b (subst (λ (p : Place). Reads rules committee r p a) same x.reads) y.reads

@@ -1,5 +1,6 @@
 -- What a request asks for: one call, or the first thing that is wrong with it.
 use Rattle.std.specs.Prelude.{◌≡◌, ◌≢◌, ◌⊎◌, ℕ, true, false, List, [], Option, Some, None, codes, length}
+use Rattle.blocks.specs.Genesis.{chain_id_of}
 use Rattle.certificates.specs.declared.vote.TheConstants.{VOTE_LEN}
 use Rattle.http.specs.declared.request.Request.{Request}
 use Rattle.http.specs.Request.{body_of, head_of}
@@ -10,18 +11,19 @@ use Rattle.replica_answers.specs.declared.request.Request.{Request as Asked}
 use Rattle.replica_answers.specs.declared.request.Request.TheVariants as asks
 use Rattle.host_rule.specs.HostRules.{HasGoodHost}
 use Rattle.signer_calls.specs.Doors.{HasBytesType}
-use Rattle.signer_calls.specs.LogParts.{IsPart}
-use Rattle.signer_calls.specs.Places.{IsPlace, has_no_id, is_nowhere, is_posted, methods_of, takes_query}
+use Rattle.signer_calls.specs.LogParts.{part_of}
+use Rattle.signer_calls.specs.Places.{IsPlace, has_no_id, is_nowhere, is_posted, methods_of, queries_of}
+use Rattle.signer_calls.specs.Queries.{HasGoodQuery, IsQuery}
 use Rattle.signer_calls.specs.SpelledVotes.{SpellsVote}
 use Rattle.signer_calls.specs.declared.call.Call.{Call}
 use Rattle.signer_calls.specs.declared.call.Call.TheVariants as call
 use Rattle.signer_calls.specs.declared.call.CallRefusal.{CallRefusal}
 use Rattle.signer_calls.specs.declared.call.CallRefusal.TheVariants as refused
-use Rattle.signer_calls.specs.declared.log_part.LogPart.{LogPart}
 use Rattle.signer_calls.specs.declared.place.Methods.{Methods}
 use Rattle.signer_calls.specs.declared.place.Methods.TheVariants.{Post, Get}
 use Rattle.signer_calls.specs.declared.place.Place.{Place}
 use Rattle.signer_calls.specs.declared.place.Place.TheVariants as place
+use Rattle.signer_calls.specs.declared.query.Query.{Query}
 use Rattle.signer_calls.specs.declared.rules.Rules.{Rules}
 
 -- ---- the tests
@@ -29,11 +31,11 @@ use Rattle.signer_calls.specs.declared.rules.Rules.{Rules}
 abbrev pub query_in : Request (List ℕ) → Option (List ℕ)
 query_in r = uri_query (head_of r).uri
 
--- the target is a path, with a query only where one is named; where it has an id, that is one
+-- the target is a path, with a query only where one is named, and then such a one; where it has an id, that is one
 pub record HasGoodTarget (r : Request (List ℕ)) (p : Place) : Type 0 where
   pub scheme : uri_scheme (head_of r).uri ≡ None
   pub authority : uri_authority (head_of r).uri ≡ None
-  pub query : (query_in r ≡ None) ⊎ (takes_query p ≡ true)
+  pub query : HasGoodQuery (queries_of p) (query_in r)
   pub id : has_no_id p ≡ false
 
 -- over TCP the one `Host` names this machine
@@ -94,38 +96,60 @@ abbrev pub TimeoutAsked : ℕ → List ℕ → Call → Type 0
 TimeoutAsked view body asked =
     ((body ≡ []) × (asked ≡ call.Replica (asks.Timeout view))) ⊎ ((body ≢ []) × (asked ≡ call.Refused refused.Length))
 
-abbrev pub LogAsked : Option (List ℕ) → Call → Type 0
-LogAsked query (call.Log part) = IsPart query part
-LogAsked query asked = (asked ≡ call.Refused refused.Number) × ((part : LogPart) → IsPart query part → ⊥)
-
 -- a vote of 1,495 bytes
 abbrev pub VoteAsked : List ℕ → Call → Type 0
 VoteAsked body (call.Judge vote) = SpellsVote body vote
 VoteAsked body asked = (asked ≡ call.Refused refused.Length) × (length body ≢ VOTE_LEN)
 
--- what is asked of a place by a request that is admitted
-abbrev pub IsAskedAt : Request (List ℕ) → Place → Call → Type 0
-IsAskedAt r place.Block asked = (block : Asked) × (asked ≡ call.Replica block) × IsOfBlock (body_of r) block
-IsAskedAt r (place.Timeout (Some view)) asked = TimeoutAsked view (body_of r) asked
-IsAskedAt r place.Vote asked = VoteAsked (body_of r) asked
-IsAskedAt r (place.VoteIn (Some view)) asked = asked ≡ call.VoteIn view
-IsAskedAt r (place.Header (Some id)) asked = asked ≡ call.Header id
-IsAskedAt r place.Log asked = LogAsked (query_in r) asked
-IsAskedAt r place.Status asked = asked ≡ call.Status
-IsAskedAt r place.Live asked = asked ≡ call.Live
-IsAskedAt r place.Health asked = asked ≡ call.Health
-IsAskedAt r place.Metrics asked = asked ≡ call.Metrics
-IsAskedAt r _ asked = asked ≡ call.Refused refused.Number
+-- what is asked of a place by a request that is admitted, and whose query names this
+abbrev pub IsAskedAt : Request (List ℕ) → Place → Query → Call → Type 0
+IsAskedAt r place.Block query asked = (block : Asked) × (asked ≡ call.Replica block) × IsOfBlock (body_of r) block
+IsAskedAt r (place.Timeout (Some view)) query asked = TimeoutAsked view (body_of r) asked
+IsAskedAt r place.Vote query asked = VoteAsked (body_of r) asked
+IsAskedAt r (place.VoteIn (Some view)) query asked = asked ≡ call.VoteIn view
+IsAskedAt r (place.Header (Some id)) query asked = asked ≡ call.Header id
+IsAskedAt r place.Log query asked = asked ≡ call.Log (part_of query)
+IsAskedAt r place.Status query asked = asked ≡ call.Status
+IsAskedAt r place.Live query asked = asked ≡ call.Live
+IsAskedAt r place.Health query asked = asked ≡ call.Health
+IsAskedAt r place.Metrics query asked = asked ≡ call.Metrics
+IsAskedAt r _ query asked = asked ≡ call.Refused refused.Number
+
+-- ---- the chain
+
+-- nothing is wrong with the call
+abbrev pub IsWell : Call → Type 0
+IsWell (call.Refused refusal) = ⊥
+IsWell asked = Unit {0}
+
+-- this is another chain than the committee's
+abbrev pub IsAnother : List ℕ → Option (List ℕ) → Type 0
+IsAnother committee (Some chain) = chain ≢ chain_id_of committee
+IsAnother committee None = ⊥
+
+-- where nothing else is wrong with the call, and it names another chain, it is refused
+abbrev pub IsHeldTo : List ℕ → Option (List ℕ) → (before after : Call) → Type 0
+IsHeldTo committee chain before after =
+    (IsWell before × IsAnother committee chain × (after ≡ call.Refused refused.Chain))
+    ⊎ ((IsWell before → IsAnother committee chain → ⊥) × (after ≡ before))
+
+-- .. so what a request that is admitted asks of the committee's signer at a place; or a parameter of its query is wrong
+abbrev pub IsAskedOf : List ℕ → Request (List ℕ) → Place → Call → Type 0
+IsAskedOf committee r p asked =
+    ((query : Query) × (before : Call) × IsQuery (query_in r) query × IsAskedAt r p query before × IsHeldTo committee query.chain before asked)
+    ⊎ (((query : Query) → IsQuery (query_in r) query → ⊥) × (asked ≡ call.Refused refused.Number))
 
 -- ---- the whole
 
--- the request's path names a place, and the request asks for this there, or is refused at the first test that it fails
-pub record AsksFor (rules : Rules) (r : Request (List ℕ)) (asked : Call) : Type 0 where
+-- the request's path names a place, and the request asks a signer of the committee for this there, or is refused at the first test
+-- that it fails
+pub record AsksFor (rules : Rules) (committee : List ℕ) (r : Request (List ℕ)) (asked : Call) : Type 0 where
   pub place : Place
   pub named : IsPlace (uri_path (head_of r).uri) place
-  pub reads : (IsAdmitted rules r place × IsAskedAt r place asked)
+  pub reads : (IsAdmitted rules r place × IsAskedOf committee r place asked)
       ⊎ ((refusal : CallRefusal) × (asked ≡ call.Refused refusal) × IsRefusedAt rules r place refusal)
 
 -- a request asks for one thing
 abbrev pub ARequestHasOneReading : Type 0
-ARequestHasOneReading = (rules : Rules) (r : Request (List ℕ)) (a b : Call) → AsksFor rules r a → AsksFor rules r b → a ≡ b
+ARequestHasOneReading =
+    (rules : Rules) (committee : List ℕ) (r : Request (List ℕ)) (a b : Call) → AsksFor rules committee r a → AsksFor rules committee r b → a ≡ b

@@ -1,7 +1,7 @@
 -- The refusals of a call, by their numbers, names and statuses.
 use Rattle.std.specs.Prelude.{ℕ, List, codes}
 use Rattle.signer_calls.specs.declared.call.CallRefusal.{CallRefusal}
-use Rattle.signer_calls.specs.declared.call.CallRefusal.TheVariants.{NoSuchCall, Method, Number, Host, Origin, ContentType, Far, NoVote, Target, NotHeld, Length}
+use Rattle.signer_calls.specs.declared.call.CallRefusal.TheVariants.{NoSuchCall, Method, Number, Host, Origin, ContentType, Far, NoVote, Target, NotHeld, Length, Chain}
 
 -- the number that docs/REFUSALS.md gives a refusal
 abbrev pub call_refusal_number : CallRefusal → ℕ
@@ -16,6 +16,7 @@ call_refusal_number NoVote = 8
 call_refusal_number Target = 9
 call_refusal_number NotHeld = 10
 call_refusal_number Length = 11
+call_refusal_number Chain = 12
 
 abbrev pub call_refusal_name : CallRefusal → List ℕ
 call_refusal_name NoSuchCall = codes "NoSuchCall"
@@ -29,6 +30,7 @@ call_refusal_name NoVote = codes "NoVote"
 call_refusal_name Target = codes "Target"
 call_refusal_name NotHeld = codes "NotHeld"
 call_refusal_name Length = codes "Length"
+call_refusal_name Chain = codes "Chain"
 
 abbrev pub call_refusal_status : CallRefusal → ℕ
 call_refusal_status NoSuchCall = 404
@@ -42,3 +44,4 @@ call_refusal_status NoVote = 404
 call_refusal_status Target = 400
 call_refusal_status NotHeld = 404
 call_refusal_status Length = 400
+call_refusal_status Chain = 409

@@ -1,5 +1,6 @@
 pub mod Places
 pub mod Doors
+pub mod Queries
 pub mod LogParts
 pub mod SpelledVotes
 pub mod CallRefusals

@@ -5,6 +5,8 @@ use Rattle.signer_calls.specs.declared.place.Place.{Place}
 use Rattle.signer_calls.specs.declared.place.Place.TheVariants.{Block, Timeout, Vote, VoteIn, Header, Log, Status, Live, Health, Metrics, Nowhere}
 use Rattle.signer_calls.specs.declared.place.Methods.{Methods}
 use Rattle.signer_calls.specs.declared.place.Methods.TheVariants.{Post, Get}
+use Rattle.signer_calls.specs.declared.place.Queries.{Queries}
+use Rattle.signer_calls.specs.declared.place.Queries.TheVariants.{Nothing, Chain, Part}
 
 -- the digits print this number of 64 bits, or none
 abbrev pub IsNumberOf : List ℕ → Option ℕ → Type 0
@@ -66,10 +68,15 @@ abbrev pub is_posted : Methods → Bool
 is_posted Post = true
 is_posted Get = false
 
--- whether a query is named for it
-abbrev pub takes_query : Place → Bool
-takes_query Log = true
-takes_query _ = false
+-- what a query may name there: what tells which chain it is of takes none
+abbrev pub queries_of : Place → Queries
+queries_of Log = Part
+queries_of Block = Chain
+queries_of (Timeout view) = Chain
+queries_of Vote = Chain
+queries_of (VoteIn view) = Chain
+queries_of (Header id) = Chain
+queries_of _ = Nothing
 
 -- whether it names a block by what is no id
 abbrev pub has_no_id : Place → Bool

@@ -1,30 +1,39 @@
 //! What a request asks for.
 
-ghost use Rattle.std.specs.Prelude.{◌≡◌, ◌↔◌, IfOk, IsTrue, MatchOption};
+ghost use Rattle.std.specs.Prelude.{◌≡◌, ◌↔◌, IfOk, IsTrue, MatchOption, option_copied};
 ghost use Rattle.http.specs.Request.{head_of};
-ghost use Rattle.signer_calls.specs.Asking.{AsksFor, HasContentType, HasGoodTarget, HasNoOrigin, HasRightMethod, IsAdmitted, IsAskedAt, IsRefusedAt, IsThere, LogAsked, NamesHost, PassesDoor, VoteAsked, query_in};
+ghost use Rattle.signer_calls.specs.Asking.{AsksFor, HasContentType, HasGoodTarget, HasNoOrigin, HasRightMethod, IsAdmitted, IsAnother, IsAskedAt, IsAskedOf, IsHeldTo, IsRefusedAt, IsThere, IsWell, NamesHost, PassesDoor, VoteAsked};
+ghost use Rattle.signer_calls.specs.Places.{queries_of};
+ghost use Rattle.signer_calls.specs.Queries.{HasGoodQuery, IsChainAlone};
 
 use crate::call::{Call, CallRefusal};
 use crate::door::has_bytes_type;
-use crate::log_part::part_in;
-use crate::place::{Methods, Place, is_same, place_of};
+use crate::log_part::part_of;
+use crate::place::{Methods, Place, Queries, behind, id_in, is_same, place_of};
+use crate::query::{Query, named_in};
 use crate::rules::Rules;
 use crate::vote_reading::vote_in;
+use blocks::{CommitteeView, Id};
 use bytes::Bytes;
 use host_rule::has_good_host;
 use http::Request;
 use replica_answers::{Request as Asked, block_in};
 use std::alloc::{AllocError, Global};
 
-/// What a request asks for, or the first thing that is wrong with it: `AllocError` where memory was refused.
-pub fn call_of(alloc: Global, rules: &Rules, request: &Request<Bytes>) -> Result<Call, AllocError>
-    ensures { IfOk result (AsksFor rules.now request.now) }
+/// What a request asks of this committee's signer, or the first thing that is wrong with it: `AllocError` where memory was refused.
+pub fn call_of(
+    alloc: Global,
+    rules: &Rules,
+    committee: &CommitteeView,
+    request: &Request<Bytes>,
+) -> Result<Call, AllocError>
+    ensures { IfOk result (AsksFor rules.now committee.now request.now) }
 {
     let place = place_of(request.uri().path().as_bytes());
     if let Some(refusal) = refused_at(rules, request, place)? {
         return Ok(Call::Refused(refusal));
     }
-    asked_at(alloc, rules, request, place)
+    asked_of(alloc, rules, committee, request, place)
 }
 
 // The first thing that is wrong with a request, before its arguments are read.
@@ -65,15 +74,34 @@ fn refused_behind_door(rules: &Rules, request: &Request<Bytes>, place: Place) ->
     None
 }
 
-// What is asked of a place by a request that passed the tests before.
+// What a request that passed the tests before asks of this committee's signer.
+fn asked_of(
+    alloc: Global,
+    rules: &Rules,
+    committee: &CommitteeView,
+    request: &Request<Bytes>,
+    place: Place,
+) -> Result<Call, AllocError>
+    requires { IsAdmitted rules.now request.now place }
+    ensures { IfOk result (IsAskedOf committee.now request.now place) }
+{
+    let Some(query) = named_in(request.uri().query()) else {
+        return Ok(Call::Refused(CallRefusal::Number));
+    };
+    let call = asked_at(alloc, rules, request, place, &query)?;
+    Ok(held_to(committee, &query.chain, call))
+}
+
+// What it asks of a place.
 fn asked_at(
     alloc: Global,
     rules: &Rules,
     request: &Request<Bytes>,
     place: Place,
+    query: &Query,
 ) -> Result<Call, AllocError>
     requires { IsAdmitted rules.now request.now place }
-    ensures { IfOk result (IsAskedAt request.now place) }
+    ensures { IfOk result (IsAskedAt request.now place query.now) }
 {
     let body = request.body().as_slice();
     match place {
@@ -83,7 +111,7 @@ fn asked_at(
         Place::Vote => Ok(vote_asked(body)),
         Place::VoteIn(Some(view)) => Ok(Call::VoteIn(view)),
         Place::Header(Some(id)) => Ok(Call::Header(id)),
-        Place::Log => Ok(log_asked(request)),
+        Place::Log => Ok(Call::Log(part_of(query))),
         Place::Status => Ok(Call::Status),
         Place::Live => Ok(Call::Live),
         Place::Health => Ok(Call::Health),
@@ -101,12 +129,31 @@ fn vote_asked(body: &[u8]) -> Call
     }
 }
 
-fn log_asked(request: &Request<Bytes>) -> Call
-    ensures { LogAsked (query_in request.now) result }
+// The call, but where nothing else is wrong with it and it names another chain.
+fn held_to(committee: &CommitteeView, chain: &Option<Id>, call: Call) -> Call
+    ensures { IsHeldTo committee.now chain.now call result }
 {
-    match part_in(request.uri().query()) {
-        Some(part) => Call::Log(part),
-        None => Call::Refused(CallRefusal::Number),
+    if is_well(&call) && is_another(committee, chain) {
+        return Call::Refused(CallRefusal::Chain);
+    }
+    call
+}
+
+fn is_well(call: &Call) -> bool
+    ensures { IsTrue result ↔ IsWell call.now }
+{
+    match call {
+        Call::Refused(_) => false,
+        _ => true,
+    }
+}
+
+fn is_another(committee: &CommitteeView, chain: &Option<Id>) -> bool
+    ensures { IsTrue result ↔ IsAnother committee.now chain.now }
+{
+    match chain {
+        Some(chain) => !is_same(chain, &committee.chain()),
+        None => false,
     }
 }
 
@@ -119,10 +166,39 @@ fn has_good_target(request: &Request<Bytes>, place: Place) -> bool
     if uri.scheme().is_some() || uri.authority().is_some() {
         return false;
     }
-    if uri.query().is_some() && !place.takes_query() {
+    if !has_good_query(place, uri.query()) {
         return false;
     }
     !place.has_no_id()
+}
+
+// Whether a query is one that is named for the place.
+fn has_good_query(place: Place, query: Option<&str>) -> bool
+    ensures { IsTrue result ↔ HasGoodQuery (queries_of place) (option_copied query.entry) }
+{
+    match place.queries() {
+        Queries::Part => true,
+        Queries::Chain => has_chain_at_most(query),
+        Queries::Nothing => query.is_none(),
+    }
+}
+
+fn has_chain_at_most(query: Option<&str>) -> bool
+    ensures { IsTrue result ↔ HasGoodQuery Queries.Chain (option_copied query.entry) }
+{
+    match query {
+        Some(query) => is_chain_alone(query.as_bytes()),
+        None => true,
+    }
+}
+
+fn is_chain_alone(query: &[u8]) -> bool
+    ensures { IsTrue result ↔ IsChainAlone query.now }
+{
+    match behind(query, b"chain=") {
+        Some(digits) => id_in(digits).is_some(),
+        None => false,
+    }
 }
 
 fn names_host(rules: &Rules, request: &Request<Bytes>) -> Result<bool, AllocError>

@@ -42,7 +42,7 @@ pub enum CallRefusal {
     NoSuchCall,
     /// 2: it is asked by these methods.
     Method(Methods),
-    /// 3: a number is not as it is printed or out of range, or a parameter is unknown or doubled.
+    /// 3: a number is not as it is printed or out of range, or a parameter is unknown or doubled, or a part of the log's chain is no id.
     Number,
     /// 4: over TCP, `Host` is missing or doubled, or names another machine.
     Host,
@@ -54,12 +54,14 @@ pub enum CallRefusal {
     Far,
     /// 8: the log has no vote in this view.
     NoVote,
-    /// 9: the target is not in origin form (what stands behind a `#` is not looked at), has a query where none is named, or an id that is not 64 digits in lower case.
+    /// 9: the target is not in origin form (what stands behind a `#` is not looked at), has another query than is named, or an id that is not 64 digits in lower case.
     Target,
     /// 10: no header of this id is held.
     NotHeld,
     /// 11: the body has not the length that is wanted.
     Length,
+    /// 12: it names another chain than the committee's.
+    Chain,
 }
 
 impl CallRefusal {
@@ -79,6 +81,7 @@ impl CallRefusal {
             CallRefusal::Target => 9,
             CallRefusal::NotHeld => 10,
             CallRefusal::Length => 11,
+            CallRefusal::Chain => 12,
         }
     }
 
@@ -99,6 +102,7 @@ impl CallRefusal {
             CallRefusal::Target => b"Target",
             CallRefusal::NotHeld => b"NotHeld",
             CallRefusal::Length => b"Length",
+            CallRefusal::Chain => b"Chain",
         }
     }
 
@@ -116,7 +120,7 @@ impl CallRefusal {
             }
             CallRefusal::Host | CallRefusal::Origin => StatusCode::FORBIDDEN,
             CallRefusal::ContentType => StatusCode::UNSUPPORTED_MEDIA_TYPE,
-            CallRefusal::Far => StatusCode::CONFLICT,
+            CallRefusal::Far | CallRefusal::Chain => StatusCode::CONFLICT,
         }
     }
 }

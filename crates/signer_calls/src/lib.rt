@@ -7,6 +7,7 @@ mod door;
 mod laws;
 mod log_part;
 mod place;
+mod query;
 mod rules;
 mod vote_reading;
 

@@ -1,7 +1,7 @@
 //! What the path of a call names.
 
 ghost use Rattle.std.specs.Prelude.{◌≡◌, ◌≢◌, ◌↔◌, ◌++◌, ℕ, List, IsTrue, MatchOption};
-ghost use Rattle.signer_calls.specs.Places.{IsIdOf, IsNamedPlace, IsPlace, has_no_id, is_nowhere, is_posted, methods_of, takes_query};
+ghost use Rattle.signer_calls.specs.Places.{IsIdOf, IsNamedPlace, IsPlace, has_no_id, is_nowhere, is_posted, methods_of, queries_of};
 
 use blocks::Id;
 use printed_lines::{id_digits, number_in};
@@ -42,6 +42,17 @@ pub enum Methods {
     Get,
 }
 
+/// What the query of a place may name.
+#[derive(Clone, Copy, Debug, PartialEq, Eq)]
+pub(crate) enum Queries {
+    /// There is none.
+    Nothing,
+    /// The chain.
+    Chain,
+    /// The chain, and a part of the log.
+    Part,
+}
+
 impl Place {
     pub(crate) fn methods(self) -> Methods
         ensures { result ≡ methods_of self }
@@ -61,13 +72,15 @@ impl Place {
         }
     }
 
-    // Whether a query is named for it.
-    pub(crate) fn takes_query(self) -> bool
-        ensures { result ≡ takes_query self }
+    // What a query may name there.
+    pub(crate) fn queries(self) -> Queries
+        ensures { result ≡ queries_of self }
     {
         match self {
-            Place::Log => true,
-            _ => false,
+            Place::Log => Queries::Part,
+            Place::Block | Place::Timeout(_) | Place::Vote | Place::VoteIn(_) | Place::Header(_) =>
+                Queries::Chain,
+            _ => Queries::Nothing,
         }
     }
 
@@ -136,7 +149,7 @@ fn named_place(path: &[u8]) -> Place
 }
 
 // The id that is printed so.
-fn id_in(digits: &[u8]) -> Option<Id>
+pub(crate) fn id_in(digits: &[u8]) -> Option<Id>
     ensures { IsIdOf digits.now result }
 {
     let mut id = [0; 32];

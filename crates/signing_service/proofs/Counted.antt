@@ -29,6 +29,7 @@ refusal_once n refused.NoVote low = (omega (arith, low, one n.no_votes (omega (a
 refusal_once n refused.Target low = (omega (arith, low, one n.bad_targets (omega (arith, low))), refl)
 refusal_once n refused.NotHeld low = (omega (arith, low, one n.not_held (omega (arith, low))), refl)
 refusal_once n refused.Length low = (omega (arith, low, one n.bad_lengths (omega (arith, low))), refl)
+refusal_once n refused.Chain low = (omega (arith, low, one n.other_chains (omega (arith, low))), refl)
 
 answer_once : (n : Numbers) (a : Answer) → answers_of n < 2 ^ 64 - 1 → CountsAnswer n (after_answer n a)
 answer_once n (Voted receipt) low = (omega (arith, low, one n.voted (omega (arith, low))), refl)

@@ -273,7 +273,7 @@ module _ {D : Type 0} (disk : Ghosts D) (committee : List ℕ) (replica : ℕ) (
   -- .. to a request, by what it asks for
   pub record IsServed (rules : Rules) (asks : Bool) (tells : Telling) (before : List Receipt) (shown : Option Showing) (request : Request (List ℕ)) (response : Response) (after : List Receipt) (shown_after : Option Showing) : Type 0 where
     pub asked : Call
-    pub reads : AsksFor rules request asked
+    pub reads : AsksFor rules committee request asked
     pub told : Option Told
     pub served : IsCallServed rules asks tells asked before shown response after shown_after told
 
@@ -281,7 +281,7 @@ module _ {D : Type 0} (disk : Ghosts D) (committee : List ℕ) (replica : ℕ) (
   -- Who was shown before it that the log was put back is told so of each block and timeout, and who is told so is shown behind it
   pub record IsBacked (rules : Rules) (asks : Bool) (tells : Telling) (receipts : List Receipt) (shown : Option Showing) (exchanged : Exchanged) (shown_after : Option Showing) : Type 0 where
     pub asked : Call
-    pub reads : AsksFor rules exchanged.0 asked
+    pub reads : AsksFor rules committee exchanged.0 asked
     pub told : Option Told
     pub before : List Receipt
     pub answers : IsCallTold rules asks tells before asked told exchanged.1

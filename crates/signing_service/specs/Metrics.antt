@@ -57,6 +57,7 @@ arguments_text numbers =
     field_text (codes "\nhs_signer_refused_calls_total{reason=\"Target\"} ") numbers.bad_targets
     ++ field_text (codes "\nhs_signer_refused_calls_total{reason=\"NotHeld\"} ") numbers.not_held
     ++ field_text (codes "\nhs_signer_refused_calls_total{reason=\"Length\"} ") numbers.bad_lengths
+    ++ field_text (codes "\nhs_signer_refused_calls_total{reason=\"Chain\"} ") numbers.other_chains
 
 abbrev pub views_text : DeskStatus → ℕ → List ℕ
 views_text status committed =

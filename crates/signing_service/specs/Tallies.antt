@@ -36,6 +36,7 @@ new_numbers started = record {
   bad_targets = 0;
   not_held = 0;
   bad_lengths = 0;
+  other_chains = 0;
   blocks = 0;
   block_micros = 0;
 }
@@ -72,6 +73,7 @@ after_refusal n refused.NoVote = record n { no_votes = one_more n.no_votes }
 after_refusal n refused.Target = record n { bad_targets = one_more n.bad_targets }
 after_refusal n refused.NotHeld = record n { not_held = one_more n.not_held }
 after_refusal n refused.Length = record n { bad_lengths = one_more n.bad_lengths }
+after_refusal n refused.Chain = record n { other_chains = one_more n.other_chains }
 
 abbrev pub after_block : Numbers → ℕ → Numbers
 after_block n micros = record n { blocks = one_more n.blocks; block_micros = min (n.block_micros + micros) (2 ^ 64 - 1) }
@@ -88,7 +90,7 @@ answers_of n =
 abbrev pub refusals_of : Numbers → ℕ
 refusals_of n =
     n.no_such_calls + n.wrong_methods + n.bad_numbers + n.bad_hosts + n.origins + n.bad_content_types + n.far + n.no_votes
-    + n.bad_targets + n.not_held + n.bad_lengths
+    + n.bad_targets + n.not_held + n.bad_lengths + n.other_chains
 
 -- one answer more, and no refused call
 abbrev pub CountsAnswer : (old new : Numbers) → Type 0

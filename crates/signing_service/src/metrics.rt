@@ -248,6 +248,11 @@ fn put_arguments(body: &mut Rope, numbers: &Numbers)
         b"\nhs_signer_refused_calls_total{reason=\"Length\"} ",
         numbers.bad_lengths,
     );
+    put_field(
+        body,
+        b"\nhs_signer_refused_calls_total{reason=\"Chain\"} ",
+        numbers.other_chains,
+    );
 }
 
 fn put_views(body: &mut Rope, status: &DeskStatus, committed: u64)

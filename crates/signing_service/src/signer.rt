@@ -450,7 +450,12 @@ impl<
         request: &Request<Bytes>,
         response: &mut Response,
     ) -> Result<(), AllocError> {
-        let call = call_of(self.alloc, self.reception.rules, request)?;
+        let call = call_of(
+            self.alloc,
+            self.reception.rules,
+            self.office.committee,
+            request,
+        )?;
         let told = self.do_call(call, response)?;
         let seen = seen_of(request, response, &told);
         self.reception.witness.saw(&seen);

@@ -37,6 +37,7 @@ pub struct Numbers {
     pub bad_targets: u64,
     pub not_held: u64,
     pub bad_lengths: u64,
+    pub other_chains: u64,
     /// How many blocks were answered, and in how many microseconds.
     pub blocks: u64,
     pub block_micros: u64,
@@ -69,6 +70,7 @@ impl Numbers {
             bad_targets: 0,
             not_held: 0,
             bad_lengths: 0,
+            other_chains: 0,
             blocks: 0,
             block_micros: 0,
         }
@@ -127,6 +129,7 @@ impl Numbers {
             CallRefusal::Target => self.bad_targets = one_more(self.bad_targets),
             CallRefusal::NotHeld => self.not_held = one_more(self.not_held),
             CallRefusal::Length => self.bad_lengths = one_more(self.bad_lengths),
+            CallRefusal::Chain => self.other_chains = one_more(self.other_chains),
         }
     }
 

@@ -4,7 +4,7 @@ ghost use Rattle.std.specs.Prelude.{◌≡◌};
 
 use blocks::CommitteeView;
 use fixtures::{certificates as texts, core_blocks, verdicts};
-use good_votes::{GoodVotes, SideBySide};
+use good_votes::{Checker, GoodVotes, SideBySide};
 use http_server::{Config, Connection};
 use key_index_store::IndexStore;
 use lmots::PrivateSeed;
@@ -23,12 +23,32 @@ use std::sync::atomic::{AtomicU32, Ordering};
 use std::sync::ledger::Blank;
 use std::thread::Threads;
 use std::time::Clock;
-use vote_desk::{Desk, DeskNaming, Parts};
+use vote_desk::{Desk, DeskNaming, Parts, Session};
 use vote_log::VoteLog;
 
 fn disk<R: Abort>(rt: &R, alloc: Global) -> MemoryDisk {
     let disk = MemoryDisk::new(alloc, Vec::new(alloc)).ok();
     disk.expect(rt, "a disk")
+}
+
+fn trees<R: Abort>(rt: &R, alloc: Global, replica: u8) -> Vec<SigningTree> {
+    let secret = PrivateSeed {
+        key_id: [replica; 16],
+        seed: [replica.wrapping_add(16); 32],
+    };
+    let tree = SigningTree::generate(alloc, secret).ok();
+    let trees = vec![in alloc; tree.expect(rt, "a key")].ok();
+    trees.expect(rt, "memory")
+}
+
+fn index_store<R: Abort>(rt: &R, alloc: Global) -> IndexStore<MemoryDisk> {
+    let index = IndexStore::create(alloc, disk(rt, alloc), 1).ok();
+    index.expect(rt, "an index store")
+}
+
+fn log<R: Abort>(rt: &R, alloc: Global, committee: &CommitteeView) -> VoteLog<MemoryDisk> {
+    let log = VoteLog::create(alloc, disk(rt, alloc), committee.genesis()).ok();
+    log.expect(rt, "a log")
 }
 
 // The parts of a new replica.
@@ -38,19 +58,10 @@ fn parts<R: Abort>(
     committee: &CommitteeView,
     replica: u8,
 ) -> Parts<MemoryDisk> {
-    let secret = PrivateSeed {
-        key_id: [replica; 16],
-        seed: [replica.wrapping_add(16); 32],
-    };
-    let index = IndexStore::create(alloc, disk(rt, alloc), 1).ok();
-    let log = VoteLog::create(alloc, disk(rt, alloc), committee.genesis()).ok();
-    let tree = SigningTree::generate(alloc, secret)
-        .ok()
-        .expect(rt, "a key");
     Parts {
-        trees: vec![in alloc; tree].ok().expect(rt, "memory"),
-        index: index.expect(rt, "an index store"),
-        log: log.expect(rt, "a log"),
+        trees: trees(rt, alloc, replica),
+        index: index_store(rt, alloc),
+        log: log(rt, alloc, committee),
     }
 }
 
@@ -95,6 +106,24 @@ struct Counts {
     put_back: AtomicU32,
 }
 
+impl Counts {
+    fn new() -> Counts {
+        Counts {
+            calls: AtomicU32::new(0),
+            good: AtomicU32::new(0),
+            put_back: AtomicU32::new(0),
+        }
+    }
+
+    fn all(&self) -> [u32; 3] {
+        [
+            self.calls.load(Ordering::SeqCst),
+            self.good.load(Ordering::SeqCst),
+            self.put_back.load(Ordering::SeqCst),
+        ]
+    }
+}
+
 impl Witness for Counts {
     fn saw(&self, call: &Seen<'_>) {
         self.calls.fetch_add(1, Ordering::SeqCst);
@@ -117,6 +146,77 @@ struct Scene<'a> {
     counts: &'a Counts,
 }
 
+// A desk, and its one session.
+fn opened<N: DeskNaming>(
+    scene: &Scene,
+    blank: Blank,
+    parts: Parts<MemoryDisk>,
+) -> Option<(Desk<N, MemoryDisk>, Session<N>)>
+    requires name { blank.name ≡ N.name }
+    requires ledger { (blank.parts ≡ N.parts) × (N.parts ≡ 1) }
+    requires committee { scene.now.committee.now ≡ N.committee }
+    requires replica { scene.now.replica ≡ N.replica }
+    requires opening { parts.log.steps ≡ N.opening }
+{
+    let (alloc, committee, replica) = (scene.alloc, scene.committee, scene.replica);
+    let started = Desk::<N, MemoryDisk>::start(alloc, blank, committee, replica, parts, 1);
+    let (desk, mut sessions) = started.ok()?;
+    let session = sessions.pop()?;
+    Some((desk, session))
+}
+
+// What a connection sends where this comes in.
+fn answers<N: DeskNaming, T: Wait + Clock, V: Checker>(
+    signer: &mut Signer<'_, N, T, MemoryDisk, V, NoSuccessor, Counts>,
+    alloc: Global,
+    keys: RandomState,
+    input: &[u8],
+) -> Option<Vec<u8>> {
+    let mut connection = Connection::new(alloc, keys, Config::default());
+    let mut reader = input;
+    let mut writer = Vec::new(alloc);
+    match serve_calls(signer, &mut connection, &mut reader, &mut writer) {
+        Ok(()) => Some(writer),
+        Err(_) => None,
+    }
+}
+
+// .. at this desk.
+fn answers_at<N: DeskNaming, R: Threads + Wait + Clock>(
+    rt: &R,
+    scene: &Scene,
+    keys: RandomState,
+    desk: &Desk<N, MemoryDisk>,
+    session: Session<N>,
+    sources: &Sources,
+    input: &[u8],
+) -> Option<Vec<u8>>
+    requires committee { scene.now.committee.now ≡ N.committee }
+    requires replica { scene.now.replica ≡ N.replica }
+{
+    let (commits, tallies) = (Commits::new(), Tallies::new(0));
+    let (put_back, gate) = (PutBack::new(), Gate::new(false));
+    let good = GoodVotes::new(scene.alloc);
+    let checker = SideBySide::new(rt, &good);
+    let office = Office {
+        desk,
+        committee: scene.committee,
+        replica: scene.replica,
+        keeper: &NoSuccessor,
+        put_back: &put_back,
+    };
+    let reception = Reception {
+        gate: &gate,
+        rules: scene.rules,
+        commits: &commits,
+        tallies: &tallies,
+        sources,
+        witness: scene.counts,
+    };
+    let mut signer = Signer::new(rt, scene.alloc, &office, &checker, &reception, session);
+    answers(&mut signer, scene.alloc, keys, input)
+}
+
 // What goes out where this comes in. Of two sources that might be asked the second was heard.
 fn sent<N: DeskNaming, R: Threads + Wait + Clock>(
     rt: &R,
@@ -132,37 +232,10 @@ fn sent<N: DeskNaming, R: Threads + Wait + Clock>(
     requires replica { scene.now.replica ≡ N.replica }
     requires opening { parts.log.steps ≡ N.opening }
 {
-    let (alloc, committee, replica) = (scene.alloc, scene.committee, scene.replica);
-    let started = Desk::<N, MemoryDisk>::start(alloc, blank, committee, replica, parts, 1);
-    let (desk, mut sessions) = started.ok()?;
-    let session = sessions.pop()?;
-    let (commits, tallies) = (Commits::new(), Tallies::new(0));
-    let sources = Sources::new(alloc, 2).ok()?;
+    let sources = Sources::new(scene.alloc, 2).ok()?;
     sources.set(1, true);
-    let (put_back, gate) = (PutBack::new(), Gate::new(false));
-    let good = GoodVotes::new(alloc);
-    let checker = SideBySide::new(rt, &good);
-    let office = Office {
-        desk: &desk,
-        committee,
-        replica,
-        keeper: &NoSuccessor,
-        put_back: &put_back,
-    };
-    let reception = Reception {
-        gate: &gate,
-        rules: scene.rules,
-        commits: &commits,
-        tallies: &tallies,
-        sources: &sources,
-        witness: scene.counts,
-    };
-    let mut signer = Signer::new(rt, alloc, &office, &checker, &reception, session);
-    let mut connection = Connection::new(alloc, keys, Config::default());
-    let mut reader = input;
-    let mut writer = Vec::new(alloc);
-    serve_calls(&mut signer, &mut connection, &mut reader, &mut writer).ok()?;
-    Some(writer)
+    let (desk, session) = opened::<N>(scene, blank, parts)?;
+    answers_at(rt, scene, keys, &desk, session, &sources, input)
 }
 
 // The statuses in what went out, one behind the other.
@@ -176,16 +249,32 @@ fn statuses(alloc: Global, sent: &[u8]) -> Result<Vec<u8>, AllocError> {
     Ok(all)
 }
 
-fn has(sent: &[u8], text: &[u8]) -> bool {
-    (0..sent.len()).any(|at| sent[at..].starts_with(text))
+// Where the text stands in what went out, from this place on.
+fn place_of(sent: &[u8], from: usize, text: &[u8]) -> Option<usize> {
+    for at in from..sent.len() {
+        if sent[at..].starts_with(text) {
+            return Some(at);
+        }
+    }
+    None
+}
+
+// Whether it holds all these texts.
+fn has_all(sent: &[u8], texts: &[&[u8]]) -> bool {
+    for text in texts {
+        if place_of(sent, 0, text).is_none() {
+            return false;
+        }
+    }
+    true
 }
 
 // Whether the answers have these statuses, one behind the other, and hold all these texts.
 fn are_answers(alloc: Global, sent: &[u8], wanted: &[u8], texts: &[&[u8]]) -> bool {
-    let Ok(found) = statuses(alloc, sent) else {
-        return false;
-    };
-    found.as_slice() == wanted && texts.iter().all(|text| has(sent, text))
+    match statuses(alloc, sent) {
+        Ok(found) => found.as_slice() == wanted && has_all(sent, texts),
+        Err(_) => false,
+    }
 }
 
 const STATUSES: &[u8] =
@@ -222,16 +311,10 @@ const TOLD: [&[u8]; 27] = [
     b"hs_signer_stopped 0\n",
 ];
 
-// Where the text stands in what went out, from this place on.
-fn place_of(sent: &[u8], from: usize, text: &[u8]) -> Option<usize> {
-    (from..sent.len()).find(|at| sent[*at..].starts_with(text))
-}
-
 // The line from this place on, without its line feed.
 fn line_at(sent: &[u8], at: usize) -> Option<&[u8]> {
     let rest = sent.get(at..)?;
-    let end = rest.iter().position(|byte| *byte == b'\n')?;
-    rest.get(..end)
+    rest.get(..place_of(rest, 0, b"\n")?)
 }
 
 // Whether the first two lines that begin so are alike.
@@ -298,11 +381,7 @@ fn told<R: Abort + Threads + Wait + Clock>(
     };
     let parts = parts(rt, alloc, &committee, replica);
     let blank = Blank::new(1);
-    let counts = Counts {
-        calls: AtomicU32::new(0),
-        good: AtomicU32::new(0),
-        put_back: AtomicU32::new(0),
-    };
+    let counts = Counts::new();
     let scene = Scene {
         alloc,
         committee: &committee,
@@ -311,8 +390,7 @@ fn told<R: Abort + Threads + Wait + Clock>(
         counts: &counts,
     };
     let sent = sent::<Brand, R>(rt, &scene, keys, blank, parts, input);
-    let counted = [&counts.calls, &counts.good, &counts.put_back];
-    (sent, counted.map(|count| count.load(Ordering::SeqCst)))
+    (sent, counts.all())
 }
 
 #[test]

@@ -1,7 +1,7 @@
 //! Which votes of a certificate are remembered, and so not checked again.
 
 use blocks::CommitteeView;
-use certificates::Certificate;
+use certificates::{Certificate, SignedVote};
 use fixtures::{certificates as texts, verdicts};
 use good_votes::{Checker, Claim, GoodVotes, SideBySide};
 use std::alloc::Global;
@@ -19,6 +19,18 @@ fn certificate<R: Abort>(rt: &R, alloc: Global, by: u8) -> Certificate {
     certificate.expect(rt, "a certificate")
 }
 
+fn is_remembered<R: Wait>(
+    rt: &R,
+    good: &GoodVotes,
+    committee: &CommitteeView,
+    vote: &SignedVote,
+) -> bool {
+    match Claim::of(committee, vote) {
+        Some(claim) => good.remembers(rt, &claim),
+        None => false,
+    }
+}
+
 // How many of the certificate's votes are not remembered.
 fn unknown<R: Wait>(
     rt: &R,
@@ -28,8 +40,7 @@ fn unknown<R: Wait>(
 ) -> usize {
     let mut unknown = 0;
     for k in 0..certificate.count() {
-        let claim = Claim::of(committee, &certificate.vote(k));
-        if !claim.is_some_and(|claim| good.remembers(rt, &claim)) {
+        if !is_remembered(rt, good, committee, &certificate.vote(k)) {
             unknown = usize::saturating_add(unknown, 1);
         }
     }

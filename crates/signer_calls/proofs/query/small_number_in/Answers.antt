@@ -1,6 +1,6 @@
 use Rattle.std.proofs.Common.{arith, rules}
 use Rattle.signer_calls.proofs.Parameters.{one_number}
-use Rattle.signer_calls.proofs.log_part.small_number_in.Goals as goal
+use Rattle.signer_calls.proofs.query.small_number_in.Goals as goal
 
 pub returns-then-number-from-clause-none : goal.returns-then-number-from-clause-none
 returns-then-number-from-clause-none c = λ n low is.
