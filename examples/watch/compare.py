@@ -24,6 +24,11 @@ def report(place):
     return found
 
 
+def digests(source, other):
+    """What the frames of a source digest to, of its first log and of all; a watch of before says nothing of all."""
+    return source["digest"], source.get("digest_all") if "digest_all" in other else None
+
+
 def compare(one, two):
     """What differs, in lines."""
     if one["chain"] != two["chain"]:
@@ -36,7 +41,7 @@ def compare(one, two):
         other = of_two.get(source["replica"])
         if other is None:
             yield f"replica {source['replica']}: the second does not watch it"
-        elif source["frames"] == other["frames"] and source["digest"] != other["digest"]:
+        elif source["frames"] == other["frames"] and digests(source, other) != digests(other, source):
             yield f"replica {source['replica']}: {source['frames']} frames each, and they differ: it shows two logs"
         elif source["frames"] != other["frames"]:
             print(f"replica {source['replica']}: {source['frames']} and {other['frames']} frames: compare again once both have the same", file=sys.stderr)

@@ -7,6 +7,10 @@ COMMITTEE = f"{TOP}/examples/committee.hsc"
 WATCH = f"{TOP}/crates/hs_watch/out/hs_watch"
 # Where the own vote's signature begins in an entry of kind 3.
 SIGNATURE_AT = 169 + 41
+# From how many parts of a source on some are joined, how many at a time, and how many bytes the file of a part has at most.
+MANY, JOINED, MOST_OF_A_PART = 192, 8, 1 << 26
+# How many files a source has at most.
+MOST_FILES = 200
 
 
 class Failed(Exception):
@@ -74,18 +78,37 @@ def name_of(replica, source, log, front):
     return part_name(replica, source, log, len(front), digest_of(front))
 
 
+def joined(parts):
+    """What a watch makes of parts of one log, each the frames that it has, in their order: while there are too many the eight that
+    follow one another with the fewest bytes become one."""
+    parts = list(parts)
+    while len(parts) >= MANY:
+        sizes = [len(export_of(frames)) for frames in parts]
+        runs = [(sum(sizes[at : at + JOINED]), at) for at in range(len(parts) - JOINED + 1)]
+        _, at = min(run for run in runs if run[0] <= MOST_OF_A_PART)
+        parts[at : at + JOINED] = [[frame for frames in parts[at : at + JOINED] for frame in frames]]
+    return parts
+
+
+def files_of(replica, parts):
+    """The files of these parts of the first log of a replica's first source: the bytes of each by its name."""
+    files, count, digest = {}, 0, bytes(32)
+    for frames in parts:
+        files[part_name(replica, 0, 0, count, digest)] = export_of(frames)
+        count += len(frames)
+        for frame in frames:
+            digest = digest_then(digest, frame)
+    return files
+
+
 def keep_singly(state, chain, replica, frames):
-    """Makes a folder in which a watch of this chain kept each of these frames as a part of its own. Answers the parts' names."""
+    """Makes a folder in which a watch of this chain kept each of these frames as a part of its own."""
     os.mkdir(state, 0o700)
     with open(f"{state}/chain", "w") as file:
         file.write(chain)
-    names, digest = [], bytes(32)
-    for count, frame in enumerate(frames):
-        names.append(part_name(replica, 0, 0, count, digest))
-        with open(f"{state}/{names[-1]}", "wb") as file:
-            file.write(export_of([frame]))
-        digest = digest_then(digest, frame)
-    return names
+    for name, text in files_of(replica, [[frame] for frame in frames]).items():
+        with open(f"{state}/{name}", "wb") as file:
+            file.write(text)
 
 
 def chain_of(room):

@@ -1,5 +1,5 @@
 -- The blocks in a picture.
-use Rattle.std.specs.Prelude.{◌≡◌, ◌++◌, ℕ, List, [], Option, None, Some, codes, decimal}
+use Rattle.std.specs.Prelude.{◌≡◌, ◌++◌, ℕ, List, [], Bool, true, false, Option, None, Some, codes, decimal, nat_lt, if◌then◌else◌}
 use Rattle.blocks.specs.Headers.{Header, header_id}
 use Rattle.handover.specs.Handovers.{IsHandover}
 use Rattle.fork_picture.specs.Digits.{short_id, whole_id}
@@ -105,15 +105,36 @@ IsMarked Committed text = text ≡ []
 IsMarked Conflicting text = (x : ℕ) × (y : ℕ) × (text ≡ conflict_mark x y)
 
 -- below a block that hands over to the next committee
-abbrev pub IsNext : Header → List ℕ → Type 0
-IsNext h text =
+abbrev pub IsHandoverMark : Header → List ℕ → Type 0
+IsHandoverMark h text =
     (IsHandover h → (x : ℕ) × (y : ℕ) × (text ≡ words_line x y (codes "hands over"))) × ((IsHandover h → ⊥) → text ≡ [])
 
-pub record AreMarks (b : Block) (text : List ℕ) : Type 0 where
+abbrev pub is_commit : Standing → Bool
+is_commit Genesis = false
+is_commit Uncertified = false
+is_commit Certified = false
+is_commit Committed = true
+is_commit Conflicting = false
+
+-- it is committed above the view of the block that handed over
+abbrev pub is_after : Option ℕ → Block → Bool
+is_after None b = false
+is_after (Some view) b = if is_commit b.standing then nat_lt view b.header.view else false
+
+-- below a commit that counts for nothing, since the ledger was handed over
+abbrev pub IsAfterMark : List ℕ → Type 0
+IsAfterMark text = (x : ℕ) × (y : ℕ) × (text ≡ words_line x y (codes "after handover"))
+
+-- below it, or else below a block that hands over
+abbrev pub IsNext : (is_after : Bool) → Header → List ℕ → Type 0
+IsNext true h text = IsAfterMark text
+IsNext false h text = IsHandoverMark h text
+
+pub record AreMarks (handover : Option ℕ) (b : Block) (text : List ℕ) : Type 0 where
   pub above : List ℕ
   pub is_above : IsMarked b.standing above
   pub below : List ℕ
-  pub is_below : IsNext b.header below
+  pub is_below : IsNext (is_after handover b) b.header below
   pub text_is : text ≡ above ++ below
 
 -- ---- a block, wherever it stands
@@ -121,15 +142,15 @@ pub record AreMarks (b : Block) (text : List ℕ) : Type 0 where
 unfoldable pub block_front : (class : List ℕ) → List ℕ
 block_front class = codes "<g class=\"block " ++ (class ++ codes "\">\n")
 
-pub record IsBlock (replicas : ℕ) (total : Option ℕ) (k : ℕ) (b : Block) (text : List ℕ) : Type 0 where
+pub record IsBlock (replicas : ℕ) (total handover : Option ℕ) (k : ℕ) (b : Block) (text : List ℕ) : Type 0 where
   pub left : ℕ
   pub top : ℕ
   pub lines : List ℕ
   pub are_lines : AreLines total b lines
   pub mark : List ℕ
-  pub are_marks : AreMarks b mark
+  pub are_marks : AreMarks handover b mark
   pub text_is : text ≡ block_front (class_name b.standing) ++ title_text replicas total b ++ block_frame left top ++ lines ++ mark ++ codes "</g>\n"
 
--- of so many replicas, whose weight is told where they have weights
-abbrev pub AreBlocks : (replicas : ℕ) → Option ℕ → List Block → List ℕ → Type 0
-AreBlocks replicas total blocks text = AreOf (IsBlock replicas total) 0 blocks text
+-- of so many replicas, whose weight is told where they have weights, which handed over in this view, if they did
+abbrev pub AreBlocks : (replicas : ℕ) → (total handover : Option ℕ) → List Block → List ℕ → Type 0
+AreBlocks replicas total handover blocks text = AreOf (IsBlock replicas total handover) 0 blocks text

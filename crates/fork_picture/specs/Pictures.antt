@@ -1,5 +1,5 @@
 -- The text of a picture.
-use Rattle.std.specs.Prelude.{◌≡◌, ◌++◌, ℕ, List, codes}
+use Rattle.std.specs.Prelude.{◌≡◌, ◌++◌, ℕ, List, Option, codes}
 use Rattle.evidence.specs.declared.source.SourceReport.{SourceReport}
 use Rattle.fork_picture.specs.Findings.{Findings, findings_text}
 use Rattle.fork_picture.specs.DrawnBlocks.{AreBlocks}
@@ -21,9 +21,10 @@ pub record Drawn : Type 0 where
   pub blocks : List Block
   pub culprits : List Culprit
   pub reports : List SourceReport
+  pub handover : Option ℕ
 
 abbrev pub drawn_in : Scene → Drawn
-drawn_in scene = record { blocks = scene.blocks.items; culprits = scene.culprits.items; reports = scene.sources.items }
+drawn_in scene = record { blocks = scene.blocks.items; culprits = scene.culprits.items; reports = scene.sources.items; handover = scene.handover }
 
 -- an SVG document that says these findings and draws this; no clause says where
 pub record IsPicture (findings : Findings) (drawn : Drawn) (text : List ℕ) : Type 0 where
@@ -32,7 +33,7 @@ pub record IsPicture (findings : Findings) (drawn : Drawn) (text : List ℕ) : T
   pub is_description : IsDescription findings.conflict drawn.culprits description
   pub lines : List ℕ
   pub blocks : List ℕ
-  pub are_blocks : AreBlocks findings.replicas findings.total drawn.blocks blocks
+  pub are_blocks : AreBlocks findings.replicas findings.total drawn.handover drawn.blocks blocks
   pub lanes : List ℕ
   pub are_lanes : IsCulpritsText drawn.culprits lanes
   pub legend : List ℕ

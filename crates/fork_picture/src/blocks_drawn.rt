@@ -1,7 +1,7 @@
 //! Views, blocks and the lines between them.
 
 ghost use Rattle.std.specs.Prelude.{◌≡◌, ◌++◌, OnOk, codes, string_bytes};
-ghost use Rattle.fork_picture.specs.DrawnBlocks.{AreBlocks, AreLines, AreMarks, IsBlock, IsMarked, IsNext, block_frame, block_front, class_name, conflict_mark, count_line, id_line, named_text, parent_text, standing_words, support_text, title_text, unless_genesis, votes_line, votes_weight, weight_line, words_line};
+ghost use Rattle.fork_picture.specs.DrawnBlocks.{AreBlocks, AreLines, AreMarks, IsAfterMark, IsBlock, IsHandoverMark, IsMarked, IsNext, block_frame, block_front, class_name, conflict_mark, count_line, id_line, is_after, is_commit, named_text, parent_text, standing_words, support_text, title_text, unless_genesis, votes_line, votes_weight, weight_line, words_line};
 ghost use Rattle.fork_picture.specs.Series.{Adds};
 ghost use Rattle.handover.specs.Handovers.{IsHandover};
 
@@ -28,6 +28,19 @@ impl Standing {
             Standing::Certified => "certified",
             Standing::Committed => "committed",
             Standing::Conflicting => "conflict",
+        }
+    }
+
+    // Whether its commit is proved, and is not in conflict.
+    fn is_commit(self) -> bool
+        ensures { result ≡ is_commit self }
+    {
+        match self {
+            Standing::Committed => true,
+            Standing::Genesis
+            | Standing::Uncertified
+            | Standing::Certified
+            | Standing::Conflicting => false,
         }
     }
 
@@ -373,24 +386,68 @@ fn put_conflict(text: &mut String, standing: Standing, x: u64, top: u64) -> Resu
     }
 }
 
-fn put_next(text: &mut String, header: &Header, x: u64, top: u64) -> Result<(), AllocError>
+fn put_handover(text: &mut String, header: &Header, x: u64, y: u64) -> Result<(), AllocError>
     ensures { OnOk result (Adds (string_bytes text.old) (string_bytes text.new)
-        (IsNext header.now)) }
+        (IsHandoverMark header.now)) }
 {
     if is_handover(header) {
-        put_words_line(text, x, top.saturating_add(BLOCK_HEIGHT + 13), "hands over")
+        put_words_line(text, x, y, "hands over")
     } else {
         Ok(())
     }
 }
 
-// What stands above and below a block.
-fn put_marks(text: &mut String, block: &Block, x: u64, top: u64) -> Result<(), AllocError>
+// Whether a block is committed above the view of the block that handed over.
+fn is_after(handover: Option<u64>, block: &Block) -> bool
+    ensures { result ≡ is_after handover block.now }
+{
+    let Some(view) = handover else {
+        return false;
+    };
+    if !block.standing.is_commit() {
+        return false;
+    }
+    view < block.header.header().view
+}
+
+// What stands below a commit that counts for nothing.
+fn put_after(text: &mut String, x: u64, y: u64) -> Result<(), AllocError>
+    ensures { OnOk result (Adds (string_bytes text.old) (string_bytes text.new) IsAfterMark) }
+{
+    put_words_line(text, x, y, "after handover")
+}
+
+// What stands below a block.
+fn put_next(
+    text: &mut String,
+    is_after: bool,
+    header: &Header,
+    x: u64,
+    y: u64,
+) -> Result<(), AllocError>
     ensures { OnOk result (Adds (string_bytes text.old) (string_bytes text.new)
-        (AreMarks block.now)) }
+        (IsNext is_after header.now)) }
+{
+    if is_after {
+        return put_after(text, x, y);
+    }
+    put_handover(text, header, x, y)
+}
+
+// What stands above and below a block.
+fn put_marks(
+    text: &mut String,
+    handover: Option<u64>,
+    block: &Block,
+    x: u64,
+    top: u64,
+) -> Result<(), AllocError>
+    ensures { OnOk result (Adds (string_bytes text.old) (string_bytes text.new)
+        (AreMarks handover block.now)) }
 {
     put_conflict(text, block.standing, x, top)?;
-    put_next(text, block.header.header(), x, top)
+    let y = top.saturating_add(BLOCK_HEIGHT + 13);
+    put_next(text, is_after(handover, block), block.header.header(), x, y)
 }
 
 #[tactic(auto, unfolding(crate::specs::DrawnBlocks::block_front))]
@@ -410,7 +467,7 @@ fn put_block(
     block: &Block,
 ) -> Result<(), AllocError>
     ensures { OnOk result (Adds (string_bytes text.old) (string_bytes text.new)
-        (IsBlock scene.now.replicas scene.now.total index block.now)) }
+        (IsBlock scene.now.replicas scene.now.total scene.now.handover index block.now)) }
 {
     let left = layout.left(block.place.column);
     let middle = layout.middle(block.place.column);
@@ -419,7 +476,7 @@ fn put_block(
     put_title(text, alloc, scene, block)?;
     put_block_frame(text, left, top)?;
     put_lines(text, alloc, scene.total, block, middle, top)?;
-    put_marks(text, block, middle, top)?;
+    put_marks(text, scene.handover, block, middle, top)?;
     put_end(text)
 }
 
@@ -431,7 +488,7 @@ fn put_each(
     blocks: &[Block],
 ) -> Result<(), AllocError>
     ensures { OnOk result (Adds (string_bytes text.old) (string_bytes text.new)
-        (AreBlocks scene.now.replicas scene.now.total blocks.now)) }
+        (AreBlocks scene.now.replicas scene.now.total scene.now.handover blocks.now)) }
 {
     for (index, block) in blocks.iter().enumerate() {
         put_block(text, alloc, layout, scene, index, block)?;
@@ -447,7 +504,7 @@ pub(crate) fn put_blocks(
     scene: &Scene,
 ) -> Result<(), AllocError>
     ensures { OnOk result (Adds (string_bytes text.old) (string_bytes text.new)
-        (AreBlocks scene.now.replicas scene.now.total scene.now.blocks.items)) }
+        (AreBlocks scene.now.replicas scene.now.total scene.now.handover scene.now.blocks.items)) }
 {
     put_each(text, alloc, layout, scene, &scene.blocks)
 }

@@ -4,7 +4,7 @@ ghost use Rattle.std.specs.Prelude.{◌≡◌, IfOk, IsPermutation, length, map,
 ghost use Rattle.std.specs.List.{All, AllZip};
 ghost use Rattle.culprit_search.specs.Reports.{Report as ReportValue};
 ghost use Rattle.evidence.specs.Evidence.{Evidence as EvidenceValue};
-ghost use Rattle.fork_picture.specs.Drawings.{IsDrawn, IsDrawnOf, IsJudgedBlock, IsRecent, IsRecentPicture};
+ghost use Rattle.fork_picture.specs.Drawings.{IsDrawn, IsDrawnOf, IsHandoverView, IsJudgedBlock, IsRecent, IsRecentPicture};
 ghost use Rattle.fork_picture.specs.Findings.{findings_in, findings_of};
 ghost use Rattle.fork_picture.specs.Lanes.{IsCulpritOf, IsMarkOf};
 ghost use Rattle.fork_picture.specs.Pictures.{drawn_in};
@@ -20,6 +20,7 @@ use crate::voters::support_of;
 use blocks::{Id, NamedHeader};
 use culprit_search::{Report, Verdict};
 use evidence::{Evidence, SourceReport};
+use handover_lines::handover_of;
 use std::alloc::{AllocError, Global};
 use std::collections::BTreeMap;
 use verdict_format::BoundVote;
@@ -238,6 +239,23 @@ fn judged_blocks(
     blocks_of(alloc, columns, &order, rows)
 }
 
+// The view in which the ledger was handed over.
+fn handover_view(
+    alloc: Global,
+    evidence: &Evidence,
+    report: &Report,
+) -> Result<Option<u64>, AllocError>
+    ensures { IfOk result (IsHandoverView evidence.now report.now) }
+{
+    if report.conflict().is_some() {
+        return Ok(None);
+    }
+    match handover_of(alloc, evidence)? {
+        Some(block) => Ok(Some(block.header().view)),
+        None => Ok(None),
+    }
+}
+
 // The picture in which these blocks are drawn, and lines of these sources.
 fn scene_with(
     alloc: Global,
@@ -270,6 +288,7 @@ fn scene_with(
         conflict: report.conflict(),
         culprits,
         weight: report.weight(),
+        handover: handover_view(alloc, evidence, report)?,
         sources,
     })
 }

@@ -30,6 +30,8 @@ pub struct Scene {
     pub culprits: Vec<Culprit>,
     /// How much the culprits count together.
     pub weight: u64,
+    /// The view of the first block that hands over on a chain that is proved to be committed, if no commits conflict.
+    pub handover: Option<u64>,
     /// What came of each source.
     pub sources: Vec<SourceReport>,
 }

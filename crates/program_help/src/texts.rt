@@ -76,6 +76,7 @@ hs_signer --serve hands it out, or R=file:PATH, an export.\n\
 \x20 --reread SECONDS    after how long it reads all of a log again (3600)\n\
 \x20 --listen ADDRESS    tells over HTTP what it knows, as at 127.0.0.1:7190\n\
 \x20 --host NAME         a name that Host may have there; only with --listen\n\
+\x20 --name TEXT         its name on its page; only with --listen\n\
 \x20 --state DIR         keeps what it reads in the folder DIR\n\
 \x20 --keep-most BYTES   how much DIR may hold; only with --state\n\
 \x20 --until-culprit     ends with status 3 once the first verdict is stored\n\

@@ -2,3 +2,5 @@ mod Lists
 mod MadeParts
 mod Judging
 mod KnownSoFar
+mod Staying
+mod Untouched

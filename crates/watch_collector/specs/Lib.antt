@@ -3,3 +3,6 @@ pub use Rattle.evidence.specs.Logs
 pub mod Parts
 pub mod Growing
 pub mod Collectors
+pub mod Growth
+pub mod Untouched
+pub mod Audits

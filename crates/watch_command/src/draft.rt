@@ -2,9 +2,9 @@
 
 use blocks::CommitteeView;
 use evidence::EvidenceRefusal;
-use kept_parts::{PartName, PartText};
 use std::alloc::{AllocError, Global};
 use watch_collector::PartMaker;
+use watch_state::{PartName, PartText};
 use wire::{LONGEST_PAYLOAD, MOST_ENTRIES};
 
 /// A part of a log that is being made: what its frames name, and, where it is to be stored, its text and its name.

@@ -5,11 +5,10 @@ ghost use Rattle.std.specs.Prelude.{◌≡◌, ◌≢◌, IfOk};
 use crate::fault::{Fault, FolderFile, WatchFault};
 use crate::program::{DONE, Host, fault_of_state};
 use crate::words::ExportWords;
-use kept_export::{ExportFault, export_kept};
 use program_parts::ProgramFault;
-use state_folder::open_kept;
 use std::fs::{File, Files};
 use streams::Sink;
+use watch_state::{ExportFault, export_kept, open_kept};
 
 /// Writes an export of each log that is kept of the source, and prints a line for it. No watch may run on the folder meanwhile.
 pub(crate) fn give_out<'a, T: Files<File = File> + AllocGlobal + Clone + Drop, W: Sink>(

@@ -27,6 +27,7 @@ pub(crate) fn follow<'c, T: Files<File = File> + Wait + Clock + Net<Stream = Tcp
     if !shop.await_kept() {
         return Ok(());
     }
+    reader.join_parts(shop)?;
     match &target.place {
         Place::File(path) => read_file_once(shop, &mut reader, path),
         Place::Server(name) => follow_server(shop, &mut reader, target, name),
@@ -45,6 +46,7 @@ fn follow_server<'c, T: Files<File = File> + Wait + Clock + Net<Stream = TcpStre
         }
         reader.begin_anew(shop)?;
         if !read_on(shop, reader, name)? {
+            reader.store_again(shop)?;
             reader.end_round(shop);
             shop.pause();
         }
@@ -143,6 +145,7 @@ fn read_file_once<'c, T: Files<File = File> + Wait + Clock>(
         note_answer(shop, reader.source);
     }
     reader.finish(shop, draft, ended)?;
+    reader.store_again(shop)?;
     reader.end_round(shop);
     Ok(())
 }

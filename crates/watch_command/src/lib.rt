@@ -13,8 +13,10 @@ mod queue;
 mod reader;
 mod restoring;
 mod rounds;
+mod runtime;
 mod serving;
 mod shop;
+mod since;
 mod verdict_files;
 mod words;
 

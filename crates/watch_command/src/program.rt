@@ -8,22 +8,24 @@ ghost use Rattle.watch_command.specs.FaultLines.{watch_fault_line};
 use crate::exporting::give_out;
 use crate::fault::{Fault, FolderFile, WatchFault, fault_of_evidence};
 use crate::following::follow;
-use crate::publishing::{bytes_in, first_snapshot};
+use crate::publishing::first_snapshot;
 use crate::queue::{Line, Queue};
 use crate::rounds::collect;
+use crate::runtime::Runtime;
 use crate::serving::{Server, answer_all};
 use crate::shop::{Place, Shop, Target, answerers_of};
 use crate::verdict_files::VerdictFolder;
 use crate::words::{Task, Words, read_words};
 use blocks::CommitteeView;
 use program_parts::{
-    Origin, ProgramFault, SourceWord, exit_status, parse_committee, read_committee,
+    InputFault, MOST_OF_A_SHORT_FILE, Origin, ProgramFault, SourceWord, exit_status,
+    parse_committee, read_committee, read_file,
 };
-use state_folder::{StateFault, StateFolder, open_state};
 use std::alloc::{AllocError, Global};
 use std::fs::{File, Files};
 use std::net::{Net, TcpListener, TcpStream};
 use std::random::RandomSource;
+use std::str::from_utf8;
 use std::sync::Wait;
 use std::sync::atomic::{AtomicBool, AtomicU64};
 use std::thread::Threads;
@@ -31,12 +33,16 @@ use std::time::Clock;
 use std::{io, thread};
 use streams::Sink;
 use watch_snapshot::Snapshot;
+use watch_state::{StateFault, StateFolder, open_state};
 
 /// The watch ended, and had found no culprit.
 pub const DONE: u8 = 0;
 
 /// The watch ended, and has a verdict on each of one or more culprits.
 pub const CULPRITS: u8 = 3;
+
+/// Where Linux tells the name of the machine.
+const HOST_NAME: &str = "/proc/sys/kernel/hostname";
 
 /// What a watch works with.
 #[derive(Drop)]
@@ -88,16 +94,7 @@ where
 fn run<
     'a,
     'h,
-    T: Files<File = File>
-        + AllocGlobal
-        + Clone
-        + Drop
-        + Threads
-        + Wait
-        + Clock
-        + Net<Listener = TcpListener, Stream = TcpStream>
-        + RandomSource
-        + Sync,
+    T: Runtime,
     W: Sink + Send,
 >(host: &'h Host<'h, T>, words: &'a [String], out: &mut W) -> Result<u8, Fault<'a>>
 where
@@ -204,13 +201,7 @@ fn place_of<'a>(word: &SourceWord<'a>) -> Place<'a> {
 fn watch<
     'x,
     'w,
-    T: Files<File = File>
-        + Threads
-        + Wait
-        + Clock
-        + Net<Listener = TcpListener, Stream = TcpStream>
-        + RandomSource
-        + Sync,
+    T: Runtime,
     W: Sink + Send,
 >(
     host: &'x Host<'x, T>,
@@ -241,16 +232,7 @@ where
 }
 
 // The threads at work, and beside them what prints lines, until no more come. Answers whether there are culprits.
-fn work_and_print<
-    T: Files<File = File>
-        + Threads
-        + Wait
-        + Clock
-        + Net<Listener = TcpListener, Stream = TcpStream>
-        + RandomSource
-        + Sync,
-    W: Sink,
->(shop: &Shop<'_, '_, '_, T>, jobs: Vec<Job>, out: &mut W) -> Result<bool, Fault<'static>>
+fn work_and_print<T: Runtime, W: Sink>(shop: &Shop<'_, '_, '_, T>, jobs: Vec<Job>, out: &mut W) -> Result<bool, Fault<'static>>
 where
     T::Dir: Send,
 {
@@ -261,22 +243,27 @@ where
     }
 }
 
-// How many parts are kept.
-fn parts_in<T: Files<File = File>>(state: Option<&StateFolder<'_, '_, T>>) -> u64 {
-    match state {
-        Some(state) => state.parts().len() as u64,
-        None => 0,
+// The name of the watch: the one that was said, or else that of the machine, if it tells one.
+fn name_of<T: Files<File = File>>(
+    host: &Host<'_, T>,
+    words: &Words<'_>,
+) -> Result<String, AllocError> {
+    if let Some(name) = words.name {
+        return String::from_str(host.alloc, name);
+    }
+    let text = match read_file(host.rt, host.alloc, HOST_NAME, MOST_OF_A_SHORT_FILE) {
+        Ok(text) => text,
+        Err(InputFault::Memory) => return Err(AllocError),
+        Err(InputFault::Unreadable) => return Ok(String::new(host.alloc)),
+    };
+    match from_utf8(&text) {
+        Ok(name) => String::from_str(host.alloc, name.strip_suffix("\n").unwrap_or(name)),
+        Err(_) => Ok(String::new(host.alloc)),
     }
 }
 
 // Where what the watch knows is told, if it is. The line that says so is the first that is printed.
-fn server_of<
-    T: Files<File = File>
-        + Wait
-        + Clock
-        + Net<Listener = TcpListener, Stream = TcpStream>
-        + RandomSource,
->(
+fn server_of<T: Runtime>(
     host: &Host<'_, T>,
     words: &Words<'_>,
     committee: &CommitteeView<'_>,
@@ -287,15 +274,15 @@ fn server_of<
     let Some(address) = words.listen else {
         return Ok(None);
     };
-    let (kept, bytes) = (parts_in(state), bytes_in(state));
-    let seen = first_snapshot(host.rt, host.alloc, committee, words, targets, kept, bytes)?;
+    let name = name_of(host, words)?;
+    let seen = first_snapshot(host, committee, words, targets, state, name)?;
     match listen(host, address, seen, queue) {
         Ok(server) => Ok(Some(server)),
         Err(error) => Err(Fault::unless_memory(&error, Fault::Own(WatchFault::Listen))),
     }
 }
 
-fn listen<T: Wait + Net<Listener = TcpListener, Stream = TcpStream> + RandomSource>(
+fn listen<T: Runtime>(
     host: &Host<'_, T>,
     address: &str,
     seen: Snapshot,
@@ -319,7 +306,7 @@ fn jobs_of(alloc: Global, sources: usize, answerers: usize) -> Result<Vec<Job>, 
 }
 
 // Prints lines until no more come. Where one can't be printed the watch ends.
-fn print_all<T: Wait + Clock, W: Sink>(
+fn print_all<T: Runtime, W: Sink>(
     shop: &Shop<'_, '_, '_, T>,
     out: &mut W,
 ) -> Result<(), streams::Fault> {
@@ -331,15 +318,7 @@ fn print_all<T: Wait + Clock, W: Sink>(
 }
 
 // A thread for each job. Answers whether there are culprits, once all have ended.
-fn work_all<
-    T: Files<File = File>
-        + Threads
-        + Wait
-        + Clock
-        + Net<Listener = TcpListener, Stream = TcpStream>
-        + RandomSource
-        + Sync,
->(shop: &Shop<'_, '_, '_, T>, jobs: Vec<Job>) -> Result<bool, Fault<'static>>
+fn work_all<T: Runtime>(shop: &Shop<'_, '_, '_, T>, jobs: Vec<Job>) -> Result<bool, Fault<'static>>
 where
     T::Dir: Send,
 {
@@ -357,15 +336,7 @@ where
 }
 
 // Does a job until the watch ends. Where it can't go on, the watch ends.
-fn work<
-    T: Files<File = File>
-        + Threads
-        + Wait
-        + Clock
-        + Net<Listener = TcpListener, Stream = TcpStream>
-        + RandomSource
-        + Sync,
->(shop: &Shop<'_, '_, '_, T>, job: Job) -> Result<bool, Fault<'static>> {
+fn work<T: Runtime>(shop: &Shop<'_, '_, '_, T>, job: Job) -> Result<bool, Fault<'static>> {
     if !shop.begin() {
         return Err(Fault::Own(WatchFault::Threads));
     }

@@ -1,46 +1,53 @@
 //! What the watch knows, published whole.
 
+use crate::program::Host;
 use crate::rounds::Rounds;
 use crate::serving::Server;
 use crate::shop::{Place, Shop, Target};
+use crate::since::Since;
 use crate::words::Words;
 use blocks::CommitteeView;
 use shared_values::Shared;
-use state_folder::StateFolder;
 use std::alloc::{AllocError, Global};
 use std::fs::{File, Files};
 use std::sync::Wait;
 use std::sync::atomic::Ordering;
 use std::time::Clock;
-use watch_desk::{KeptVerdicts, Moment, SourcePlace, snapshot_of};
-use watch_service::seconds_now;
+use watch_desk::{KeptVerdicts, Moment, SourcePlace, SourceTimes, snapshot_of};
 use watch_snapshot::Snapshot;
+use watch_state::StateFolder;
+use watch_web::seconds_now;
 
-/// What a watch knows before anything came, of which so many files were kept.
-pub(crate) fn first_snapshot(
-    clock: &impl Clock,
-    alloc: Global,
+/// What a watch of this name knows before anything came.
+pub(crate) fn first_snapshot<T: Files<File = File> + Clock>(
+    host: &Host<'_, T>,
     committee: &CommitteeView,
     words: &Words,
     targets: &[Target],
-    kept: u64,
-    state_bytes: u64,
+    state: Option<&StateFolder<'_, '_, T>>,
+    name: String,
 ) -> Result<Snapshot, AllocError> {
-    let now = seconds_now(clock);
+    let alloc = host.alloc;
+    let now = seconds_now(host.rt);
     let desk = KeptVerdicts::new(alloc, committee).open(&replicas_of(alloc, targets)?)?;
+    let since = Since::new(alloc, targets.len())?;
     let moment = Moment {
+        name,
+        folder: String::from_str(alloc, words.folder)?,
         started: now,
         round: 0,
         stamped: now,
         took: 0,
         every: words.every,
         is_unstored: false,
+        unstored_since: 0,
+        conflict_since: 0,
         lines_lost: 0,
-        kept,
+        kept: parts_in(state),
         kept_read: 0,
-        state_bytes,
+        state_bytes: bytes_in(state),
         state_bytes_max: bytes_max(words),
-        sources: source_places(alloc, targets)?,
+        sources: source_places(alloc, targets, &since)?,
         picture: None,
     };
     snapshot_of(alloc, committee, &desk, &[], moment)
@@ -55,17 +62,26 @@ pub(crate) fn replicas_of(alloc: Global, targets: &[Target]) -> Result<Vec<u16>,
     Ok(replicas)
 }
 
-fn source_places(alloc: Global, targets: &[Target]) -> Result<Vec<SourcePlace>, AllocError> {
+fn source_places(
+    alloc: Global,
+    targets: &[Target],
+    since: &Since,
+) -> Result<Vec<SourcePlace>, AllocError> {
     let mut places = Vec::new(alloc);
-    for target in targets {
+    for (target, holds) in targets.iter().zip(since.sources.iter()) {
         places.push(SourcePlace {
             word: String::from_str(alloc, target.word)?,
             is_file: match &target.place {
                 Place::File(_) => true,
                 Place::Server(_) => false,
             },
-            last_answer: target.answered.load(Ordering::SeqCst),
-            last_frame: target.framed.load(Ordering::SeqCst),
+            times: SourceTimes {
+                answer: target.answered.load(Ordering::SeqCst),
+                frame: target.framed.load(Ordering::SeqCst),
+                status: holds.status,
+                bad: holds.bad,
+                aside: holds.aside,
+            },
         })?;
     }
     Ok(places)
@@ -80,8 +96,16 @@ fn kept_read<T: Wait + Clock>(shop: &Shop<'_, '_, '_, T>, kept: u64) -> u64 {
     kept
 }
 
-/// How many bytes are kept.
-pub(crate) fn bytes_in<T: Files<File = File>>(state: Option<&StateFolder<'_, '_, T>>) -> u64 {
+// How many parts are kept.
+fn parts_in<T: Files<File = File>>(state: Option<&StateFolder<'_, '_, T>>) -> u64 {
+    match state {
+        Some(state) => state.parts().len() as u64,
+        None => 0,
+    }
+}
+
+// How many bytes are kept.
+fn bytes_in<T: Files<File = File>>(state: Option<&StateFolder<'_, '_, T>>) -> u64 {
     match state {
         Some(state) => state.held(),
         None => 0,
@@ -106,18 +130,22 @@ fn moment_of<T: Files<File = File> + Wait + Clock>(
         None => None,
     };
     Ok(Moment {
+        name: String::from_str(shop.alloc, &server.name)?,
+        folder: String::from_str(shop.alloc, shop.words.folder)?,
         started: server.started,
         round: rounds.round,
         stamped: seconds_now(shop.rt),
         took: rounds.took / 1_000,
         every: shop.words.every,
         is_unstored: rounds.is_unstored(),
+        unstored_since: rounds.since.unstored,
+        conflict_since: rounds.since.conflict,
         lines_lost: shop.queue.lost(),
         kept: server.kept,
         kept_read: kept_read(shop, server.kept),
         state_bytes: bytes_in(shop.state),
         state_bytes_max: bytes_max(shop.words),
-        sources: source_places(shop.alloc, shop.targets)?,
+        sources: source_places(shop.alloc, shop.targets, &rounds.since)?,
         picture,
     })
 }

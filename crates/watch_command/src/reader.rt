@@ -3,7 +3,6 @@
 use crate::draft::Draft;
 use crate::shop::{Delivery, Shop, StoredPart, Target, Told};
 use evidence::EvidenceRefusal;
-use kept_parts::{KeptLogs, LogDigest, NO_FRAMES, PartName, PartText, digest_then};
 use log_format::{Frames, Status};
 use source_reading::{FrameDigest, SourceLogs, digest_of};
 use std::alloc::{AllocError, Global};
@@ -12,8 +11,9 @@ use std::sync::Wait;
 use std::sync::atomic::Ordering;
 use std::time::{Clock, Instant};
 use watch_desk::{Extent, NewPart};
-use watch_service::seconds_now;
-use watch_snapshot::lasts_back;
+use watch_snapshot::{SourceDigests, lasts_back};
+use watch_state::{KeptLogs, LogDigest, NO_FRAMES, PartFile, PartName, PartText, SourceParts, StateFolder, digest_then, log_digest};
+use watch_web::seconds_now;
 use wire::MOST_ENTRIES;
 
 /// What all of a log is compared with, once it was read from the beginning.
@@ -25,6 +25,16 @@ pub(crate) enum Compared {
     Before,
     /// The logs that were kept, at a start: it is to begin with one of them.
     Kept,
+}
+
+/// How many bytes of parts of one source may wait until they can be stored: with more, no more of it is stored.
+const MOST_WAITING: usize = 8 * 1024 * 1024;
+
+// A part that could not be stored yet.
+#[derive(Drop)]
+struct WaitingPart {
+    name: PartName,
+    text: Vec<u8>,
 }
 
 // No frame of any log.
@@ -40,8 +50,8 @@ pub(crate) struct Reader {
     pub logs: SourceLogs,
     /// What the frames digest to that were read of the log that it has now.
     pub front: LogDigest,
-    // What the frames of its first log digest to.
-    digest: LogDigest,
+    // What the frames of each of its logs digest to.
+    ends: Vec<LogDigest>,
     // The log that the last frame came to.
     log: usize,
     // The log of which what was read is the beginning.
@@ -66,9 +76,13 @@ pub(crate) struct Reader {
     pub compared: Compared,
     // What was kept of it, at the start.
     pub kept: KeptLogs,
+    /// Its parts that are kept.
+    pub parts: SourceParts,
     // Of the logs that were kept the one that it was last found to give.
     gives: Option<usize>,
-    // Something of it could not be stored: no more of it is, so that what is stored has no gap.
+    // What could not be stored yet, in its order.
+    waiting: Vec<WaitingPart>,
+    // Something of it is not stored for good: no more of it is, so that what is stored has no gap.
     pub has_gap: bool,
 }
 
@@ -81,7 +95,7 @@ impl Reader {
             nth: target.nth,
             logs: SourceLogs::new(alloc)?,
             front: NO_FRAMES,
-            digest: NO_FRAMES,
+            ends: Vec::new(alloc),
             log: 0,
             begins: 0,
             before: None,
@@ -95,7 +109,9 @@ impl Reader {
             is_anew: false,
             compared: Compared::Nothing,
             kept: KeptLogs::new(alloc),
+            parts: SourceParts::new(alloc),
             gives: None,
+            waiting: Vec::new(alloc),
             has_gap: false,
         })
     }
@@ -351,10 +367,25 @@ impl Reader {
         }
         draft.add(shop.alloc, place, frame)?;
         self.front = digest_then(&self.front, digest);
-        if place.log == 0 {
-            self.digest = self.front;
+        self.note_end(usize::from(place.log))?;
+        Ok(())
+    }
+
+    // What was read is all of this log: one that it has, or the next.
+    fn note_end(&mut self, log: usize) -> Result<(), AllocError> {
+        match self.ends.get_mut(log) {
+            Some(end) => *end = self.front,
+            None => self.ends.push(self.front)?,
         }
         Ok(())
+    }
+
+    // What the frames of its logs digest to.
+    fn digests(&self) -> SourceDigests {
+        SourceDigests {
+            first: self.ends.first().copied().unwrap_or(NO_FRAMES),
+            all: log_digest(&self.ends),
+        }
     }
 
     /// Hands over what came last, where it has frames or says how the log ends.
@@ -387,18 +418,86 @@ impl Reader {
         if let Some(name) = &name {
             self.log = usize::from(name.log);
         }
+        let parts = self.parts.len();
         let unstored = self.store(shop, text, name)?;
         let new = NewPart {
             log: self.log,
             part: maker.finish(shop.alloc, status)?,
-            digest: self.digest,
+            digests: self.digests(),
             is_kept,
         };
         self.tell(shop, Told::Part(StoredPart { new, unstored }));
+        if self.parts.len() > parts {
+            self.join_parts(shop)?;
+        }
         Ok(())
     }
 
-    // Stores a part, where it is to be stored. Answers its path where it can't be.
+    /// Joins parts of it, where many are kept.
+    pub fn join_parts<T: Files<File = File> + Wait + Clock>(
+        &mut self,
+        shop: &Shop<'_, '_, '_, T>,
+    ) -> Result<(), AllocError> {
+        let Some(state) = shop.state else {
+            return Ok(());
+        };
+        for _ in 0..u64::MAX {
+            if shop.is_ending() || !self.parts.join_next(state)? {
+                break;
+            }
+        }
+        Ok(())
+    }
+
+    /// Tries again to store what waits, and tells where all of it is stored now.
+    pub fn store_again<T: Files<File = File> + Wait + Clock>(
+        &mut self,
+        shop: &Shop<'_, '_, '_, T>,
+    ) -> Result<(), AllocError> {
+        let Some(state) = shop.state else {
+            return Ok(());
+        };
+        if self.waiting.is_empty() || !self.store_waiting(state)? {
+            return Ok(());
+        }
+        self.tell(shop, Told::Stored);
+        self.join_parts(shop)
+    }
+
+    // Stores what waits, as far as it can be. Answers whether nothing waits any more.
+    fn store_waiting<T: Files<File = File>>(
+        &mut self,
+        state: &StateFolder<'_, '_, T>,
+    ) -> Result<bool, AllocError> {
+        for _ in 0..self.waiting.len() {
+            let Some(part) = self.waiting.first() else {
+                break;
+            };
+            if state.store(&part.name, &part.text).is_err() {
+                return Ok(false);
+            }
+            self.parts.push(&PartFile {
+                name: part.name,
+                bytes: part.text.len() as u64,
+            })?;
+            let _stored = self.waiting.remove(0);
+        }
+        Ok(true)
+    }
+
+    // More waits than may.
+    fn give_up_waiting(&mut self) {
+        let mut bytes: usize = 0;
+        for part in &self.waiting {
+            bytes = bytes.saturating_add(part.text.len());
+        }
+        if bytes > MOST_WAITING {
+            self.waiting.clear();
+            self.has_gap = true;
+        }
+    }
+
+    // Stores a part, where it is to be stored, behind those that wait. Answers its path where it can't be, and nothing waited before.
     fn store<T: Files<File = File> + Wait + Clock>(
         &mut self,
         shop: &Shop<'_, '_, '_, T>,
@@ -411,10 +510,19 @@ impl Reader {
         if self.has_gap || text.count() > MOST_ENTRIES {
             return Ok(None);
         }
-        if state.store(&name, &text.finish()?).is_ok() {
+        let has_waited = !self.waiting.is_empty();
+        let text = text.finish()?;
+        self.waiting.push(WaitingPart { name, text })?;
+        if self.store_waiting(state)? {
+            if has_waited {
+                self.tell(shop, Told::Stored);
+            }
             return Ok(None);
         }
-        self.has_gap = true;
+        self.give_up_waiting();
+        if has_waited {
+            return Ok(None);
+        }
         Ok(Some(state.path_of(&name)?))
     }
 

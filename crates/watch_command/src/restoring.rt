@@ -4,16 +4,26 @@ use crate::draft::Draft;
 use crate::reader::{Compared, Reader};
 use crate::shop::{Shop, Told};
 use evidence::EvidenceRefusal;
-use kept_parts::{KeptLogs, PartName, digest_then};
-use log_format::{Frames, Status};
-use source_reading::{FrameDigest, Place, digest_of};
-use state_folder::StateFolder;
+use log_format::Status;
+use source_reading::{FrameDigest, Place};
 use std::alloc::AllocError;
 use std::fs::{File, Files};
 use std::sync::Wait;
 use std::time::Clock;
 use watch_desk::Extent;
+use watch_state::{
+    Found, KeptLogs, PartFile, PartName, PartVisitor, StateFolder, digest_then, visit_parts,
+};
 use wire::MOST_ENTRIES;
+
+// What is kept of a source, and what was made of it so far.
+#[derive(Drop)]
+struct Restorer<'x, 'a, 'w, 'c, T> {
+    shop: &'x Shop<'a, 'w, 'c, T>,
+    state: &'x StateFolder<'a, 'w, T>,
+    reader: &'x mut Reader,
+    draft: Draft<'c>,
+}
 
 impl Reader {
     /// Reads what is kept of it, and hands it over. Then its log is read from the beginning, and compared with those that are
@@ -25,20 +35,7 @@ impl Reader {
         let Some(state) = shop.state else {
             return Ok(());
         };
-        let mut kept = KeptLogs::new(shop.alloc);
-        let mut draft = Draft::kept(shop.alloc, shop.committee, self.replica)?;
-        for name in state.parts() {
-            if name.replica != self.replica || name.source != self.nth {
-                continue;
-            }
-            if shop.is_ending() {
-                break;
-            }
-            if !self.restore_part(shop, state, &mut kept, &mut draft, name)? {
-                self.pass_over(shop, state, name)?;
-            }
-            shop.note_kept();
-        }
+        let (kept, draft) = self.read_kept(shop, state)?;
         if draft.frames() > 0 {
             self.hand_over(shop, draft, Status::Failed)?;
         }
@@ -57,6 +54,25 @@ impl Reader {
         Ok(())
     }
 
+    // Reads what is kept of it. Answers the logs, and what was not handed over yet.
+    fn read_kept<'c, T: Files<File = File> + Wait + Clock>(
+        &mut self,
+        shop: &Shop<'_, '_, 'c, T>,
+        state: &StateFolder<'_, '_, T>,
+    ) -> Result<(KeptLogs, Draft<'c>), EvidenceRefusal> {
+        let (replica, source) = (self.replica, self.nth);
+        let draft = Draft::kept(shop.alloc, shop.committee, replica)?;
+        let mut restorer = Restorer {
+            shop,
+            state,
+            reader: self,
+            draft,
+        };
+        let kept = visit_parts(state, replica, source, &mut restorer)?;
+        let Restorer { draft, .. } = restorer;
+        Ok((kept, draft))
+    }
+
     // Something stands there that is no part of a log of it: it stays, and no more of this source is stored.
     fn pass_over<T: Files<File = File> + Wait + Clock>(
         &mut self,
@@ -71,75 +87,67 @@ impl Reader {
         Ok(())
     }
 
-    // Reads a part. Answers whether it is one that goes on where what is kept of its log ends.
-    fn restore_part<'c, T: Files<File = File> + Wait + Clock>(
-        &mut self,
-        shop: &Shop<'_, '_, 'c, T>,
-        state: &StateFolder<'_, '_, T>,
-        kept: &mut KeptLogs,
-        draft: &mut Draft<'c>,
-        name: &PartName,
-    ) -> Result<bool, EvidenceRefusal> {
-        let Some(text) = state.text_of(name)? else {
-            return Ok(false);
-        };
-        let frames = Frames::of(shop.alloc, &text)?;
-        if frames.status() != Status::Whole || !self.begin_part(shop, kept, name)? {
-            return Ok(false);
-        }
-        for k in 0..frames.len() {
-            let frame = frames.payload(k);
-            if self.logs.read() >= MOST_ENTRIES {
-                return Ok(false);
-            }
-            let digest = digest_of(frame);
-            let place = self.next_place(usize::from(name.log));
-            if !self.is_next(kept, name, &digest)? {
-                return Ok(false);
-            }
-            self.add_frame(shop, draft, &place, frame, &digest)?;
-        }
-        Ok(true)
+    // Takes a frame as read that another log of it has.
+    fn know(&mut self, digest: &FrameDigest) -> Result<(), AllocError> {
+        let _known = self.logs.place(digest)?;
+        self.front = digest_then(&self.front, digest);
+        Ok(())
     }
 
-    // Whether a part goes on where what is kept ends. Where it opens a log, what it begins as is taken as read.
-    fn begin_part<T: Wait + Clock>(
-        &mut self,
-        shop: &Shop<'_, '_, '_, T>,
-        kept: &mut KeptLogs,
-        name: &PartName,
-    ) -> Result<bool, AllocError> {
-        let front = match kept.front(name) {
-            None => return Ok(false),
-            Some(_) if usize::from(name.log) < kept.len() => return Ok(true),
-            Some(front) => front.to_vec(shop.alloc)?,
-        };
-        kept.begin(&front)?;
-        self.restart()?;
-        for digest in &front {
-            let _known = self.logs.place(digest)?;
-            self.front = digest_then(&self.front, digest);
-        }
-        Ok(true)
-    }
-
-    // Whether a frame is the next of the log of a part, of which it is then read.
-    fn is_next(
-        &mut self,
-        kept: &mut KeptLogs,
-        name: &PartName,
-        digest: &FrameDigest,
-    ) -> Result<bool, AllocError> {
-        let log = usize::from(name.log);
-        if log >= kept.len() {
-            return Ok(false);
-        }
+    // Whether a frame is the next of this log of it, of which it is then read.
+    fn is_next(&mut self, log: usize, digest: &FrameDigest) -> Result<bool, AllocError> {
         match self.logs.place(digest)? {
-            Place::Next(k) | Place::Opens(k) if k == log => {
-                kept.push(log, digest)?;
-                Ok(true)
-            }
+            Place::Next(k) | Place::Opens(k) if k == log => Ok(true),
             _ => Ok(false),
         }
+    }
+}
+
+impl<'c, T: Files<File = File> + Wait + Clock> PartVisitor for Restorer<'_, '_, '_, 'c, T> {
+    type Refusal = EvidenceRefusal;
+
+    fn miss(&mut self) -> Result<bool, EvidenceRefusal> {
+        Ok(false)
+    }
+
+    // What the log begins as is taken as read.
+    fn open(&mut self, _kept: &KeptLogs, front: &[FrameDigest]) -> Result<(), EvidenceRefusal> {
+        self.reader.restart()?;
+        for digest in front {
+            self.reader.know(digest)?;
+        }
+        Ok(())
+    }
+
+    fn frame(
+        &mut self,
+        log: u16,
+        frame: &[u8],
+        digest: &FrameDigest,
+    ) -> Result<bool, EvidenceRefusal> {
+        if self.reader.logs.read() >= MOST_ENTRIES {
+            return Ok(false);
+        }
+        let log = usize::from(log);
+        let place = self.reader.next_place(log);
+        if !self.reader.is_next(log, digest)? {
+            return Ok(false);
+        }
+        self.reader
+            .add_frame(self.shop, &mut self.draft, &place, frame, digest)?;
+        Ok(true)
+    }
+
+    fn end(&mut self, part: &PartFile, found: Found) -> Result<bool, EvidenceRefusal> {
+        if found == Found::Leftover {
+            self.reader.parts.leave(part)?;
+        } else {
+            self.reader.parts.push(part)?;
+        }
+        if found == Found::Nothing {
+            self.reader.pass_over(self.shop, self.state, &part.name)?;
+        }
+        self.shop.note_kept();
+        Ok(!self.shop.is_ending())
     }
 }

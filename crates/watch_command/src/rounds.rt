@@ -6,6 +6,7 @@ use crate::fault::{Fault, fault_of_evidence};
 use crate::publishing::{publish, replicas_of};
 use crate::queue::Line;
 use crate::shop::{Delivery, Shop, StoredPart, Told};
+use crate::since::Since;
 use crate::verdict_files::{Kept, VerdictFolder};
 use fork_picture::recent_picture;
 use program_parts::ProgramFault;
@@ -17,7 +18,7 @@ use std::thread::Threads;
 use std::time::{Clock, Duration, Instant};
 use watch_desk::{Desk, FoundVerdict, KeptVerdicts, News, VerdictPlace, put_news};
 use watch_lines::{put_kept, put_lost, put_unstored, stamp, utc_text};
-use watch_service::seconds_now;
+use watch_web::seconds_now;
 
 /// How long the collector waits for what comes, in milliseconds: then it looks whether the watch is to end. So long an audit
 /// waits at most, too.
@@ -36,9 +37,11 @@ pub(crate) struct Rounds<'c> {
     taken: Vec<bool>,
     /// The picture of the last audit.
     pub picture: Option<String>,
+    /// Since when what is shown holds.
+    pub since: Since,
     pub round: u64,
-    /// A part of a log could not be stored.
-    pub has_gap: bool,
+    // Of each source, whether a part of a log is not stored.
+    gaps: Vec<bool>,
     // Something came that was not audited yet.
     is_due: bool,
     /// How many microseconds the rounds took, but for what they publish.
@@ -94,8 +97,9 @@ impl<'c> Rounds<'c> {
             places,
             taken,
             picture: None,
+            since: Since::new(shop.alloc, shop.targets.len())?,
             round: 0,
-            has_gap: false,
+            gaps: vec![in shop.alloc; false; shop.targets.len()]?,
             is_due: false,
             took: 0,
             audited: None,
@@ -117,7 +121,7 @@ impl<'c> Rounds<'c> {
 
     /// Whether something could not be stored.
     pub fn is_unstored(&self) -> bool {
-        self.has_gap || self.places.iter().any(|place| place.is_unstored)
+        self.gaps.iter().any(|gap| *gap) || self.places.iter().any(|place| place.is_unstored)
     }
 
     // How many milliseconds the next audit is still to wait.
@@ -161,6 +165,8 @@ impl<'c> Rounds<'c> {
             self.audit(shop, folder, &stamp)?;
         }
         self.note_round(shop, begun);
+        let is_unstored = self.is_unstored();
+        self.since.note(&self.desk, is_unstored, seconds_now(shop.rt));
         publish(shop, self)?;
         Ok(())
     }
@@ -200,7 +206,8 @@ impl<'c> Rounds<'c> {
             Told::Gives(given) => self.desk.give(i, *given),
             Told::GivesKept(log) => tell_all(shop, stamp, &self.desk.count_kept(i, *log)?)?,
             Told::Beyond => tell_one(shop, stamp, self.desk.go_beyond(i))?,
-            Told::Unstored(path) => self.tell_unstored(shop, stamp, path)?,
+            Told::Unstored(path) => self.tell_unstored(shop, stamp, i, path)?,
+            Told::Stored => self.note_gap(i, false),
         }
         Ok(())
     }
@@ -216,7 +223,7 @@ impl<'c> Rounds<'c> {
         ensures { IfErr result (λ fault. fault ≢ ProgramFault.Output) }
     {
         if let Some(path) = &stored.unstored {
-            self.tell_unstored(shop, stamp, path)?;
+            self.tell_unstored(shop, stamp, i, path)?;
         }
         if i >= self.desk.sources() {
             return Ok(());
@@ -235,14 +242,21 @@ impl<'c> Rounds<'c> {
         Ok(())
     }
 
-    // A part of a log is not stored at this path.
+    fn note_gap(&mut self, i: usize, is_there: bool) {
+        if let Some(gap) = self.gaps.get_mut(i) {
+            *gap = is_there;
+        }
+    }
+
+    // A part of a log of a source is not stored at this path.
     fn tell_unstored<T: Wait + Clock>(
         &mut self,
         shop: &Shop<'_, '_, 'c, T>,
         stamp: &[u8],
+        i: usize,
         path: &String,
     ) -> Result<(), AllocError> {
-        self.has_gap = true;
+        self.note_gap(i, true);
         let mut line = Vec::new(shop.alloc);
         put_unstored(&mut line, stamp, path.as_bytes())?;
         shop.queue.say(shop.rt, Line::Lasting(line));
@@ -317,7 +331,12 @@ impl<'c> Rounds<'c> {
             shop.queue.say(shop.rt, Line::Lasting(line));
         }
         shop.accuse(replica);
-        self.places.push(VerdictPlace { path, is_unstored })?;
+        let since = seconds_now(shop.rt);
+        self.places.push(VerdictPlace {
+            path,
+            is_unstored,
+            since,
+        })?;
         Ok(())
     }
 
@@ -350,6 +369,7 @@ fn tell_kept<T: Files<File = File> + Wait + Clock>(
             Ok(Some(VerdictPlace {
                 path,
                 is_unstored: false,
+                since: 0,
             }))
         }
         Kept::Other => {
@@ -372,6 +392,17 @@ fn tell_lost<T: Wait + Clock>(shop: &Shop<'_, '_, '_, T>, stamp: &[u8]) -> Resul
     Ok(())
 }
 
+// Which of its replica's sources the one is of which this is told.
+fn nth_of<T: Wait + Clock>(shop: &Shop<'_, '_, '_, T>, news: &News) -> u16 {
+    let News::Status(i, _, _) = news else {
+        return 0;
+    };
+    match shop.targets.get(*i) {
+        Some(target) => target.nth,
+        None => 0,
+    }
+}
+
 // Puts the line of something new into the queue. A source that is set aside is read no more.
 fn tell<T: Wait + Clock>(
     shop: &Shop<'_, '_, '_, T>,
@@ -380,9 +411,9 @@ fn tell<T: Wait + Clock>(
     path: &[u8],
 ) -> Result<(), AllocError> {
     let mut line = Vec::new(shop.alloc);
-    put_news(&mut line, stamp, news, path)?;
+    put_news(&mut line, stamp, news, path, nth_of(shop, news))?;
     match news {
-        News::Status(_, _) | News::WentBack(_, _) => {
+        News::Status(_, _, _) | News::WentBack(_, _) => {
             shop.queue.say(shop.rt, Line::Passing(line));
         }
         News::SetAside(i, _) => {

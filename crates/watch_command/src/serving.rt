@@ -18,8 +18,8 @@ use std::os::fd::OwnedFd;
 use std::random::RandomSource;
 use std::sync::{Mutex, Wait};
 use std::time::Clock;
-use watch_service::{Watcher, serve_watcher};
 use watch_snapshot::Snapshot;
+use watch_web::{Watcher, serve_watcher};
 use wire::append;
 
 /// How many threads answer, each many readers at once.
@@ -53,6 +53,8 @@ pub(crate) struct Server {
     pub started: u64,
     /// How many files with parts of logs were kept then.
     pub kept: u64,
+    /// The name of the watch.
+    pub name: String,
     // What the watch knew after its last round.
     seen: Mutex<Shared<Snapshot>>,
 }
@@ -70,6 +72,7 @@ impl Server {
             keys: RandomState::new(rt)?,
             started: seen.started,
             kept: seen.kept,
+            name: String::from_str(alloc, &seen.name)?,
             seen: Mutex::new(Shared::new(alloc, seen)?),
         })
     }

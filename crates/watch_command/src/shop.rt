@@ -6,13 +6,13 @@ use crate::queue::Queue;
 use crate::serving::{ANSWERERS, Server};
 use crate::words::Words;
 use blocks::CommitteeView;
-use state_folder::StateFolder;
 use std::alloc::{AllocError, Global};
 use std::sync::atomic::{AtomicBool, AtomicU32, AtomicU64, Ordering};
 use std::sync::{Condvar, Mutex, Wait};
 use std::thread;
 use std::time::{Clock, Duration};
 use watch_desk::{Extent, NewPart};
+use watch_state::StateFolder;
 
 /// How long the threads are waited for to start, in looks a hundredth of a second apart.
 const MOST_LOOKS: u32 = 1_000;
@@ -45,6 +45,8 @@ pub(crate) enum Told<'c> {
     Beyond,
     /// What stands at this path, among what is kept, is no part of a log of it.
     Unstored(String),
+    /// All of it that could not be stored is stored now.
+    Stored,
 }
 
 impl Told<'_> {

@@ -4,13 +4,13 @@ ghost use Rattle.std.specs.Prelude.{◌≢◌, IfErr};
 
 use crate::fault::{Fault, FolderFile, WatchFault};
 use program_parts::{InputFault, MOST_OF_A_SHORT_FILE, ProgramFault, read_file};
-use state_folder::store_new;
 use std::alloc::{AllocError, Global};
 use std::fs::{File, Files, OpenOptions};
 use std::io::ErrorKind;
 use std::os::unix::fs::OpenOptionsExt;
 use std::{fs, io};
 use watch_desk::KeptVerdicts;
+use watch_state::store_new;
 
 /// The mode of a new verdict's file: everyone may read it.
 const VERDICT_MODE: u32 = 0o644;
@@ -133,8 +133,8 @@ impl<'a, F: Files<File = File>> VerdictFolder<'_, 'a, F> {
         Ok(())
     }
 
-    /// Stores a verdict at the path, where nothing stands: whole and synced, or not at all.
+    /// Stores a verdict at the path, where nothing stands: whole and synced, or not at all. What took the name meanwhile stays.
     pub fn store(&self, path: &str, bytes: &[u8]) -> io::Result<()> {
-        store_new(self.files, self.alloc, self.path, path, VERDICT_MODE, bytes)
+        store_new(self.files, self.alloc, path, VERDICT_MODE, bytes)
     }
 }

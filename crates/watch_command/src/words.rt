@@ -41,6 +41,8 @@ pub(crate) struct Words<'a> {
     pub listen: Option<&'a str>,
     /// The names that a `Host` may have there, besides `localhost` and addresses.
     pub hosts: Vec<String>,
+    /// The name that its page has; that of the machine where none is said.
+    pub name: Option<&'a str>,
     /// Where what is read is kept, if it is.
     pub state: Option<&'a str>,
     /// How many bytes may stand there in all.
@@ -111,6 +113,7 @@ fn with_switches<'a>(alloc: Global, grammar: Grammar<'a>) -> Result<Grammar<'a>,
         .arg(Arg::new(alloc, "ADDRESS").long("listen"))?
         .arg(Arg::new(alloc, "DIR").long("state"))?
         .arg(Arg::new(alloc, "BYTES").long("keep-most"))?
+        .arg(Arg::new(alloc, "NAME").long("name"))?
         .arg(host)?
         .arg(switch(alloc, "export"))?
         .arg(switch(alloc, "until-culprit"))?
@@ -122,7 +125,7 @@ fn switch<'a>(alloc: Global, name: &'a str) -> Arg<'a> {
 }
 
 // The options that go with `--state` alone where what was kept is given out.
-const NOT_OF_AN_EXPORT: [&str; 5] = ["SECONDS", "REREAD", "ADDRESS", "BYTES", "HOST"];
+const NOT_OF_AN_EXPORT: [&str; 6] = ["SECONDS", "REREAD", "ADDRESS", "BYTES", "NAME", "HOST"];
 
 // `R-I OUT`, with nothing beside them but where it was kept.
 fn exported<'a>(matches: &ArgMatches<'a>) -> Result<Task<'a>, Fault<'a>>
@@ -192,6 +195,7 @@ fn given<'a>(alloc: Global, matches: &ArgMatches<'a>) -> Result<Words<'a>, Fault
         until_input_ends: is_set(matches, "until-input-ends"),
         listen: matches.get_str("ADDRESS"),
         hosts: hosts_in(alloc, matches)?,
+        name: matches.get_str("NAME"),
         state: matches.get_str("DIR"),
         keep_most,
     };
@@ -201,14 +205,18 @@ fn given<'a>(alloc: Global, matches: &ArgMatches<'a>) -> Result<Words<'a>, Fault
     judged(words)
 }
 
-// The place for HTTP is not empty, and where there is none no host is named; the folder of what is kept is not empty.
+// The place for HTTP is not empty, and where there is none no host is named, nor the watch itself; its name and the folder of what is
+// kept are not empty.
 fn judged<'a>(words: Words<'a>) -> Result<Words<'a>, Fault<'a>>
     ensures refused { IfErr result (λ fault. fault ≢ ProgramFault.Output) }
 {
     if words.state == Some("") {
         return Err(ProgramFault::Usage);
     }
-    if words.listen == Some("") || (words.listen.is_none() && !words.hosts.is_empty()) {
+    if words.listen == Some("") || words.name == Some("") {
+        return Err(ProgramFault::Usage);
+    }
+    if words.listen.is_none() && (!words.hosts.is_empty() || words.name.is_some()) {
         return Err(ProgramFault::Usage);
     }
     Ok(words)

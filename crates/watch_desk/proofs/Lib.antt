@@ -2,7 +2,6 @@ pub mod Highest
 pub mod KeptBad
 pub mod Once
 pub mod Pairs
-pub mod Pieces
 pub mod Showing
 pub mod Sourcing
 pub mod Opened

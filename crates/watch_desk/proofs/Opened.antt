@@ -20,7 +20,7 @@ use Rattle.watch_desk.specs.declared.source.LogKnown.{LogKnown}
 use Rattle.watch_desk.specs.declared.source.SourceKnown.{SourceKnown}
 
 pub same_source : (s : SourceKnown) → SameButLogs s s
-same_source s = record { replica = refl; status = refl; bad = refl; top_view = refl; times_back = refl; back_told = refl; back = refl; is_beyond = refl; digest = refl }
+same_source s = record { replica = refl; status = refl; bad = refl; top_view = refl; times_back = refl; back_told = refl; back = refl; is_beyond = refl; digests = refl }
 
 -- what stands elsewhere stays
 elsewhere : (xs : List SourceKnown) (i k : ℕ) (x : SourceKnown) → k ≢ i → slice_get (set xs i x) k ≡ slice_get xs k

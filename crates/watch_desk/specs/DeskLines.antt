@@ -3,6 +3,7 @@ use Rattle.std.specs.Prelude.{◌++◌, ℕ, List, codes, decimal}
 use Rattle.hex.specs.Hex.{encode_lower}
 use Rattle.blocks.specs.Headers.{Header, header_id}
 use Rattle.culprit_search.specs.declared.report.Commit.{Commit}
+use Rattle.handover_lines.specs.HandoverLines.{after_text}
 use Rattle.verdict_format.specs.Verdicts.{earlier_in, later_in, verdict_kind_in}
 use Rattle.watch_desk.specs.declared.news.News.{News}
 use Rattle.watch_desk.specs.declared.news.News.TheVariants as news
@@ -17,10 +18,6 @@ verdict_views_text verdict path =
 unfoldable pub payload_text : Header → List ℕ
 payload_text b = codes " payload " ++ encode_lower b.payload
 
--- " committed, N commits after it"
-unfoldable pub after_text : ℕ → List ℕ
-after_text after = codes " committed, " ++ decimal after ++ codes " commits after it\n"
-
 -- "handover VIEW ID payload HEX committed, N commits after it"
 unfoldable pub handover_news : List ℕ → Header → ℕ → List ℕ
 handover_news stamp b after = stamp ++ codes "handover " ++ decimal b.view ++ codes " " ++ encode_lower (header_id b) ++ payload_text b ++ after_text after
@@ -29,13 +26,13 @@ handover_news stamp b after = stamp ++ codes "handover " ++ decimal b.view ++ co
 unfoldable pub commits_news : List ℕ → ℕ → Commit → List ℕ
 commits_news stamp count c = stamp ++ codes "commits " ++ decimal count ++ codes " before " ++ decimal c.view ++ codes " " ++ encode_lower c.id ++ codes "\n"
 
-abbrev pub news_line : (stamp path : List ℕ) → News → List ℕ
-news_line stamp path (news.Conflict c) = conflict_news stamp c
-news_line stamp path (news.Culprit v) = culprit_news stamp v path
-news_line stamp path (news.Handover b after) = handover_news stamp b after
-news_line stamp path (news.Commits n c) = commits_news stamp n c
-news_line stamp path (news.Commit c) = commit_news stamp c
-news_line stamp path (news.Status i r) = source_news stamp i r
-news_line stamp path (news.WentBack i r) = source_alarm stamp (codes "went-back") i r
-news_line stamp path (news.Beyond i r) = source_alarm stamp (codes "beyond") i r
-news_line stamp path (news.SetAside i r) = source_alarm stamp (codes "set-aside") i r
+abbrev pub news_line : (stamp path : List ℕ) → (nth : ℕ) → News → List ℕ
+news_line stamp path nth (news.Conflict c) = conflict_news stamp c
+news_line stamp path nth (news.Culprit v) = culprit_news stamp v path
+news_line stamp path nth (news.Handover b after) = handover_news stamp b after
+news_line stamp path nth (news.Commits n c) = commits_news stamp n c
+news_line stamp path nth (news.Commit c) = commit_news stamp c
+news_line stamp path nth (news.Status i log r) = source_news stamp i nth log r
+news_line stamp path nth (news.WentBack i r) = source_alarm stamp (codes "went-back") i r
+news_line stamp path nth (news.Beyond i r) = source_alarm stamp (codes "beyond") i r
+news_line stamp path nth (news.SetAside i r) = source_alarm stamp (codes "set-aside") i r

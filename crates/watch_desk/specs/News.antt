@@ -1,10 +1,11 @@
 -- What a round of a watch tells, and in which order.
-use Rattle.std.specs.Prelude.{◌-◌, ◌++◌, ◌&&◌, ℕ, List, [], ◌∷◌, Bool, false, not, nat_eq, nat_lt, count_by, map, filter, drop, length, Option, None, Some, if◌then◌else◌}
+use Rattle.std.specs.Prelude.{◌-◌, ◌++◌, ◌&&◌, ℕ, List, [], ◌∷◌, Bool, false, not, nat_eq, map, filter, drop, length, Option, None, Some, if◌then◌else◌}
 use Rattle.std.specs.List.{list_any}
 use Rattle.std.specs.Str.{bytes_eq}
 use Rattle.blocks.specs.Headers.{Header}
 use Rattle.culprit_search.specs.declared.report.Commit.{Commit}
 use Rattle.culprit_search.specs.declared.report.Conflict.{Conflict}
+use Rattle.handover_lines.specs.HandoverLines.{commits_after}
 use Rattle.watch_desk.specs.declared.news.News.{News}
 use Rattle.watch_desk.specs.declared.news.News.TheVariants as news
 
@@ -25,10 +26,6 @@ abbrev pub culprits_told : List (List ℕ) → List News
 culprits_told found = map (λ v. news.Culprit v) found
 
 -- ---- the handover
-
--- how many of the commits are above a block; where no commits conflict, the block is an ancestor of each of them
-abbrev pub commits_after : Header → List Commit → ℕ
-commits_after b commits = count_by (λ c. nat_lt b.view c.view) commits
 
 abbrev pub handover_told : List Commit → Option Header → List News
 handover_told commits None = []

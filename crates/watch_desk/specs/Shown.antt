@@ -12,6 +12,7 @@ use Rattle.watch_snapshot.specs.declared.snapshot.Culprit.{Culprit}
 use Rattle.watch_snapshot.specs.declared.snapshot.Fork.{Fork}
 use Rattle.watch_snapshot.specs.declared.snapshot.Pair.{Pair}
 use Rattle.watch_snapshot.specs.declared.snapshot.Snapshot.{Snapshot}
+use Rattle.watch_snapshot.specs.declared.source.SourceDigests.{SourceDigests}
 use Rattle.watch_snapshot.specs.declared.source.SourceSeen.{SourceSeen}
 use Rattle.watch_desk.specs.Backs.{back_at}
 use Rattle.watch_desk.specs.Desks.{Desk}
@@ -29,17 +30,17 @@ pub record SourceFacts : Type 0 where
   pub status : Option Status
   pub bad_votes : ℕ
   pub top_view : ℕ
-  pub digest : List ℕ
+  pub digests : SourceDigests
   pub times_back : ℕ
   pub went_back_at : ℕ
   pub is_beyond : Bool
   pub is_aside : Bool
 
 abbrev pub seen_facts : SourceSeen → SourceFacts
-seen_facts s = record { replica = s.replica; status = s.status; bad_votes = s.bad_votes; top_view = s.top_view; digest = s.digest; times_back = s.times_back; went_back_at = s.went_back_at; is_beyond = s.is_beyond; is_aside = s.is_aside }
+seen_facts s = record { replica = s.replica; status = s.status; bad_votes = s.bad_votes; top_view = s.top_view; digests = s.digests; times_back = s.times_back; went_back_at = s.went_back_at; is_beyond = s.is_beyond; is_aside = s.is_aside }
 
 abbrev pub known_facts : SourceKnown → SourceFacts
-known_facts s = record { replica = s.replica; status = s.status; bad_votes = length s.bad.items; top_view = s.top_view; digest = s.digest; times_back = s.times_back; went_back_at = back_at s.back; is_beyond = s.is_beyond; is_aside = is_aside s }
+known_facts s = record { replica = s.replica; status = s.status; bad_votes = length s.bad.items; top_view = s.top_view; digests = s.digests; times_back = s.times_back; went_back_at = back_at s.back; is_beyond = s.is_beyond; is_aside = is_aside s }
 
 -- ---- the culprits
 
@@ -88,13 +89,18 @@ pub record IsSnapshotOf (committee : List ℕ) (d : Desk) (m : Moment) (s : Snap
   pub conflict : s.conflict ≡ conflict_shown d.told.conflict
   pub has_handover : s.has_handover ≡ d.told.handover
   pub chain : s.chain ≡ chain_id_of committee
+  pub replicas : s.replicas ≡ n_of committee
   pub total : s.total ≡ total_of committee
+  pub name : s.name ≡ m.name
+  pub folder : s.folder ≡ m.folder
   pub started : s.started ≡ m.started
   pub round : s.round ≡ m.round
   pub stamped : s.stamped ≡ m.stamped
   pub took : s.took ≡ m.took
   pub every : s.every ≡ m.every
   pub is_unstored : s.is_unstored ≡ m.is_unstored
+  pub unstored_since : s.unstored_since ≡ m.unstored_since
+  pub conflict_since : s.conflict_since ≡ m.conflict_since
   pub lines_lost : s.lines_lost ≡ m.lines_lost
   pub kept : s.kept ≡ m.kept
   pub kept_read : s.kept_read ≡ m.kept_read

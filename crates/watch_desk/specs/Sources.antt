@@ -53,9 +53,13 @@ abbrev pub is_status : Option Status → Status → Bool
 is_status None s = false
 is_status (Some t) s = nat_eq (status_place t) (status_place s)
 
+-- a log has a name where its source has more than one
+abbrev pub log_named : (count log : ℕ) → Option ℕ
+log_named count log = if nat_lt 1 count then Some log else None
+
 -- how it ends is told when it is not as it was told last
-abbrev pub status_told : ℕ → Option Status → SourceReport → List News
-status_told i told r = if is_status told r.status then [] else news.Status i r ∷ []
+abbrev pub status_told : ℕ → (log : Option ℕ) → Option Status → SourceReport → List News
+status_told i log told r = if is_status told r.status then [] else news.Status i log r ∷ []
 
 -- ---- views
 

@@ -5,7 +5,7 @@ use Rattle.certificates.specs.declared.vote.SignedVote.{SignedVote}
 use Rattle.evidence.specs.declared.source.SourceReport.{SourceReport}
 use Rattle.log_format.specs.declared.status.Status.{Status}
 use Rattle.watch_desk.specs.Backs.{back_after, back_then}
-use Rattle.watch_desk.specs.Sources.{GainsOnce, most_bad_votes, aside_told, back_told, beyond_told, status_told, top_from}
+use Rattle.watch_desk.specs.Sources.{GainsOnce, most_bad_votes, aside_told, back_told, beyond_told, log_named, status_told, top_from}
 use Rattle.watch_desk.specs.declared.back.Extent.{Extent}
 use Rattle.watch_desk.specs.declared.news.News.{News}
 use Rattle.watch_desk.specs.declared.source.LogKnown.{LogKnown}
@@ -58,7 +58,7 @@ pub record SameButLogs (old new : SourceKnown) : Type 0 where
   pub back_told : new.back_told ≡ old.back_told
   pub back : new.back ≡ old.back
   pub is_beyond : new.is_beyond ≡ old.is_beyond
-  pub digest : new.digest ≡ old.digest
+  pub digests : new.digests ≡ old.digests
 
 -- nothing changed but the bad votes, which gained these, each once
 pub record IsCountedIn (old new : SourceKnown) (i : ℕ) (votes : List SignedVote) (before heard : List News) : Type 0 where
@@ -72,7 +72,7 @@ pub record IsCountedIn (old new : SourceKnown) (i : ℕ) (votes : List SignedVot
   pub back_told : new.back_told ≡ old.back_told
   pub back : new.back ≡ old.back
   pub is_beyond : new.is_beyond ≡ old.is_beyond
-  pub digest : new.digest ≡ old.digest
+  pub digests : new.digests ≡ old.digests
 
 -- how the log of this number ends is told
 abbrev pub told_in : List LogKnown → ℕ → Status → Option LogKnown → List LogKnown
@@ -106,12 +106,12 @@ IsCounted true old new i p report bad heard =
     (new.bad ≡ old.bad) × (new.status ≡ old.status) × (heard ≡ []) × AreLogsKept old.logs.items new.logs.items p.log bad
 IsCounted false old new i p report bad heard =
     GainsOnce old.bad.items new.bad.items (Contains bad) × (new.status ≡ Some report.status)
-    × (new.logs.items ≡ logs_told old.logs.items p.log report.status) × (heard ≡ status_told i (told_of old.logs.items p.log) report ++ aside_told i old.replica (length old.bad.items) (length new.bad.items))
+    × (new.logs.items ≡ logs_told old.logs.items p.log report.status) × (heard ≡ status_told i (log_named (length old.logs.items) p.log) (told_of old.logs.items p.log) report ++ aside_told i old.replica (length old.bad.items) (length new.bad.items))
 
 -- the source is known with one part more, whose log did so, and of whose votes these are not good
 pub record IsNoted (old new : SourceKnown) (i : ℕ) (p : NewPart) (report : SourceReport) (bad : List SignedVote) (heard : List News) : Type 0 where
   pub counted : IsCounted p.is_kept old new i p report bad heard
-  pub digest : new.digest ≡ p.digest
+  pub digests : new.digests ≡ p.digests
   pub top : new.top_view ≡ top_then old.top_view bad p.part.listing.votes
   pub replica : new.replica ≡ old.replica
   pub times_back : new.times_back ≡ old.times_back

@@ -5,7 +5,7 @@ ghost use Rattle.std.specs.List.{All};
 ghost use Rattle.verdict_format.specs.Proofs.{IsProof};
 ghost use Rattle.watch_collector.specs.Collectors.{IsCollected, MayFollow, unread_log};
 ghost use Rattle.evidence.specs.Logs.{ReceivedLog};
-ghost use Rattle.watch_search.specs.Audits.{IsAuditOfLogs};
+ghost use Rattle.watch_collector.specs.Audits.{IsAuditOfLogs};
 ghost use Rattle.watch_desk.specs.Hearing.{IsHeard};
 ghost use Rattle.watch_desk.specs.Desks.{told_first};
 ghost use Rattle.watch_desk.specs.Opening.{IsAddedAt, IsNotedAt, IsOpenedAt, IsTaken};
@@ -24,8 +24,7 @@ use shared_values::Shared;
 use std::alloc::{AllocError, Global};
 use std::marker::Model;
 use std::thread::Threads;
-use watch_collector::Collector;
-use watch_search::audit_so_far;
+use watch_collector::{Collector, audit_so_far};
 
 /// What came so far of the sources of a watch, and what was told of it. Contracts see what the collector knows, what is known of
 /// each source, and what was told. Each verdict that it knows is a proof under its committee.
@@ -41,7 +40,7 @@ impl<'c> Model for Desk<'c> {
     ghost use Rattle.std.specs.List.{All};
     ghost use Rattle.verdict_format.specs.Proofs.{IsProof};
     ghost use Rattle.evidence.specs.Logs.{ReceivedLog};
-    ghost use Rattle.watch_search.specs.Audits.{IsAuditOfLogs};
+    ghost use Rattle.watch_collector.specs.Audits.{IsAuditOfLogs};
     ghost use Rattle.watch_desk.specs.Hearing.{IsHeard};
     ghost use Rattle.watch_desk.specs.Desks.{Desk as DeskValue};
 

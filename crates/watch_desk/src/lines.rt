@@ -1,13 +1,14 @@
 //! The lines of what is new.
 
 ghost use Rattle.std.specs.Prelude.{◌≡◌, ◌++◌, OnOk};
-ghost use Rattle.watch_desk.specs.DeskLines.{after_text, commits_news, handover_news, news_line, payload_text, verdict_views_text};
+ghost use Rattle.watch_desk.specs.DeskLines.{commits_news, handover_news, news_line, payload_text, verdict_views_text};
 ghost use Rattle.watch_lines.specs.WatchLines.{culprit_news};
 
 use crate::known::FoundVerdict;
 use crate::news::News;
 use blocks::NamedHeader;
 use culprit_search::Commit;
+use handover_lines::put_after;
 use printed_lines::{put_id, put_number};
 use std::alloc::AllocError;
 use watch_lines::{put_commit, put_conflict, put_source, put_source_alarm};
@@ -56,16 +57,6 @@ fn put_payload(text: &mut Vec<u8>, block: &NamedHeader) -> Result<(), AllocError
     put_id(text, &block.header().payload)
 }
 
-// Adds how many commits are above the block that hands over.
-fn put_after(text: &mut Vec<u8>, after: usize) -> Result<(), AllocError>
-    ensures { OnOk result (text.new.items ≡ text.old.items ++ after_text after) }
-{
-    append(text, b" committed, ")?;
-    put_number(text, after)?;
-    append(text, b" commits after it\n")?;
-    Ok(())
-}
-
 // Adds the line of a handover.
 #[tactic(auto, unfolding(crate::specs::DeskLines::handover_news))]
 fn put_handover(
@@ -107,15 +98,17 @@ fn put_commits(
     append(text, b"\n")
 }
 
-/// Adds the line of something new, behind what stands before the lines of its round. The path is that of a culprit's verdict.
+/// Adds the line of something new, behind what stands before the lines of its round. The path is that of a culprit's verdict, and the
+/// source of a log is the `nth` of its replica's.
 pub fn put_news(
     text: &mut Vec<u8>,
     stamp: &[u8],
     news: &News,
     path: &[u8],
+    nth: u16,
 ) -> Result<(), AllocError>
     ensures { OnOk result (text.new.items
-        ≡ text.old.items ++ news_line stamp.now path.now news.now) }
+        ≡ text.old.items ++ news_line stamp.now path.now nth news.now) }
 {
     match news {
         News::Conflict(conflict) => put_conflict(text, stamp, conflict),
@@ -123,7 +116,7 @@ pub fn put_news(
         News::Handover(block, after) => put_handover(text, stamp, block, *after),
         News::Commits(count, first) => put_commits(text, stamp, *count, first),
         News::Commit(commit) => put_commit(text, stamp, commit),
-        News::Status(i, report) => put_source(text, stamp, *i, report),
+        News::Status(i, log, report) => put_source(text, stamp, *i, nth, *log, report),
         News::WentBack(i, replica) => put_source_alarm(text, stamp, b"went-back", *i, *replica),
         News::Beyond(i, replica) => put_source_alarm(text, stamp, b"beyond", *i, *replica),
         News::SetAside(i, replica) => put_source_alarm(text, stamp, b"set-aside", *i, *replica),

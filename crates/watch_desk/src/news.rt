@@ -18,8 +18,8 @@ pub enum News {
     Commits(usize, Commit),
     /// A block is committed.
     Commit(Commit),
-    /// How a log of the source of this number ends.
-    Status(usize, SourceReport),
+    /// How a log of the source of this number ends; the log's own number where the source has more than one.
+    Status(usize, Option<usize>, SourceReport),
     /// The log of the source of this number, and this replica, went back.
     WentBack(usize, u16),
     /// The source of this number, and this replica, gave one log too many.

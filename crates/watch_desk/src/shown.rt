@@ -15,17 +15,38 @@ use shared_values::Shared;
 use std::alloc::{AllocError, Global};
 use watch_snapshot::{Culprit, Fork, Snapshot, SourceSeen};
 
-/// What a watch knows of a source besides what came of it. Times are seconds since 1970, 0 where there was none.
+/// When something was last so of a source, or since when it is. Times are seconds since 1970, 0 where there was none.
+#[derive(Clone, Copy, Debug, PartialEq, Eq)]
+pub struct SourceTimes {
+    /// When it last gave a byte.
+    pub answer: u64,
+    /// When a frame last came of it.
+    pub frame: u64,
+    /// Since when its log ends as it does.
+    pub status: u64,
+    /// Since when votes of it are not good.
+    pub bad: u64,
+    /// Since when it is set aside.
+    pub aside: u64,
+}
+
+// .. of a source of which nothing came.
+const NO_TIMES: SourceTimes = SourceTimes {
+    answer: 0,
+    frame: 0,
+    status: 0,
+    bad: 0,
+    aside: 0,
+};
+
+/// What a watch knows of a source besides what came of it.
 #[derive(Drop)]
 pub struct SourcePlace {
     /// The word that names it.
     pub word: String,
     /// It is a file, which is read once.
     pub is_file: bool,
-    /// When it last gave a byte.
-    pub last_answer: u64,
-    /// When a frame last came of it.
-    pub last_frame: u64,
+    pub times: SourceTimes,
 }
 
 /// Where the file of a verdict is, or is to be.
@@ -35,11 +56,17 @@ pub struct VerdictPlace {
     pub path: String,
     /// It could not be stored there yet.
     pub is_unstored: bool,
+    /// Since when it is known, in seconds since 1970.
+    pub since: u64,
 }
 
 /// A moment of a watch: what is shown of it besides what its desk knows. Times are seconds since 1970.
 #[derive(Drop)]
 pub struct Moment {
+    /// The name of the watch.
+    pub name: String,
+    /// The folder of its verdicts.
+    pub folder: String,
     /// When the watch began.
     pub started: u64,
     /// The number of its last round.
@@ -52,6 +79,10 @@ pub struct Moment {
     pub every: u32,
     /// Something could not be stored.
     pub is_unstored: bool,
+    /// Since when.
+    pub unstored_since: u64,
+    /// Since when it is known that commits conflict.
+    pub conflict_since: u64,
     /// How many lines were dropped.
     pub lines_lost: u64,
     /// How many files with parts of logs were kept when the watch began.
@@ -92,17 +123,17 @@ fn counts_of(reports: &[SourceReport], logs: &[LogKnown]) -> (u64, u64) {
     (frames, entries)
 }
 
-// The word of a source, whether it is a file, and when it last answered and gave a frame.
+// The word of a source, whether it is a file, and its times.
 fn place_of(
     alloc: Global,
     place: Option<&SourcePlace>,
-) -> Result<(String, bool, u64, u64), AllocError> {
+) -> Result<(String, bool, SourceTimes), AllocError> {
     match place {
         Some(place) => {
             let word = String::from_str(alloc, &place.word)?;
-            Ok((word, place.is_file, place.last_answer, place.last_frame))
+            Ok((word, place.is_file, place.times))
         }
-        None => Ok((String::new(alloc), false, 0, 0)),
+        None => Ok((String::new(alloc), false, NO_TIMES)),
     }
 }
 
@@ -115,7 +146,7 @@ fn source_seen(
 ) -> Result<SourceSeen, AllocError>
     ensures { IfOk result (λ s. seen_facts s ≡ known_facts known.now) }
 {
-    let (word, is_file, last_answer, last_frame) = place_of(alloc, place)?;
+    let (word, is_file, times) = place_of(alloc, place)?;
     let (frames, entries) = counts_of(reports, &known.logs);
     Ok(SourceSeen {
         number: u16::try_from(i).unwrap_or(u16::MAX),
@@ -127,13 +158,16 @@ fn source_seen(
         entries,
         bad_votes: known.bad.len() as u64,
         top_view: known.top_view,
-        digest: known.digest,
-        last_answer,
-        last_frame,
+        digests: known.digests,
+        last_answer: times.answer,
+        last_frame: times.frame,
         times_back: known.times_back,
         went_back_at: back_at(known.back),
         is_beyond: known.is_beyond,
         is_aside: known.is_aside(),
+        status_since: times.status,
+        bad_since: times.bad,
+        aside_since: times.aside,
     })
 }
 
@@ -153,14 +187,17 @@ fn sources_seen(
     Ok(seen)
 }
 
-// The path of a verdict, and whether it is not stored there.
-fn path_of(alloc: Global, place: Option<&VerdictPlace>) -> Result<(String, bool), AllocError> {
+// The path of a verdict, whether it is not stored there, and since when it is known.
+fn path_of(
+    alloc: Global,
+    place: Option<&VerdictPlace>,
+) -> Result<(String, bool, u64), AllocError> {
     match place {
         Some(place) => {
             let path = String::from_str(alloc, &place.path)?;
-            Ok((path, place.is_unstored))
+            Ok((path, place.is_unstored, place.since))
         }
-        None => Ok((String::new(alloc), true)),
+        None => Ok((String::new(alloc), true, 0)),
     }
 }
 
@@ -172,7 +209,7 @@ fn culprit_seen(
 ) -> Result<Culprit, AllocError>
     ensures { IfOk result (λ c. culprit_facts c ≡ verdict_facts committee.now known.now) }
 {
-    let (path, is_unstored) = path_of(alloc, place)?;
+    let (path, is_unstored, since) = path_of(alloc, place)?;
     let replica = known.replica();
     let weight = weight_in(committee, replica);
     let verdict = known.as_bytes().to_vec(alloc)?;
@@ -183,6 +220,7 @@ fn culprit_seen(
         verdict,
         path,
         is_unstored,
+        since,
     })
 }
 
@@ -259,12 +297,16 @@ pub fn snapshot_of(
     ensures { IfOk result (IsSnapshotOf committee.now desk.now moment) }
 {
     let Moment {
+        name,
+        folder,
         started,
         round,
         stamped,
         took,
         every,
         is_unstored,
+        unstored_since,
+        conflict_since,
         lines_lost,
         kept,
         kept_read,
@@ -277,13 +319,17 @@ pub fn snapshot_of(
     let culprits = culprits_seen(alloc, committee, told.verdicts(), places)?;
     let seen = sources_seen(alloc, desk.known(), desk.reports(), &sources)?;
     Ok(Snapshot {
+        name,
+        folder,
         started,
         round,
         stamped,
         took,
         every,
         chain: committee.chain(),
+        replicas: committee.n(),
         is_unstored,
+        unstored_since,
         lines_lost,
         kept,
         kept_read,
@@ -294,6 +340,7 @@ pub fn snapshot_of(
         commits: last_commits(alloc, told.commits())?,
         commit_count: told.commits().len() as u64,
         conflict: conflict_shown(told.conflict()),
+        conflict_since,
         has_handover: told.has_handover(),
         weight: weight_together(&culprits),
         culprits,

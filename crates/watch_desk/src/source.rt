@@ -1,7 +1,7 @@
 //! What is known of a source.
 
 ghost use Rattle.std.specs.Prelude.{◌≡◌, ◌++◌, IfOk, OnOk, option_map, slice_get};
-ghost use Rattle.watch_desk.specs.Sources.{aside_told, is_status, status_place, status_told};
+ghost use Rattle.watch_desk.specs.Sources.{aside_told, is_status, log_named, status_place, status_told};
 ghost use Rattle.watch_desk.specs.Taking.{AreKeptCounted, AreLogsKept, HasBegun, IsBack, IsBeyond, IsCountedIn, IsFreshLog, IsFreshSource, IsGiven, IsNoted, SameButLogs, bad_of, is_aside, logs_told, told_of, top_then};
 
 use crate::back::{Back, Extent, back_after, back_then};
@@ -13,6 +13,13 @@ use log_format::Status;
 use shared_values::Shared;
 use std::alloc::{AllocError, Global};
 use watch_collector::Part;
+use watch_snapshot::SourceDigests;
+
+// What no frames digest to.
+const NO_DIGESTS: SourceDigests = SourceDigests {
+    first: [0; 32],
+    all: [0; 32],
+};
 
 /// A source is set aside once so many of its votes were not good: a correct replica's log has none.
 pub const MOST_BAD_VOTES: usize = 64;
@@ -24,8 +31,8 @@ pub struct NewPart<'c> {
     pub log: usize,
     /// It may have no frame, and then says how the log ends.
     pub part: Part<'c>,
-    /// What the frames of its first log digest to.
-    pub digest: [u8; 32],
+    /// What the frames of the source digest to, with this part.
+    pub digests: SourceDigests,
     /// It was stored before the watch began.
     pub is_kept: bool,
 }
@@ -76,8 +83,8 @@ pub struct SourceKnown {
     pub back: Option<Back>,
     /// It gave one log too many.
     pub is_beyond: bool,
-    /// What the frames of its first log digest to.
-    pub digest: [u8; 32],
+    /// What its frames digest to.
+    pub digests: SourceDigests,
 }
 
 fn status_place(status: Status) -> u8
@@ -101,18 +108,29 @@ fn is_status(told: &Option<Status>, status: Status) -> bool
     }
 }
 
+// The number of a log, where its source has more than one.
+fn log_named(count: usize, log: usize) -> Option<usize>
+    ensures { result ≡ log_named count log }
+{
+    if 1 < count {
+        return Some(log);
+    }
+    None
+}
+
 // Tells how a log ends, where that is not as it was told last.
 fn tell_status(
     alloc: Global,
     i: usize,
+    log: Option<usize>,
     told: &Option<Status>,
     report: &SourceReport,
 ) -> Result<Vec<News>, AllocError>
-    ensures { IfOk result (λ news. news.items ≡ status_told i told.now report.now) }
+    ensures { IfOk result (λ news. news.items ≡ status_told i log told.now report.now) }
 {
     let mut news = Vec::new(alloc);
     if !is_status(told, report.status) {
-        news.push(News::Status(i, *report))?;
+        news.push(News::Status(i, log, *report))?;
     }
     Ok(news)
 }
@@ -151,7 +169,7 @@ impl SourceKnown {
             back_told: 0,
             back: None,
             is_beyond: false,
-            digest: [0; 32],
+            digests: NO_DIGESTS,
         })
     }
 
@@ -236,13 +254,14 @@ impl SourceKnown {
     ) -> Result<Vec<News>, AllocError>
         ensures { IfOk result (λ news. IsNoted self.old self.new i new.now report.now bad.now news.items) }
     {
-        self.digest = new.digest;
+        self.digests = new.digests;
         self.note_views(bad, new.part.votes());
         if new.is_kept {
             self.note_kept(new.log, bad)?;
             return Ok(Vec::new(alloc));
         }
-        let mut news = tell_status(alloc, i, &self.told_of(new.log), report)?;
+        let log = log_named(self.logs.len(), new.log);
+        let mut news = tell_status(alloc, i, log, &self.told_of(new.log), report)?;
         self.note_told(new.log, report.status);
         self.status = Some(report.status);
         self.count(&mut news, i, bad)?;

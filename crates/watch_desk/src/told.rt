@@ -9,7 +9,6 @@ ghost use Rattle.watch_desk.specs.Verdicts.{unnamed};
 
 use crate::certified::highest;
 use crate::commits::{new_commits, tell_commits};
-use crate::handovers::{commits_after, handover_in};
 use crate::known::{FoundVerdict, KnownVerdict, unnamed};
 use crate::news::News;
 use ancestry::Ancestry;
@@ -17,6 +16,7 @@ use blocks::NamedHeader;
 use commit_search::certified_chains;
 use culprit_search::{Commit, Conflict, Report};
 use evidence::Evidence;
+use handover_lines::{commits_after, handover_in};
 use shared_values::Shared;
 use std::alloc::{AllocError, Global};
 use std::marker::Model;

@@ -1,5 +1,5 @@
 -- The lines of a watch, as docs/hs_watch.md lays them out. Each ends with a line feed.
-use Rattle.std.specs.Prelude.{ℕ, ◌++◌, List, codes, decimal}
+use Rattle.std.specs.Prelude.{ℕ, ◌++◌, List, Option, None, Some, codes, decimal}
 use Rattle.hex.specs.Hex.{encode_lower}
 use Rattle.log_format.specs.Readings.{status_name}
 use Rattle.evidence.specs.declared.source.SourceReport.{SourceReport}
@@ -29,11 +29,16 @@ culprit_news stamp verdict path =
 unfoldable pub kept_news : List ℕ → ℕ → List ℕ → List ℕ
 kept_news stamp replica path = stamp ++ codes "culprit " ++ decimal replica ++ codes " kept " ++ path ++ codes "\n"
 
+-- " log R-I-K": the replica, which of its sources, and which log of that
+unfoldable pub log_text : (replica nth : ℕ) → Option ℕ → List ℕ
+log_text replica nth None = codes ""
+log_text replica nth (Some log) = codes " log " ++ decimal replica ++ codes "-" ++ decimal nth ++ codes "-" ++ decimal log
+
 -- "source I replica R STATUS frames F entries E"
-unfoldable pub source_news : List ℕ → ℕ → SourceReport → List ℕ
-source_news stamp i s =
+unfoldable pub source_news : List ℕ → (i nth : ℕ) → (log : Option ℕ) → SourceReport → List ℕ
+source_news stamp i nth log s =
     stamp ++ codes "source " ++ decimal i ++ codes " replica " ++ decimal s.replica ++ codes " " ++ status_name s.status
-    ++ codes " frames " ++ decimal s.frames ++ codes " entries " ++ decimal s.entries ++ codes "\n"
+    ++ codes " frames " ++ decimal s.frames ++ codes " entries " ++ decimal s.entries ++ log_text s.replica nth log ++ codes "\n"
 
 -- "WORD I replica R", of a source: it went back, was set aside, or gave one log too many
 unfoldable pub source_alarm : List ℕ → List ℕ → ℕ → ℕ → List ℕ

@@ -1,7 +1,7 @@
 //! The lines of a watch.
 
 ghost use Rattle.std.specs.Prelude.{◌≡◌, ◌++◌, IfOk, OnOk};
-ghost use Rattle.watch_lines.specs.WatchLines.{commit_news, conflict_news, culprit_news, kept_news, lost_news, source_alarm, source_news, stamp_text, unstored_news};
+ghost use Rattle.watch_lines.specs.WatchLines.{commit_news, conflict_news, culprit_news, kept_news, log_text, lost_news, source_alarm, source_news, stamp_text, unstored_news};
 
 use culprit_search::{Commit, Conflict, Verdict};
 use evidence::SourceReport;
@@ -93,16 +93,39 @@ pub fn put_kept(
     append(text, b"\n")
 }
 
-/// Adds the line of a log of a source, the one of this number.
+// Adds which log it is, where that is told: the replica, which of the replica's sources, and which log of that.
+#[tactic(auto, unfolding(crate::specs::WatchLines::log_text))]
+fn put_log(
+    text: &mut Vec<u8>,
+    replica: u16,
+    nth: u16,
+    log: Option<usize>,
+) -> Result<(), AllocError>
+    ensures { OnOk result (text.new.items ≡ text.old.items ++ log_text replica nth log) }
+{
+    let Some(log) = log else {
+        return append(text, b"");
+    };
+    append(text, b" log ")?;
+    put_number(text, replica)?;
+    append(text, b"-")?;
+    put_number(text, nth)?;
+    append(text, b"-")?;
+    put_number(text, log)
+}
+
+/// Adds the line of a log of the source of number `i`, which is the `nth` of its replica's; the log's number is told where there is one.
 #[tactic(auto, unfolding(crate::specs::WatchLines::source_news))]
 pub fn put_source(
     text: &mut Vec<u8>,
     stamp: &[u8],
     i: usize,
+    nth: u16,
+    log: Option<usize>,
     source: &SourceReport,
 ) -> Result<(), AllocError>
     ensures { OnOk result (text.new.items
-        ≡ text.old.items ++ source_news stamp.now i source.now) }
+        ≡ text.old.items ++ source_news stamp.now i nth log source.now) }
 {
     append(text, stamp)?;
     append(text, b"source ")?;
@@ -115,6 +138,7 @@ pub fn put_source(
     put_number(text, source.frames)?;
     append(text, b" entries ")?;
     put_number(text, source.entries)?;
+    put_log(text, source.replica, nth, log)?;
     append(text, b"\n")
 }
 

@@ -1,38 +1,29 @@
 -- What a watch knew at one moment, in one word.
-use Rattle.std.specs.Prelude.{ℕ, Bool, true, false, Option, Some, None, is_some, count_by, length, nat_lt, ◌==◌, if◌then◌else◌}
+use Rattle.std.specs.Prelude.{ℕ, Bool, List, is_some, count_by, length, nat_lt, not, ◌==◌, if◌then◌else◌}
 use Rattle.std.specs.List.{list_any}
-use Rattle.log_format.specs.declared.status.Status.{Status}
-use Rattle.log_format.specs.declared.status.Status.TheVariants.{Whole, Cut, Broken, TooLong, Failed}
+use Rattle.blocks.specs.Weights.{weight_of}
 use Rattle.watch_snapshot.specs.declared.snapshot.Snapshot.{Snapshot}
 use Rattle.watch_snapshot.specs.declared.snapshot.Standing.{Standing}
 use Rattle.watch_snapshot.specs.declared.snapshot.Standing.TheVariants as stands
 use Rattle.watch_snapshot.specs.declared.source.SourceSeen.{SourceSeen}
-use Rattle.watch_snapshot.specs.Times.{is_late, lasts_back}
-
--- whether what came last of a source had its end mark
-abbrev pub is_whole : Option Status → Bool
-is_whole None = false
-is_whole (Some Whole) = true
-is_whole (Some Cut) = false
-is_whole (Some Broken) = false
-is_whole (Some TooLong) = false
-is_whole (Some Failed) = false
-
--- whether a source answers: what came last of it was whole, and of a server it is not too old
-abbrev pub answers : (every second : ℕ) → SourceSeen → Bool
-answers every second s =
-    if is_whole s.status then (if s.is_file then true else (if is_late s.last_answer every second then false else true)) else false
+use Rattle.watch_snapshot.specs.Sources.{answers, has_bad_votes, is_back}
 
 -- how many of the sources answer
 abbrev pub answering_of : Snapshot → (second : ℕ) → ℕ
 answering_of s second = count_by (answers s.every second) s.sources.items
 
--- whether a source went back and has not given all that it had again; for an hour at most
-abbrev pub is_back : (second : ℕ) → SourceSeen → Bool
-is_back second s = if s.went_back_at == 0 then false else lasts_back s.went_back_at second
+-- ---- the replicas
 
-abbrev pub has_bad_votes : SourceSeen → Bool
-has_bad_votes s = nat_lt 0 s.bad_votes
+abbrev pub is_watched : List SourceSeen → ℕ → Bool
+is_watched sources r = list_any (λ s. s.replica == r) sources
+
+-- each counts once
+abbrev pub once : ℕ → ℕ
+once r = 1
+
+-- of how many of the committee's replicas no source is named
+abbrev pub unwatched_of : Snapshot → ℕ
+unwatched_of s = weight_of once (λ r. not (is_watched s.sources.items r)) s.replicas
 
 -- ---- the worst that holds
 
@@ -43,6 +34,7 @@ reading_of s second =
     else if nat_lt s.kept_read s.kept then stands.ReadingKept
     else if answering_of s second == 0 then stands.NothingRead
     else if nat_lt (answering_of s second) (length s.sources.items) then stands.SomeAnswer
+    else if nat_lt 0 (unwatched_of s) then stands.Unwatched
     else stands.AllAnswer
 
 -- .. of all

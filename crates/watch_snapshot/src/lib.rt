@@ -6,5 +6,5 @@ mod source;
 mod times;
 
 pub use snapshot::{Culprit, Fork, Pair, Snapshot, Standing};
-pub use source::SourceSeen;
+pub use source::{SourceDigests, SourceSeen, SourceState};
 pub use times::{is_late, is_old_round, lasts_back, patience_of};

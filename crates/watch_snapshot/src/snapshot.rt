@@ -2,7 +2,9 @@
 
 ghost use Rattle.std.specs.Prelude.{◌≡◌};
 ghost use Rattle.std.specs.List.{list_any};
-ghost use Rattle.watch_snapshot.specs.Standings.{answering_of, has_bad_votes, is_back, reading_of, standing_of};
+ghost use Rattle.blocks.specs.Weights.{weight_of};
+ghost use Rattle.watch_snapshot.specs.Sources.{has_bad_votes, is_back};
+ghost use Rattle.watch_snapshot.specs.Standings.{answering_of, is_watched, reading_of, standing_of, unwatched_of};
 
 use crate::source::SourceSeen;
 use blocks::{Ballot, Id};
@@ -42,11 +44,17 @@ pub struct Culprit {
     pub path: String,
     /// It could not be stored there yet.
     pub is_unstored: bool,
+    /// Since when it is known.
+    pub since: u64,
 }
 
 /// What a watch knew at one moment. Times are seconds since 1970.
 #[derive(Drop)]
 pub struct Snapshot {
+    /// The name of the watch, of its machine where none was said.
+    pub name: String,
+    /// The folder of its verdicts.
+    pub folder: String,
     /// When the watch began.
     pub started: u64,
     /// The number of its last round.
@@ -59,8 +67,12 @@ pub struct Snapshot {
     pub every: u32,
     /// The chain's id.
     pub chain: Id,
+    /// How many replicas the committee has.
+    pub replicas: u16,
     /// Something could not be stored.
     pub is_unstored: bool,
+    /// Since when.
+    pub unstored_since: u64,
     /// How many lines were dropped, since nobody took them.
     pub lines_lost: u64,
     /// How many files with parts of logs were kept when the watch began.
@@ -81,6 +93,8 @@ pub struct Snapshot {
     pub commit_count: u64,
     /// The first two commits that conflict.
     pub conflict: Option<Fork>,
+    /// Since when it is known that commits conflict.
+    pub conflict_since: u64,
     /// It is proved that the committee handed its ledger over.
     pub has_handover: bool,
     /// The culprits, in the order in which they were found.
@@ -114,6 +128,8 @@ pub enum Standing {
     NothingRead,
     /// Some sources answer, and not all.
     SomeAnswer,
+    /// All sources answer, and of some replicas no source is named.
+    Unwatched,
     /// All sources answer.
     AllAnswer,
 }
@@ -128,6 +144,26 @@ impl Snapshot {
             .iter()
             .filter(|source| source.answers(every, second))
             .count()
+    }
+
+    /// Whether a source is named for a replica.
+    pub fn is_watched(&self, replica: u16) -> bool
+        ensures { result ≡ is_watched self.now.sources.items replica }
+    {
+        self.sources.iter().any(|source| source.replica == replica)
+    }
+
+    /// Of how many of the committee's replicas no source is named.
+    pub fn unwatched(&self) -> u16
+        ensures { result ≡ unwatched_of self.now }
+    {
+        let mut count: u16 = 0;
+        for replica in 0..self.replicas {
+            if !self.is_watched(replica) {
+                count += 1;
+            }
+        }
+        count
     }
 
     fn has_gone_back(&self, second: u64) -> bool
@@ -188,6 +224,9 @@ impl Snapshot {
         }
         if answering < self.sources.len() {
             return Standing::SomeAnswer;
+        }
+        if 0 < self.unwatched() {
+            return Standing::Unwatched;
         }
         Standing::AllAnswer
     }

@@ -1,11 +1,20 @@
 //! A source as a watch saw it.
 
 ghost use Rattle.std.specs.Prelude.{◌≡◌};
-ghost use Rattle.watch_snapshot.specs.Standings.{answers, has_bad_votes, is_back, is_whole};
+ghost use Rattle.watch_snapshot.specs.Sources.{answers, has_bad_votes, is_back, is_heard, is_whole, since_of, source_state_of};
 
 use crate::times::{is_late, lasts_back};
 use blocks::Id;
 use log_format::Status;
+
+/// What the frames of a source's logs digest to: see docs/FORMATS.md.
+#[derive(Clone, Copy, Debug, PartialEq, Eq)]
+pub struct SourceDigests {
+    /// Those of its first log.
+    pub first: Id,
+    /// Those of all its logs, in their order.
+    pub all: Id,
+}
 
 /// A source as a watch saw it. Times are seconds since 1970, 0 where there was none.
 #[derive(Drop)]
@@ -28,8 +37,8 @@ pub struct SourceSeen {
     pub bad_votes: u64,
     /// The greatest view of its votes that came in parts of which no vote is bad.
     pub top_view: u64,
-    /// What its first log's frames digest to: see docs/FORMATS.md.
-    pub digest: Id,
+    /// What its frames digest to.
+    pub digests: SourceDigests,
     /// When it last gave a byte.
     pub last_answer: u64,
     /// When a frame last came of it.
@@ -42,6 +51,31 @@ pub struct SourceSeen {
     pub is_beyond: bool,
     /// No more of it is read.
     pub is_aside: bool,
+    /// Since when its log ends as it does.
+    pub status_since: u64,
+    /// Since when votes of it are not good.
+    pub bad_since: u64,
+    /// Since when no more of it is read.
+    pub aside_since: u64,
+}
+
+/// How a source does: the first that is so.
+#[derive(Clone, Copy, Debug, PartialEq, Eq)]
+pub enum SourceState {
+    /// No more of it is read.
+    Aside,
+    /// It went back, and did not give all again that it had.
+    Back,
+    /// Votes of it are not good.
+    Bad,
+    /// Its log came whole, and it answers.
+    Answers,
+    /// Its log came whole once, and it answers no more.
+    Silent,
+    /// Nothing was told of its log yet.
+    Unread,
+    /// Its log did not come whole.
+    NotWhole,
 }
 
 impl SourceSeen {
@@ -55,9 +89,23 @@ impl SourceSeen {
         }
     }
 
-    /// Whether it answers: what came last of it was whole, and of a server it is not too old at this second.
+    /// Whether it answers: it is read, no vote of it is bad, what came last of it was whole, and of a server it is not too old at
+    /// this second.
     pub fn answers(&self, every: u32, second: u64) -> bool
         ensures { result ≡ answers every second self.now }
+    {
+        if self.is_aside {
+            return false;
+        }
+        if self.has_bad_votes() {
+            return false;
+        }
+        self.is_heard(every, second)
+    }
+
+    // .. whatever its votes are.
+    fn is_heard(&self, every: u32, second: u64) -> bool
+        ensures { result ≡ is_heard every second self.now }
     {
         if !self.is_whole() {
             return false;
@@ -82,5 +130,46 @@ impl SourceSeen {
         ensures { result ≡ has_bad_votes self.now }
     {
         0 < self.bad_votes
+    }
+
+    /// How it does at this second, where it is asked each so many milliseconds.
+    #[tactic(auto, unfolding(crate::specs::Sources::source_state_of))]
+    pub fn state(&self, every: u32, second: u64) -> SourceState
+        ensures { result ≡ source_state_of every second self.now }
+    {
+        if self.is_aside {
+            return SourceState::Aside;
+        }
+        if self.is_back(second) {
+            return SourceState::Back;
+        }
+        if self.has_bad_votes() {
+            return SourceState::Bad;
+        }
+        if self.answers(every, second) {
+            return SourceState::Answers;
+        }
+        if self.is_whole() {
+            return SourceState::Silent;
+        }
+        match self.status {
+            None => SourceState::Unread,
+            Some(_) => SourceState::NotWhole,
+        }
+    }
+
+    /// Since when it does so; 0 where that was so from the start.
+    #[tactic(auto, unfolding(crate::specs::Sources::since_of))]
+    pub fn since(&self, state: SourceState) -> u64
+        ensures { result ≡ since_of state self.now }
+    {
+        match state {
+            SourceState::Aside => self.aside_since,
+            SourceState::Back => self.went_back_at,
+            SourceState::Bad => self.bad_since,
+            SourceState::Answers | SourceState::Silent => self.last_answer,
+            SourceState::Unread => 0,
+            SourceState::NotWhole => self.status_since,
+        }
     }
 }

@@ -11,5 +11,5 @@ loop-index-preserved c =
     let i = c.loop-index.index in
     let before = string_bytes c.loop-index.text in
     let after = string_bytes c.put_block.new.text in
-    adds_more (IsBlock scene.replicas scene.total) c.args.blocks.now i c.index-blocks-index.result (string_bytes c.args.text.now) before after (omega arith) c.loop-index.invariant
-    (subst (λ (b : Block). Adds before after (IsBlock scene.replicas scene.total i b)) c.index-blocks-index.is c.in_ok-put_block.ensures)
+    adds_more (IsBlock scene.replicas scene.total scene.handover) c.args.blocks.now i c.index-blocks-index.result (string_bytes c.args.text.now) before after (omega arith) c.loop-index.invariant
+    (subst (λ (b : Block). Adds before after (IsBlock scene.replicas scene.total scene.handover i b)) c.index-blocks-index.is c.in_ok-put_block.ensures)

@@ -1,4 +1,0 @@
-mod Digesting
-mod Framing
-mod Naming
-mod Opening

@@ -1,4 +1,0 @@
-pub mod Digests
-pub mod Names
-pub mod Texts
-pub mod Logs

@@ -1,0 +1,82 @@
+//! Since when what is shown holds.
+
+use log_format::Status;
+use std::alloc::{AllocError, Global};
+use watch_desk::{Desk, SourceKnown};
+
+/// .. of a source. Times are seconds since 1970, 0 for what does not hold.
+#[derive(Clone, Copy, Debug)]
+pub(crate) struct SourceSince {
+    // How its log ends.
+    ends: Option<Status>,
+    /// Since when it ends so.
+    pub status: u64,
+    /// Since when votes of it are not good.
+    pub bad: u64,
+    /// Since when it is set aside.
+    pub aside: u64,
+}
+
+/// .. of all that a watch shows.
+#[derive(Drop)]
+pub(crate) struct Since {
+    pub sources: Vec<SourceSince>,
+    /// Since when something is not stored.
+    pub unstored: u64,
+    /// Since when it is known that commits conflict.
+    pub conflict: u64,
+}
+
+// Of a source of which nothing came.
+const NOTHING: SourceSince = SourceSince {
+    ends: None,
+    status: 0,
+    bad: 0,
+    aside: 0,
+};
+
+impl Since {
+    /// Nothing holds yet of so many sources.
+    pub fn new(alloc: Global, sources: usize) -> Result<Since, AllocError> {
+        let mut all = Vec::new(alloc);
+        for _ in 0..sources {
+            all.push(NOTHING)?;
+        }
+        Ok(Since {
+            sources: all,
+            unstored: 0,
+            conflict: 0,
+        })
+    }
+
+    /// Notes what holds at this second.
+    pub fn note(&mut self, desk: &Desk, is_unstored: bool, second: u64) {
+        for (since, known) in self.sources.iter_mut().zip(desk.known()) {
+            since.note(known, second);
+        }
+        self.unstored = held(self.unstored, is_unstored, second);
+        self.conflict = held(self.conflict, desk.told().conflict().is_some(), second);
+    }
+}
+
+impl SourceSince {
+    fn note(&mut self, known: &SourceKnown, second: u64) {
+        if self.ends != known.status {
+            self.ends = known.status;
+            self.status = second;
+        }
+        self.bad = held(self.bad, !known.bad.is_empty(), second);
+        self.aside = held(self.aside, known.is_aside(), second);
+    }
+}
+
+// Since when something holds, if it does, that held since then.
+fn held(since: u64, holds: bool, second: u64) -> u64 {
+    if !holds {
+        return 0;
+    }
+    if since == 0 {
+        return second;
+    }
+    since
+}

@@ -1,9 +1,0 @@
-use Rattle.watch_page.specs.Pages.{sources_text}
-use Rattle.watch_page.proofs.Pieces.{by_three}
-use Rattle.watch_page.proofs.page.put_all_sources.Goals as goal
-
-pub returns : goal.returns
-unfolding sources_text
-returns c =
-    by_three _ _ _ _ _ _ _
-    c.in_ok-append.ensures.ok c.in_ok-put_sources.ensures c.in_ok-append-2.ensures.ok

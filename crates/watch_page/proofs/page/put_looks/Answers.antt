@@ -1,9 +1,0 @@
-use Rattle.watch_page.specs.Pages.{looks_text}
-use Rattle.watch_page.proofs.Pieces.{by_seven}
-use Rattle.watch_page.proofs.page.put_looks.Goals as goal
-
-pub returns : goal.returns
-unfolding looks_text
-returns c =
-    by_seven _ _ _ _ _ _ _ _ _ _ _ _ _ _ _
-    c.in_ok-append.ensures.ok c.in_ok-put_icon.ensures c.in_ok-append-2.ensures.ok c.in_ok-put_style.ensures c.in_ok-append-3.ensures.ok c.in_ok-put_class.ensures c.in_ok-append-4.ensures.ok

@@ -1,9 +1,0 @@
-use Rattle.watch_page.specs.Rows.{fork_text}
-use Rattle.watch_page.proofs.Pieces.{by_five}
-use Rattle.watch_page.proofs.rows.put_fork.Goals as goal
-
-pub returns : goal.returns
-unfolding fork_text
-returns c =
-    by_five _ _ _ _ _ _ _ _ _ _ _
-    c.in_ok-append.ensures.ok c.in_ok-put_id.ensures.ok c.in_ok-append-2.ensures.ok c.in_ok-put_id-2.ensures.ok c.in_ok-append-3.ensures.ok

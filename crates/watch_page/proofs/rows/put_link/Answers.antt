@@ -1,9 +1,0 @@
-use Rattle.watch_page.specs.Rows.{link_text}
-use Rattle.watch_page.proofs.Pieces.{by_five}
-use Rattle.watch_page.proofs.rows.put_link.Goals as goal
-
-pub returns : goal.returns
-unfolding link_text
-returns c =
-    by_five _ _ _ _ _ _ _ _ _ _ _
-    c.in_ok-append.ensures.ok c.in_ok-put_number.ensures.ok c.in_ok-append-2.ensures.ok c.in_ok-put_number-2.ensures.ok c.in_ok-append-3.ensures.ok

@@ -1,9 +1,0 @@
-use Rattle.watch_report.specs.Metrics.{rounds_text}
-use Rattle.watch_report.proofs.Pieces.{by_seven}
-use Rattle.watch_report.proofs.metrics.put_rounds.Goals as goal
-
-pub returns : goal.returns
-unfolding rounds_text
-returns c =
-    by_seven _ _ _ _ _ _ _ _ _ _ _ _ _ _ _
-    c.in_ok-append.ensures.ok c.in_ok-put_number.ensures.ok c.in_ok-append-2.ensures.ok c.in_ok-put_seconds.ensures c.in_ok-append-3.ensures.ok c.in_ok-put_number-2.ensures.ok c.in_ok-append-4.ensures.ok

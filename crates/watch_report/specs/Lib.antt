@@ -1,2 +1,0 @@
-pub mod Metrics
-pub mod Reports

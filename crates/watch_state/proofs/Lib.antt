@@ -1,0 +1,5 @@
+mod Digesting
+mod Framing
+mod Naming
+mod Opening
+mod Shortest

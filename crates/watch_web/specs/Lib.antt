@@ -1,0 +1,10 @@
+pub mod Ages
+pub mod Words
+pub mod Rows
+pub mod Holding
+pub mod Pages
+pub mod Metrics
+pub mod Reports
+pub mod Places
+pub mod Replies
+pub mod Answers
