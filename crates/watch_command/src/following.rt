@@ -80,7 +80,9 @@ fn read_on<'c, T: Files<File = File> + Wait + Clock + Net<Stream = TcpStream>>(
         note_answer(shop, reader.source);
     }
     if !reader.goes_on(&frames) {
-        reader.part_ways(shop, status)?;
+        // Of an answer that is longer than what is read of one the frame that counts came whole.
+        let is_read = status == Status::Whole || answer.end == End::Stopped && frames.len() > 0;
+        reader.part_ways(shop, status, is_read)?;
         return Ok(false);
     }
     let before = reader.logs.read();

@@ -256,13 +256,15 @@ impl Reader {
         self.logs.goes_on(first_digest(frames))
     }
 
-    /// The answer has another frame where the last one stood, or none. Then its log is read from the beginning, after a pause.
+    /// The answer has another frame where the last one stood, or none. Then its log is read from the beginning, after a pause, if the
+    /// answer was read as far as that; else only its status counts.
     pub fn part_ways<T: Files<File = File> + Wait + Clock>(
         &mut self,
         shop: &Shop<'_, '_, '_, T>,
         status: Status,
+        is_read: bool,
     ) -> Result<(), EvidenceRefusal> {
-        if status != Status::Whole {
+        if !is_read {
             let draft = self.draft(shop)?;
             return self.finish(shop, draft, status);
         }
