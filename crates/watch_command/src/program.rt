@@ -91,12 +91,11 @@ where
     exit_status(run(host, words, out), faults)
 }
 
-fn run<
-    'a,
-    'h,
-    T: Runtime,
-    W: Sink + Send,
->(host: &'h Host<'h, T>, words: &'a [String], out: &mut W) -> Result<u8, Fault<'a>>
+fn run<'a, 'h, T: Runtime, W: Sink + Send>(
+    host: &'h Host<'h, T>,
+    words: &'a [String],
+    out: &mut W,
+) -> Result<u8, Fault<'a>>
 where
     T::Dir: Send,
     ensures { IfOk result (λ status. (status ≡ 0) ⊎ (status ≡ 3)) }
@@ -198,12 +197,7 @@ fn place_of<'a>(word: &SourceWord<'a>) -> Place<'a> {
 }
 
 // Watches the sources, with a thread for each, one that collects, and one that prints.
-fn watch<
-    'x,
-    'w,
-    T: Runtime,
-    W: Sink + Send,
->(
+fn watch<'x, 'w, T: Runtime, W: Sink + Send>(
     host: &'x Host<'x, T>,
     words: &'x Words<'w>,
     committee: &'x CommitteeView<'x>,
@@ -232,7 +226,11 @@ where
 }
 
 // The threads at work, and beside them what prints lines, until no more come. Answers whether there are culprits.
-fn work_and_print<T: Runtime, W: Sink>(shop: &Shop<'_, '_, '_, T>, jobs: Vec<Job>, out: &mut W) -> Result<bool, Fault<'static>>
+fn work_and_print<T: Runtime, W: Sink>(
+    shop: &Shop<'_, '_, '_, T>,
+    jobs: Vec<Job>,
+    out: &mut W,
+) -> Result<bool, Fault<'static>>
 where
     T::Dir: Send,
 {

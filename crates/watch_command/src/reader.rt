@@ -12,7 +12,10 @@ use std::sync::atomic::Ordering;
 use std::time::{Clock, Instant};
 use watch_desk::{Extent, NewPart};
 use watch_snapshot::{SourceDigests, lasts_back};
-use watch_state::{KeptLogs, LogDigest, NO_FRAMES, PartFile, PartName, PartText, SourceParts, StateFolder, digest_then, log_digest};
+use watch_state::{
+    KeptLogs, LogDigest, NO_FRAMES, PartFile, PartName, PartText, SourceParts, StateFolder,
+    digest_then, log_digest,
+};
 use watch_web::seconds_now;
 use wire::MOST_ENTRIES;
 

@@ -166,7 +166,8 @@ impl<'c> Rounds<'c> {
         }
         self.note_round(shop, begun);
         let is_unstored = self.is_unstored();
-        self.since.note(&self.desk, is_unstored, seconds_now(shop.rt));
+        self.since
+            .note(&self.desk, is_unstored, seconds_now(shop.rt));
         publish(shop, self)?;
         Ok(())
     }

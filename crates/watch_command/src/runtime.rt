@@ -9,8 +9,7 @@ use std::time::Clock;
 
 /// Files, memory, threads, locks, a clock, sockets and random numbers. `run_watch` names them one by one: a program that hands in
 /// the system's own has no proof where this trait stands in their place.
-pub(crate) trait Runtime:
-    Files<File = File>
+pub(crate) trait Runtime: Files<File = File>
     + AllocGlobal
     + Clone
     + Drop
@@ -19,9 +18,7 @@ pub(crate) trait Runtime:
     + Clock
     + Net<Listener = TcpListener, Stream = TcpStream>
     + RandomSource
-    + Sync
-{
-}
+    + Sync {}
 
 impl<
     T: Files<File = File>
@@ -34,6 +31,4 @@ impl<
         + Net<Listener = TcpListener, Stream = TcpStream>
         + RandomSource
         + Sync,
-> Runtime for T
-{
-}
+> Runtime for T {}

@@ -188,10 +188,7 @@ fn sources_seen(
 }
 
 // The path of a verdict, whether it is not stored there, and since when it is known.
-fn path_of(
-    alloc: Global,
-    place: Option<&VerdictPlace>,
-) -> Result<(String, bool, u64), AllocError> {
+fn path_of(alloc: Global, place: Option<&VerdictPlace>) -> Result<(String, bool, u64), AllocError> {
     match place {
         Some(place) => {
             let path = String::from_str(alloc, &place.path)?;

@@ -95,12 +95,7 @@ pub fn put_kept(
 
 // Adds which log it is, where that is told: the replica, which of the replica's sources, and which log of that.
 #[tactic(auto, unfolding(crate::specs::WatchLines::log_text))]
-fn put_log(
-    text: &mut Vec<u8>,
-    replica: u16,
-    nth: u16,
-    log: Option<usize>,
-) -> Result<(), AllocError>
+fn put_log(text: &mut Vec<u8>, replica: u16, nth: u16, log: Option<usize>) -> Result<(), AllocError>
     ensures { OnOk result (text.new.items ≡ text.old.items ++ log_text replica nth log) }
 {
     let Some(log) = log else {

@@ -190,11 +190,7 @@ fn put_part(text: &mut Vec<u8>, count: u16, all: u16) -> Result<(), AllocError>
     put_number(text, all)
 }
 
-fn put_unwatched_line(
-    text: &mut Vec<u8>,
-    count: u16,
-    seen: &Snapshot,
-) -> Result<(), AllocError>
+fn put_unwatched_line(text: &mut Vec<u8>, count: u16, seen: &Snapshot) -> Result<(), AllocError>
     ensures { OnOk result (text.new.items ≡ text.old.items ++ unwatched_line count seen.now) }
 {
     append(text, b"<li>")?;

@@ -72,7 +72,11 @@ pub(crate) fn put_state(
             append(text, b" sources answer")
         }
         Standing::Unwatched => {
-            put_share(text, u64::from(shares.unwatched), u64::from(shares.replicas))?;
+            put_share(
+                text,
+                u64::from(shares.unwatched),
+                u64::from(shares.replicas),
+            )?;
             append(text, b" replicas are not watched")
         }
         Standing::AllAnswer => append(text, b"All sources answer"),
