@@ -46,7 +46,8 @@ hs_signer | asking source I Broken | What source I of --ask, counted from 0, gav
 hs_signer | asking source I TooLong | Source I of --ask, counted from 0, gave more entries than a log has. It is read again. | Ask who serves it.\n\
 hs_signer | asking source I Failed | Source I of --ask, counted from 0, could not be reached, or not read to its end. It is read again. | See that its path or address is right, and that its server runs and can be reached.\n\
 hs_signer | asking source I Unresolved | The host that source I of --ask, counted from 0, names can't be found. It is looked up again. | Look for a slip in the word, and at the name service; or write the number of the host.\n\
-hs_signer | asking source I OtherChain | What source I of --ask, counted from 0, gave is a log under another committee's file: its replica is not heard. | See that its path or address is that of a replica of this committee.\n\
+hs_signer | asking source I OtherChain | What source I of --ask, counted from 0, gave is a log under another committee's file, or its server has no log of this committee's chain: its replica is not heard. | See that its path or address is that of a replica of this committee.\n\
+hs_signer | asking source I Unnamed | The server of source I of --ask, counted from 0, closed without a byte when it was asked for the log of this chain, as versions before this one do, and was asked again without the chain's name. | Have whoever runs that server take this version.\n\
 hs_signer | asking source I OwnLog | Source I of --ask, counted from 0, has a vote of this replica, and in its view the replica's own log can't be read, or has a vote on that block that is not good. It is read again. | Ask GET /vote/V for the views of that source, and see to the disk of the replica's folder.\n\
 hs_signer | asking source I Memory | Memory was refused while source I of --ask, counted from 0, was read. It is read again. | Free memory.\n\
 hs_signer | successor not read | A block that hands over came, and the file of --successor can't be opened or read, or memory was refused. It is as if it were not there, and the block got no vote. | See to the file's mode: it is read anew at the next such block.\n\
@@ -153,7 +154,7 @@ hs_tool replica | serve fault 1 | Memory was refused, and nothing was sent. | Fr
 hs_tool replica | serve fault 2 | The disk failed while the log was sent. | Look at the disk.\n\
 hs_tool replica | serve fault 3 | The client went away, took nothing for 30 seconds, or was too slow. | Let the auditor ask again.\n\
 hs_tool replica | serve fault 4 | No connection could be had, or no request came in time. | Let the auditor ask again; look at the limit of open files.\n\
-hs_tool replica | serve fault 5 | What came is no request. | See who connects there.\n\
+hs_tool replica | serve fault 5 | What came is no request, or names another chain. | See who connects there.\n\
 hs_tool replica | serve fault 6 | A disk failed before, and nothing was sent. | See to the disk.\n\
 hs_signer | refused call 1 NoSuchCall | There is no call of this path. | See the table of calls in hs_signer(1).\n\
 hs_signer | refused call 2 Method | The path has other methods, which allow names. | Use one of these.\n\
@@ -180,6 +181,8 @@ hs_tool export | exported N | The export has N entries. | Give OUT to who audits
 hs_watch --export | exported LOG frames F | LOG is R-I-K: log K that was kept of source I of replica R is at OUT/R-I-K.hsl, and has F frames. | Audit it, or give it to who audits.\n\
 hs_tool audit | frames COUNT.. | At a terminal: how many frames of each source have come so far. | Wait.\n\
 hs_tool audit | checks N | At a terminal: how many signatures were checked so far. | Wait.\n\
+hs_follow | source I has no log of this chain | The server of source I, counted from 0, has the log of another committee's chain: nothing of it was read. | See that the address is that of a replica of this committee, and that the committee's file is the right one.\n\
+hs_follow | source I was asked without naming the chain | The server of source I, counted from 0, closed without a byte when it was asked for the log of this chain, as versions before this one do, and was asked again without the chain's name: what came was judged as ever. | Have whoever runs that server take this version.\n\
 hs_tool audit, hs_follow | source I replica R Whole frames F entries E | The log of source I came whole: F frames, of which E are log entries. | Nothing.\n\
 hs_tool audit, hs_follow | source I replica R Cut frames F entries E | The log of source I ended early: what came was judged. | Get it again before you conclude anything.\n\
 hs_tool audit, hs_follow | source I replica R Broken frames F entries E | What source I gave is no export, or does not end as one: what came before was judged. | Get it again.\n\
@@ -206,7 +209,7 @@ hs_watch | TIME round N source I replica R STATUS frames F entries E | The log o
 hs_watch | TIME round N source I replica R STATUS frames F entries E log LOG | A log of source I, which has more than one, ends otherwise than it did. | With Failed, Cut or Broken see that its server runs.\n\
 hs_watch | TIME round N went-back I replica R | The log of source I went back: its replica may have been put back to a backup. | Ask its operator. It accuses nobody.\n\
 hs_watch | TIME round N beyond I replica R | Source I gave a fifth log that fits none of the four before. | Ask its operator.\n\
-hs_watch | TIME round N lost N | So many lines were dropped: source and went-back since 1,000 lines waited to be read, others only since memory was refused. | See that what reads the lines keeps up; the page of --listen tells how each source stands.\n\
+hs_watch | TIME round N lost N | So many lines were dropped: source, went-back, no-log and unnamed since 1,000 lines waited to be read, others only since memory was refused. | See that what reads the lines keeps up; the page of --listen tells how each source stands.\n\
 hs_watch | listening ADDRESS | What the watch knows is told over HTTP at this address of its machine. | Open it in a browser there; from another machine take ssh -L, or a proxy with TLS and a password.\n\
 hs_watch /health | ok | The watch goes its rounds, and all verdicts and parts of logs are stored. | Nothing.\n\
 hs_watch /health | late | Its last round is older than 30 seconds and twice --every. | See whether the process runs, and start it again.\n\
@@ -214,6 +217,8 @@ hs_watch /health | unstored | A verdict is not stored, and is tried again each r
 hs_watch over HTTP | refused method | It answers GET and HEAD alone. | Use one of these.\n\
 hs_watch over HTTP | refused host | Host is a name that is not allowed, or, in HTTP/1.0, is missing. | Ask by localhost or an address, or allow the name by --host.\n\
 hs_watch over HTTP | no such page | Nothing is told at this path; /fork.svg is there once something was audited, and /verdict-R.hsx once R is a culprit. | See the table of paths in hs_watch(1).\n\
+hs_watch | TIME round N no-log I replica R | The server of source I says that it has no log of the committee's chain: what it gives is Broken. | See that the address is that of a replica of this committee, and that the committee's file is the right one.\n\
+hs_watch | TIME round N unnamed I replica R | The server of source I closed without a byte when it was asked for the log of that chain, as versions before this one do, and is asked without the chain's name. | Have whoever runs that server take this version.\n\
 hs_watch | TIME round N set-aside I replica R | 64 votes of source I were not good; no more of it is read. | It is of another committee or replica, or its server lies.\n\
 hs_watch | TIME round N unstored PATH.. | A verdict, or with --state a part of a log, can't be stored there, or something else stands there; of a part at the start: it is damaged, or does not go on where its log ends, and is not read. | Look at OUTDIR, the folder of --state, and the disk. A verdict is tried again each round; of a part's source nothing more is stored until the next start. Of a damaged part see hs_show --explain fault file DIR/R-I-K-N.\n\
 hs_show | file PATH.. | What follows is said of this file. | Nothing.\n\

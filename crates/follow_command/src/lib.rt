@@ -4,6 +4,7 @@
 
 mod fault;
 mod following;
+mod host;
 mod lines;
 mod place;
 mod program;

@@ -1,9 +1,10 @@
 //! The program over handed-in words and streams, so that tests run it whole.
 
-ghost use Rattle.std.specs.Prelude.{◌≡◌, ◌≢◌, ◌⊎◌, ◌++◌, ℕ, List, IfErr, IfOk, OnErr, OnOk, codes};
+ghost use Rattle.std.specs.Prelude.{◌≡◌, ◌≢◌, ◌⊎◌, ◌++◌, ℕ, List, IfErr, IfOk, OnErr, OnOk, codes, length};
 ghost use Rattle.streams.specs.Streams.{Wrote, WrotePart};
 ghost use Rattle.printed_lines.specs.Printed.{Told};
 ghost use Rattle.blocks.specs.Committees.{IsCommittee};
+ghost use Rattle.chain_dialing.specs.HeardLines.{TellsHeard};
 ghost use Rattle.program_parts.specs.Writes.{CountsWrites};
 ghost use Rattle.program_parts.specs.declared.program_fault.ProgramFault.{ProgramFault as FaultValue};
 ghost use Rattle.follow_command.specs.FaultLines.{follow_fault_line};
@@ -15,15 +16,17 @@ ghost use Rattle.follow_command.specs.declared.fault.FollowFault.{FollowFault as
 
 use crate::fault::{Fault, FollowFault};
 use crate::following::{Following, follow};
+use crate::host::Host;
 use crate::lines::following_text;
 use crate::proving::{see_new, write_proof};
 use crate::reading::read_evidence;
 use crate::words::{Step, Words, read_words};
 use blocks::CommitteeView;
+use chain_dialing::ChainSource;
 use culprit_search::{Report, ReportError, audit, write_report};
 use evidence::Evidence;
 use handover::first_old_key;
-use log_transfer::{Connector, SourceConnector};
+use log_transfer::Connector;
 use program_parts::{ProgramFault, exit_status, parse_committee, read_committee, write_out};
 use std::alloc::Global;
 use std::fs::{File, Files};
@@ -48,19 +51,29 @@ const USAGE: &[u8] = b"hs_follow OLD NEW SOURCE.. [--proof OUT]\n";
 /// Audits the logs of the old committee, and says whether it handed the ledger over to the new one, as the words ask, or with
 /// no words prints how the program is called. Where a proof is asked for and a handover is proved, its files are written.
 /// Answers the exit status: `FOLLOWS`, `FOLLOWS_NOT`, `CONFLICT`, else 2. The lines go to `out`, and with status 2 a fault's
-/// line to `faults`, which is else left alone. Nothing is printed before all else is done.
+/// line to `faults`, which is else left alone. Nothing is printed before all else is done; but `notes` is told before what was heard
+/// of the servers.
 pub fn run_follow<
     'a,
     F: Files<File = File> + Sync,
     T: Threads + Wait + Clock + Net<Listener = TcpListener, Stream = TcpStream> + Sync,
     W: Sink,
     E: Sink,
->(files: &'a F, rt: &'a T, alloc: Global, words: &'a [String], out: &mut W, faults: &mut E) -> u8
+    N: Sink,
+>(
+    files: &'a F,
+    rt: &'a T,
+    alloc: Global,
+    words: &'a [String],
+    out: &mut W,
+    faults: &mut E,
+    notes: &mut N,
+) -> u8
 where
     F::Dir: Send,
     ensures status { (result ≡ 0) ⊎ (result ≡ 1) ⊎ (result ≡ 2) ⊎ (result ≡ 3) }
     ensures printed { result ≢ 2 → (text : List ℕ)
-        × IsOutput ⟦<SourceConnector<'a, T, F> as Connector>⟧ words.now result text
+        × IsOutput ⟦<ChainSource<'a, T, F> as Connector>⟧ words.now result text
         × Wrote (W.text out.old) (W.text out.new) text }
     ensures silent { result ≢ 2 → faults.new ≡ faults.old }
     ensures no_failure { result ≢ 2 → W.failed out.new ≡ W.failed out.old }
@@ -68,12 +81,15 @@ where
         × Told (E.text faults.old) (E.text faults.new) (E.failed faults.old) (E.failed faults.new)
         (codes "fault usage\n") }
     ensures told { result ≡ 2 → (fault : FaultValue OwnFaultValue)
-        × GivesUp ⟦<SourceConnector<'a, T, F> as Connector>⟧ words.now fault
+        × GivesUp ⟦<ChainSource<'a, T, F> as Connector>⟧ words.now fault
         W.text W.failed out.old out.new
         × Told (E.text faults.old) (E.text faults.new) (E.failed faults.old) (E.failed faults.new)
         (follow_fault_line fault) }
+    ensures noted { (notes.new ≡ notes.old)
+        ⊎ ((count : ℕ) × TellsHeard count (N.text notes.old) (N.text notes.new)) }
 {
-    exit_status(run(files, rt, alloc, words, out), faults)
+    let host = Host { files, rt, alloc };
+    exit_status(run(&host, words, out, notes), faults)
 }
 
 fn run<
@@ -81,23 +97,26 @@ fn run<
     F: Files<File = File> + Sync,
     T: Threads + Wait + Clock + Net<Listener = TcpListener, Stream = TcpStream> + Sync,
     W: Sink,
->(files: &'a F, rt: &'a T, alloc: Global, words: &'a [String], out: &mut W) -> Result<u8, Fault<'a>>
+    N: Sink,
+>(host: &Host<'a, F, T>, words: &'a [String], out: &mut W, notes: &mut N) -> Result<u8, Fault<'a>>
 where
     F::Dir: Send,
     ensures printed { IfOk result (λ status. (status ≢ 2) × ((text : List ℕ)
-        × IsOutput ⟦<SourceConnector<'a, T, F> as Connector>⟧ words.now status text
+        × IsOutput ⟦<ChainSource<'a, T, F> as Connector>⟧ words.now status text
         × Wrote (W.text out.old) (W.text out.new) text)) }
     ensures no_failure { IfOk result (λ status. W.failed out.new ≡ W.failed out.old) }
     ensures given_up { IfErr result (λ fault.
-        GivesUp ⟦<SourceConnector<'a, T, F> as Connector>⟧ words.now fault
+        GivesUp ⟦<ChainSource<'a, T, F> as Connector>⟧ words.now fault
         W.text W.failed out.old out.new) }
+    ensures noted { (notes.new ≡ notes.old)
+        ⊎ ((count : ℕ) × TellsHeard count (N.text notes.old) (N.text notes.new)) }
 {
-    match read_words(alloc, words)? {
+    match read_words(host.alloc, words)? {
         Words::Usage => {
             write_out(out, USAGE)?;
             Ok(FOLLOWS)
         }
-        Words::Step(step) => take_step(files, rt, alloc, &step, out),
+        Words::Step(step) => take_step(host, &step, out, notes),
     }
 }
 
@@ -107,25 +126,28 @@ fn take_step<
     F: Files<File = File> + Sync,
     T: Threads + Wait + Clock + Net<Listener = TcpListener, Stream = TcpStream> + Sync,
     W: Sink,
->(files: &'a F, rt: &'a T, alloc: Global, step: &Step<'a>, out: &mut W) -> Result<u8, Fault<'a>>
+    N: Sink,
+>(host: &Host<'a, F, T>, step: &Step<'a>, out: &mut W, notes: &mut N) -> Result<u8, Fault<'a>>
 where
     F::Dir: Send,
     ensures printed { IfOk result (λ status. (text : List ℕ)
-        × ComesTo ⟦<SourceConnector<'a, T, F> as Connector>⟧ step.now.sources.items status text
+        × ComesTo ⟦<ChainSource<'a, T, F> as Connector>⟧ step.now.sources.items status text
         × Wrote (W.text out.old) (W.text out.new) text) }
     ensures no_failure { IfOk result (λ status. W.failed out.new ≡ W.failed out.old) }
     ensures given_up { IfErr result (λ fault.
-        GivesUpStep ⟦<SourceConnector<'a, T, F> as Connector>⟧ step.now.old.now step.now.new.now
+        GivesUpStep ⟦<ChainSource<'a, T, F> as Connector>⟧ step.now.old.now step.now.new.now
         (path_in step.now.proof) step.now.sources.items fault
         W.text W.failed out.old out.new) }
+    ensures noted { (notes.new ≡ notes.old) ⊎ TellsHeard (length step.now.sources.items)
+        (N.text notes.old) (N.text notes.new) }
 {
-    let old_bytes = read_committee(files, alloc, step.old)?;
-    let new_bytes = read_committee(files, alloc, step.new)?;
+    let old_bytes = read_committee(host.files, host.alloc, step.old)?;
+    let new_bytes = read_committee(host.files, host.alloc, step.new)?;
     let old = parse_committee(&old_bytes)?;
     let new = parse_committee(&new_bytes)?;
     see_keys(&old, &new)?;
-    see_new(files, step.proof)?;
-    follow_sources(files, rt, alloc, &old, &new, step, out)
+    see_new(host.files, step.proof)?;
+    follow_sources(host, &old, &new, step, out, notes)
 }
 
 // Whether the new committee has no key of the old one. Such a key would sign twice under one one-time key, from a new folder.
@@ -152,29 +174,32 @@ fn follow_sources<
     F: Files<File = File> + Sync,
     T: Threads + Wait + Clock + Net<Listener = TcpListener, Stream = TcpStream> + Sync,
     W: Sink,
+    N: Sink,
 >(
-    files: &'a F,
-    rt: &'a T,
-    alloc: Global,
+    host: &Host<'a, F, T>,
     old: &CommitteeView,
     new: &CommitteeView,
     step: &Step<'a>,
     out: &mut W,
+    notes: &mut N,
 ) -> Result<u8, Fault<'a>>
 where
     F::Dir: Send,
     requires { AreApart old.now new.now }
     ensures printed { IfOk result (λ status. (text : List ℕ)
-        × ComesTo ⟦<SourceConnector<'a, T, F> as Connector>⟧ step.now.sources.items status text
+        × ComesTo ⟦<ChainSource<'a, T, F> as Connector>⟧ step.now.sources.items status text
         × Wrote (W.text out.old) (W.text out.new) text) }
     ensures no_failure { IfOk result (λ status. W.failed out.new ≡ W.failed out.old) }
     ensures given_up { IfErr result (λ fault.
-        GivesUpOver (IsFollowFault ⟦<SourceConnector<'a, T, F> as Connector>⟧
+        GivesUpOver (IsFollowFault ⟦<ChainSource<'a, T, F> as Connector>⟧
         (path_in step.now.proof) step.now.sources.items)
-        (ComesTo ⟦<SourceConnector<'a, T, F> as Connector>⟧ step.now.sources.items)
+        (ComesTo ⟦<ChainSource<'a, T, F> as Connector>⟧ step.now.sources.items)
         fault W.text W.failed out.old out.new) }
+    ensures noted { (notes.new ≡ notes.old) ⊎ TellsHeard (length step.now.sources.items)
+        (N.text notes.old) (N.text notes.new) }
 {
-    let evidence = read_evidence(files, rt, alloc, old, &step.sources)?;
+    let (files, alloc) = (host.files, host.alloc);
+    let evidence = read_evidence(host, old, &step.sources, notes)?;
     let report = audit(alloc, &evidence)?;
     let following = follow(alloc, &evidence, &report, new.bytes())?;
     write_proof(files, alloc, &evidence, &following, step.proof)?;

@@ -1,48 +1,81 @@
 //! What the sources show.
 
-ghost use Rattle.std.specs.Prelude.{IfErr, IfOk};
+ghost use Rattle.std.specs.Prelude.{◌≡◌, ◌⊎◌, IfErr, IfOk, length};
 ghost use Rattle.blocks.specs.Committees.{IsCommittee};
+ghost use Rattle.chain_dialing.specs.HeardLines.{TellsHeard};
 ghost use Rattle.follow_command.specs.Faults.{IsSourcesFault};
 ghost use Rattle.follow_command.specs.Sources.{IsShown};
 
 use crate::fault::{Fault, FollowFault};
-use crate::sources::sources_of;
+use crate::host::Host;
+use crate::sources::{servers_of, sources_of};
 use blocks::CommitteeView;
+use chain_dialing::{ChainServer, ChainSource, tell_heard};
 use evidence::{Evidence, EvidenceRefusal};
-use log_transfer::{Connector, SourceConnector};
+use log_transfer::{Connector, TcpDialer};
 use parallel_verify::collect;
 use program_parts::{ProgramFault, SourceFault, SourceWord};
-use std::alloc::Global;
 use std::fs::{File, Files};
 use std::net::{Net, TcpListener, TcpStream};
 use std::sync::Wait;
 use std::thread::Threads;
 use std::time::Clock;
+use streams::Sink;
 
 /// What the logs of these sources show together under the committee. A source that can't be read is no fault: the report
-/// says so of it.
+/// says so of it. `notes` is told what was heard of the servers.
 pub(crate) fn read_evidence<
     'a,
     'c,
     F: Files<File = File> + Sync,
     T: Threads + Wait + Clock + Net<Listener = TcpListener, Stream = TcpStream> + Sync,
+    N: Sink,
 >(
-    files: &'a F,
-    rt: &'a T,
-    alloc: Global,
+    host: &Host<'a, F, T>,
     committee: &CommitteeView<'c>,
     words: &[SourceWord<'a>],
+    notes: &mut N,
 ) -> Result<Evidence<'c>, Fault<'a>>
 where
     F::Dir: Send,
     requires { IsCommittee committee.now }
-    ensures shown { IfOk result (IsShown ⟦<SourceConnector<'a, T, F> as Connector>⟧
+    ensures shown { IfOk result (IsShown ⟦<ChainSource<'a, T, F> as Connector>⟧
         committee.now words.now) }
-    ensures refused { IfErr result (IsSourcesFault ⟦<SourceConnector<'a, T, F> as Connector>⟧
+    ensures refused { IfErr result (IsSourcesFault ⟦<ChainSource<'a, T, F> as Connector>⟧
+        committee.now words.now) }
+    ensures noted { (notes.new ≡ notes.old)
+        ⊎ TellsHeard (length words.now) (N.text notes.old) (N.text notes.new) }
+{
+    let servers = servers_of(host, committee.chain(), words)?;
+    let evidence = collect_from(host, committee, words, &servers);
+    tell_heard(host.alloc, &servers, notes);
+    evidence
+}
+
+// The same of sources with these servers.
+fn collect_from<
+    'a,
+    'c,
+    's,
+    F: Files<File = File> + Sync,
+    T: Threads + Wait + Clock + Net<Listener = TcpListener, Stream = TcpStream> + Sync,
+>(
+    host: &Host<'a, F, T>,
+    committee: &CommitteeView<'c>,
+    words: &[SourceWord<'a>],
+    servers: &'s [ChainServer<TcpDialer<'a, T>>],
+) -> Result<Evidence<'c>, Fault<'a>>
+where
+    F::Dir: Send,
+    requires committee { IsCommittee committee.now }
+    requires each { length servers.now ≡ length words.now }
+    ensures shown { IfOk result (IsShown ⟦<ChainSource<'a, T, F> as Connector>⟧
+        committee.now words.now) }
+    ensures refused { IfErr result (IsSourcesFault ⟦<ChainSource<'a, T, F> as Connector>⟧
         committee.now words.now) }
 {
-    let sources = sources_of(files, rt, alloc, words)?;
-    match collect(rt, alloc, committee, sources) {
+    let sources = sources_of(host, words, servers)?;
+    match collect(host.rt, host.alloc, committee, sources) {
         Ok(evidence) => {
             // For the proof: evidence is of good votes, and of no two headers with one id.
             let _headers = evidence.headers();

@@ -16,7 +16,10 @@ fn main(rt: HostRuntime) -> ExitCode {
         &|words: &[String], out: &mut StdSink<Stdout>, faults: &mut StdSink<Stderr>| {
             match asked_in(words) {
                 Some(asked) => run_help(rt.alloc(), &FOLLOW, asked, out, faults),
-                None => run_follow(&rt, &rt, rt.alloc(), words, out, faults),
+                None => {
+                    let mut notes = StdSink::new(rt.stderr());
+                    run_follow(&rt, &rt, rt.alloc(), words, out, faults, &mut notes)
+                }
             }
         },
     )

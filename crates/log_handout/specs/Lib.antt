@@ -1,1 +1,2 @@
 pub mod Handouts
+pub mod Replies

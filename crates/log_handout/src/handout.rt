@@ -153,7 +153,8 @@ fn capped(entries: usize) -> u32
     u32::try_from(entries).unwrap_or(u32::MAX)
 }
 
-fn copy_of(alloc: Global, bytes: &[u8]) -> Result<Vec<u8>, ExportError>
+/// A copy of bytes.
+pub(crate) fn copy_of(alloc: Global, bytes: &[u8]) -> Result<Vec<u8>, ExportError>
     ensures ok { IfOk result (λ copy. copy.items ≡ bytes.now) }
     ensures refused { IfErr result (λ e. e ≡ Memory) }
 {

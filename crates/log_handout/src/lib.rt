@@ -3,7 +3,9 @@
 #![tactic(auto)]
 
 mod handout;
+mod reply;
 mod stage;
 
 pub use handout::Handout;
+pub use reply::Reply;
 pub use stage::Stage;

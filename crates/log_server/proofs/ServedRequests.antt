@@ -12,28 +12,16 @@ use Rattle.streams.proofs.Writing.{wrote_nothing, wrote_both}
 use Rattle.log_server.specs.Serving.{IsRequestOf, IsServeRefusal}
 use Rattle.log_server.specs.declared.error.ServeError.{ServeError}
 use Rattle.log_server.specs.declared.error.ServeError.TheVariants.{Memory, Device, Sink, Source, BadRequest, Stopped}
-use Rattle.log_server.specs.Answers.{HasPart, IsAnswer, IsServed, MayAnswer}
+use Rattle.log_server.specs.declared.reply.Reply.{Reply}
+use Rattle.log_server.specs.declared.reply.Reply.TheVariants.{Frames, NoLog}
+use Rattle.log_server.specs.Answers.{IsAnswer, IsServed, MayAnswer}
 use Rattle.log_server.specs.ServedLines.{served_line, served_lines}
 
--- what `serve` ensures makes an answer
-pub is_answer : {D W : Type 0} → (log : LogState D) (rest disk : Option (List ℕ)) (text : W → Option (List ℕ)) (to to' : W) (served : Result ℕ ServeError)
-    → IfOk served (λ n. (r : FrameRequest) × IsRequestOf rest r × (n ≡ frame_count (length log.steps) r.first r.most)
-    × IfSome disk (λ _. Wrote (text to) (text to') (export_of log.entries r.first r.most)))
-    → OnOk served (log.stopped ≡ false) → IfErr served (IsServeRefusal log rest)
-    → IfErr served (λ e. (e ≡ Device) ⊎ (e ≡ Sink) → HasPart log rest disk (text to) (text to'))
-    → IfErr served (λ e. e ≢ Device → e ≢ Sink → to' ≡ to) → IsAnswer log rest disk (text to) (text to') served
-is_answer log rest disk text to to' (Ok frames) ok exact refused part unwritten = (exact, ok)
-is_answer log rest disk text to to' (Err Device) ok exact refused part unwritten = (refused, part (inl refl))
-is_answer log rest disk text to to' (Err Sink) ok exact refused part unwritten = (refused, part (inr refl))
-is_answer log rest disk text to to' (Err Memory) ok exact refused part unwritten = (refused, ap text (unwritten (λ e. let no : ⊥ = cc in no) (λ e. let no : ⊥ = cc in no)))
-is_answer log rest disk text to to' (Err Source) ok exact refused part unwritten = (refused, ap text (unwritten (λ e. let no : ⊥ = cc in no) (λ e. let no : ⊥ = cc in no)))
-is_answer log rest disk text to to' (Err BadRequest) ok exact refused part unwritten = (refused, ap text (unwritten (λ e. let no : ⊥ = cc in no) (λ e. let no : ⊥ = cc in no)))
-is_answer log rest disk text to to' (Err Stopped) ok exact refused part unwritten = (refused, ap text (unwritten (λ e. let no : ⊥ = cc in no) (λ e. let no : ⊥ = cc in no)))
-
 -- an answer to known bytes is one to some bytes or other
-pub may_answer : {D : Type 0} → (log : LogState D) (rest disk sink sink_after : Option (List ℕ)) (served : Result ℕ ServeError)
+pub may_answer : {D : Type 0} → (log : LogState D) (rest disk sink sink_after : Option (List ℕ)) (served : Result Reply ServeError)
     → IsAnswer log rest disk sink sink_after served → MayAnswer log.stopped (length log.steps) served
-may_answer log rest disk sink sink_after (Ok frames) is = (is.0, omega (arith, is.1.2))
+may_answer log rest disk sink sink_after (Ok (Frames frames)) is = (is.0, omega (arith, is.1.2))
+may_answer log rest disk sink sink_after (Ok NoLog) is = is.0
 may_answer log rest disk sink sink_after (Err Memory) is = is.0.0
 may_answer log rest disk sink sink_after (Err Device) is = is.0.0
 may_answer log rest disk sink sink_after (Err Sink) is = is.0.0
@@ -42,7 +30,7 @@ may_answer log rest disk sink sink_after (Err BadRequest) is = tt
 may_answer log rest disk sink sink_after (Err Stopped) is = is.0.0
 
 -- the same of a log that stayed as it was
-pub may_before : (stopped stopped_now : Bool) (entries entries_now : ℕ) (served : Result ℕ ServeError)
+pub may_before : (stopped stopped_now : Bool) (entries entries_now : ℕ) (served : Result Reply ServeError)
     → stopped_now ≡ stopped → entries_now ≡ entries → MayAnswer stopped_now entries_now served → MayAnswer stopped entries served
 may_before stopped stopped_now entries entries_now served a b may =
     subst (λ (s : Bool). MayAnswer s entries served) a (subst (λ (n : ℕ). MayAnswer stopped_now n served) b may)
@@ -57,11 +45,11 @@ served_none stopped entries before = record {
 }
 
 -- one request more
-pub served_more : (stopped : Bool) (entries requests : ℕ) (before mid after : Option (List ℕ)) (served : Result ℕ ServeError)
+pub served_more : (stopped : Bool) (entries requests : ℕ) (before mid after : Option (List ℕ)) (served : Result Reply ServeError)
     → IsServed stopped entries requests before mid → MayAnswer stopped entries served → Wrote mid after (served_line served)
     → IsServed stopped entries (requests + 1) before after
 served_more stopped entries requests before mid after served first may wrote =
-    let P : Result ℕ ServeError → Type 0 = MayAnswer stopped entries in
+    let P : Result Reply ServeError → Type 0 = MayAnswer stopped entries in
     let one : served_lines (served ∷ []) ≡ served_line served = append-nil (served_line served) in
     record {
       answers = first.answers ++ served ∷ [];

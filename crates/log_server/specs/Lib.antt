@@ -1,4 +1,5 @@
 pub mod Serving
+pub mod Replies
 pub mod Answers
 pub mod Blame
 pub mod ServedLines

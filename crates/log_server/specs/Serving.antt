@@ -57,6 +57,15 @@ IsServeRefusal log before Source = ⊤
 IsServeRefusal log before BadRequest = IfSome before HasNoRequest
 IsServeRefusal log before Stopped = (log.stopped ≡ true) × HasRequest before
 
+-- why an export is not sent, or not all of it
+abbrev pub IsSendRefusal : {D : Type 0} → LogState D → FrameRequest → ServeError → Type 0
+IsSendRefusal log r Memory = log.stopped ≡ false
+IsSendRefusal log r Device = (log.stopped ≡ false) × (0 < frame_count (length log.steps) r.first r.most)
+IsSendRefusal log r Sink = log.stopped ≡ false
+IsSendRefusal log r Source = ⊥
+IsSendRefusal log r BadRequest = ⊥
+IsSendRefusal log r Stopped = log.stopped ≡ true
+
 -- of a feed's count of failures: it stands still, but where the feed is blamed
 abbrev pub BlamesFeed : {T : Type 0} → (feed feed_after : ℕ) → Result T ServeError → Type 0
 BlamesFeed feed feed_after (Err Source) = HasFailed feed feed_after
@@ -68,6 +77,10 @@ BlamesOne feed feed_after disk disk_after sink sink_after (Err Source) = HasFail
 BlamesOne feed feed_after disk disk_after sink sink_after (Err Device) = (feed_after ≡ feed) × HasFailed disk disk_after × (sink_after ≡ sink)
 BlamesOne feed feed_after disk disk_after sink sink_after (Err Sink) = (feed_after ≡ feed) × (disk_after ≡ disk) × HasFailed sink sink_after
 BlamesOne feed feed_after disk disk_after sink sink_after _ = (feed_after ≡ feed) × (disk_after ≡ disk) × (sink_after ≡ sink)
+
+-- the same where no feed is read
+abbrev pub BlamesSending : {T : Type 0} → (disk disk_after sink sink_after : ℕ) → Result T ServeError → Type 0
+BlamesSending disk disk_after sink sink_after result = (feed feed_after : ℕ) → feed_after ≡ feed → BlamesOne feed feed_after disk disk_after sink sink_after result
 
 -- ---- parts of this call
 

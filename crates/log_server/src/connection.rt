@@ -1,11 +1,14 @@
 //! A connection that lasts only so long, while others arrive.
 
-ghost use Rattle.std.specs.Prelude.{◌≤◌, length};
+ghost use Rattle.std.specs.Prelude.{◌≡◌, ◌≤◌, length};
 ghost use Rattle.std.specs.Io.{WritesAtMost};
+ghost use Rattle.patient_sockets.specs.Awaiting.{awaited};
+ghost use Rattle.chain_request.specs.Gathering.{request_len};
 
+use chain_request::CHAIN_REQUEST_LEN;
 use log_format::REQUEST_LEN;
 use mio::net::TcpStream;
-use patient_sockets::{Came, Lobby, LobbyRules};
+use patient_sockets::{Came, FirstBytes, Lobby, LobbyRules};
 use std::io;
 use std::io::{ErrorKind, Read, Write};
 use std::net::Net;
@@ -28,10 +31,19 @@ const LEAST_SECONDS: u64 = 5;
 
 /// What connections are held to until their requests are whole. 512 are kept: fewer than the files that a process may have open.
 pub(crate) const RULES: LobbyRules = LobbyRules {
-    first: REQUEST_LEN,
+    first: FirstBytes {
+        usual: REQUEST_LEN,
+        magic: *b"HSL2",
+        of_magic: CHAIN_REQUEST_LEN,
+    },
     asking: 10_000,
     most: 512,
 };
+
+// What is awaited of a connection is its request.
+fn a_request_is_awaited(come: &[u8])
+    ensures { awaited RULES.first come.now ≡ request_len come.now }
+{}
 
 // As the request's seconds say.
 const _: () = prove!(REQUEST_SECONDS == 10);

@@ -7,6 +7,8 @@ mod connection;
 mod error;
 mod fault;
 mod filling;
+mod reply;
+mod replying;
 mod service;
 mod serving;
 
@@ -15,5 +17,7 @@ pub use connection::{CONNECTION_SECONDS, REQUEST_SECONDS, WAIT_SECONDS};
 pub use error::ServeError;
 pub use fault::ServiceFault;
 pub use filling::{Filled, fill};
+pub use reply::Reply;
+pub use replying::reply_to;
 pub use service::serve_requests;
 pub use serving::serve;

@@ -1,10 +1,11 @@
 //! Requests that come over TCP, one after the other.
 
-ghost use Rattle.std.specs.Prelude.{◌≡◌, ℕ, IsErrOf, OnOk, Result as ResultValue, length};
+ghost use Rattle.std.specs.Prelude.{◌≡◌, IsErrOf, OnOk, Result as ResultValue, length};
 ghost use Rattle.streams.specs.Counting.{Counts};
 ghost use Rattle.stable_log.specs.Devices.{Untouched};
 ghost use Rattle.streams.specs.Streams.{Wrote};
 ghost use Rattle.log_server.specs.declared.error.ServeError.{ServeError as ServeErrorValue};
+ghost use Rattle.log_server.specs.declared.reply.Reply.{Reply as ReplyValue};
 ghost use Rattle.log_server.specs.Answers.{IsServed, MayAnswer};
 ghost use Rattle.log_server.specs.Blame.{BlamesOutput};
 ghost use Rattle.log_server.specs.ServedLines.{served_line};
@@ -98,7 +99,7 @@ fn answer_next<'a, R: Net + Clock, D: Disk, W: Sink>(
     log: &mut VoteLog<D>,
     out: &mut W,
 ) -> Result<(), Fault>
-    ensures served { OnOk result ((served : ResultValue ℕ ServeErrorValue)
+    ensures served { OnOk result ((served : ResultValue ReplyValue ServeErrorValue)
         × MayAnswer log.old.stopped (length log.old.steps) served
         × Wrote (W.text out.old) (W.text out.new) (served_line served)) }
     ensures same { (log.new.entries ≡ log.old.entries) × (log.new.steps ≡ log.old.steps)
@@ -125,7 +126,7 @@ fn answer_arrival<'a, R: Net + Clock, D: Disk, W: Sink>(
     log: &mut VoteLog<D>,
     out: &mut W,
 ) -> Result<(), Fault>
-    ensures served { OnOk result ((served : ResultValue ℕ ServeErrorValue)
+    ensures served { OnOk result ((served : ResultValue ReplyValue ServeErrorValue)
         × MayAnswer log.old.stopped (length log.old.steps) served
         × Wrote (W.text out.old) (W.text out.new) (served_line served)) }
     ensures same { (log.new.entries ≡ log.old.entries) × (log.new.steps ≡ log.old.steps)

@@ -5,7 +5,7 @@ ghost use Rattle.log_format.specs.declared.request.FrameRequest.{FrameRequest as
 ghost use Rattle.stable_log.specs.Devices.{Untouched};
 ghost use Rattle.streams.specs.Streams.{Wrote, WrotePart};
 ghost use Rattle.vote_log.specs.LogExport.{export_of, frame_count};
-ghost use Rattle.log_server.specs.Serving.{BlamesFeed, BlamesOne, IsReadRefusal, IsRequestOf, IsServeRefusal, TookFirst, TookRequest};
+ghost use Rattle.log_server.specs.Serving.{BlamesFeed, BlamesOne, BlamesSending, IsReadRefusal, IsRequestOf, IsSendRefusal, IsServeRefusal, TookFirst, TookRequest};
 
 use crate::error::ServeError;
 use crate::filling::{Filled, fill};
@@ -32,6 +32,38 @@ fn read_request<R: Feed>(feed: &mut R) -> Result<FrameRequest, ServeError>
         },
         Ok(Filled::Part(_)) => Err(ServeError::BadRequest),
         Err(_) => Err(ServeError::Source),
+    }
+}
+
+// Writes the export that a request asks for.
+pub(crate) fn send<D: Disk, W: Sink>(
+    log: &mut VoteLog<D>,
+    request: FrameRequest,
+    sink: &mut W,
+) -> Result<u32, ServeError>
+    ensures count { IfOk result (λ n.
+        n ≡ frame_count (length log.old.steps) request.first request.most) }
+    ensures ok { OnOk result (IfSome (D.bytes log.old.disk) (λ _. Wrote (W.text sink.old)
+        (W.text sink.new) (export_of log.old.entries request.first request.most))) }
+    ensures exact { OnOk result (log.old.stopped ≡ false) }
+    ensures same { (log.new.entries ≡ log.old.entries) × (log.new.steps ≡ log.old.steps)
+        × (log.new.stopped ≡ log.old.stopped) × (log.new.genesis ≡ log.old.genesis)
+        × Untouched D.Disk log.old.disk log.new.disk }
+    ensures refused { IfErr result (IsSendRefusal log.old request) }
+    ensures part { IfErr result (λ e. (e ≡ ServeError.Device) ⊎ (e ≡ ServeError.Sink)
+        → IfSome (D.bytes log.old.disk) (λ _. WrotePart (W.text sink.old) (W.text sink.new)
+        (export_of log.old.entries request.first request.most))) }
+    ensures unwritten { IfErr result (λ e. e ≢ ServeError.Device → e ≢ ServeError.Sink
+        → sink.new ≡ sink.old) }
+    ensures cause { BlamesSending (D.failed log.old.disk) (D.failed log.new.disk)
+        (W.failed sink.old) (W.failed sink.new) result }
+{
+    match log.export(request.first, request.most, sink) {
+        Ok(count) => Ok(count),
+        Err(ExportError::Memory) => Err(ServeError::Memory),
+        Err(ExportError::Device) => Err(ServeError::Device),
+        Err(ExportError::Sink) => Err(ServeError::Sink),
+        Err(ExportError::Stopped) => Err(ServeError::Stopped),
     }
 }
 
@@ -72,11 +104,5 @@ pub fn serve<D: Disk, R: Feed, W: Sink>(
         (D.failed log.new.disk) (W.failed sink.old) (W.failed sink.new) result }
 {
     let request = read_request(feed)?;
-    match log.export(request.first, request.most, sink) {
-        Ok(count) => Ok(count),
-        Err(ExportError::Memory) => Err(ServeError::Memory),
-        Err(ExportError::Device) => Err(ServeError::Device),
-        Err(ExportError::Sink) => Err(ServeError::Sink),
-        Err(ExportError::Stopped) => Err(ServeError::Stopped),
-    }
+    send(log, request, sink)
 }

@@ -5,6 +5,7 @@
 mod bounds;
 mod crowd;
 mod dialing;
+mod first_bytes;
 mod giving_way;
 mod line;
 mod listening;
@@ -16,6 +17,7 @@ mod waiting;
 pub use bounds::{Bounds, is_over};
 pub use crowd::{Next, Rules, Talk, talk_to_all};
 pub use dialing::{PatientStream, dial};
+pub use first_bytes::FirstBytes;
 pub use giving_way::gives_way;
 pub use listening::{bind, bind_at_home};
 pub use lobby::{Arrival, Came, Lobby, LobbyRules};

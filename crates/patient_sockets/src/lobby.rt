@@ -1,8 +1,10 @@
 //! Connections whose first bytes are awaited all at once, in one thread, and which are then taken one after the other.
 
-ghost use Rattle.std.specs.Prelude.{◌≡◌, ◌-◌, ◌^◌, min, true, vec_len};
+ghost use Rattle.std.specs.Prelude.{◌≡◌, ◌≤◌, ◌↔◌, ◌-◌, ◌^◌, IsTrue, min, true, vec_len};
+ghost use Rattle.patient_sockets.specs.Awaiting.{awaited};
 ghost use Rattle.patient_sockets.specs.Standings.{milliseconds_between};
 
+use crate::first_bytes::FirstBytes;
 use crate::giving_way::gives_way;
 use crate::line::{milliseconds, side_of};
 use crate::standing::Standing;
@@ -42,8 +44,8 @@ pub struct Arrival {
 /// What connections are held to until they have arrived.
 #[derive(Clone, Copy, Debug, PartialEq, Eq)]
 pub struct LobbyRules {
-    /// How many first bytes are awaited of each.
-    pub first: usize,
+    /// Which first bytes are awaited of each.
+    pub first: FirstBytes,
     /// How long they may take, in milliseconds.
     pub asking: u32,
     /// How many connections are kept, those that have arrived among them.
@@ -295,9 +297,10 @@ impl<'a, R: Net + Clock> Lobby<'a, R> {
 
     // Reads from all that are ready.
     fn read_all(&mut self) -> io::Result<()> {
+        let first = self.rules.first;
         for place in 0..self.guests.len() {
             let came = match self.guests.get_mut(place) {
-                Some(Some(guest)) => guest.read(self.rules.first),
+                Some(Some(guest)) => guest.read(&first),
                 _ => None,
             };
             if let Some(came) = came
@@ -347,12 +350,12 @@ impl Guest {
     }
 
     // Reads what there is of the first bytes, and nothing behind them. Answers what came of them, once it is known.
-    fn read(&mut self, first: usize) -> Option<Came> {
+    fn read(&mut self, first: &FirstBytes) -> Option<Came> {
         if !self.is_readable {
             return None;
         }
-        for _ in 0..first {
-            if self.bytes.len() >= first {
+        for _ in 0..first.usual.max(first.of_magic) {
+            if self.has(first) {
                 break;
             }
             let mut byte = [0];
@@ -371,9 +374,16 @@ impl Guest {
                 Err(_) => return Some(Came::Failed),
             }
         }
-        if self.bytes.len() >= first {
+        if self.has(first) {
             return Some(Came::Whole);
         }
         None
+    }
+
+    // Whether all first bytes have come.
+    fn has(&self, first: &FirstBytes) -> bool
+        ensures { IsTrue result ↔ awaited first.now self.now.bytes.items ≤ vec_len self.now.bytes }
+    {
+        self.bytes.len() >= first.awaited(&self.bytes)
     }
 }

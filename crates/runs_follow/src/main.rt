@@ -2,6 +2,7 @@
 #![tactic(auto)]
 
 use follow_command::run_follow;
+use program_parts::FAULT;
 use runs_script::run_script;
 use std::fs::{File, Files};
 use std::io;
@@ -9,7 +10,7 @@ use std::net::{Net, TcpListener, TcpStream};
 use std::sync::Wait;
 use std::thread::Threads;
 use std::time::Clock;
-use streams::MemorySink;
+use streams::{MemorySink, write_all};
 
 // The program that follows a handover alone.
 fn run_named<
@@ -25,8 +26,29 @@ where
     R::Dir: Send,
 {
     match name {
-        "hs_follow" => Some(run_follow(rt, rt, rt.alloc(), words, out, faults)),
+        "hs_follow" => Some(run_noted(rt, words, out, faults)),
         _ => None,
+    }
+}
+
+// What is noted goes to standard error too.
+fn run_noted<
+    R: Files<File = File>
+        + Threads
+        + Wait
+        + Clock
+        + Net<Listener = TcpListener, Stream = TcpStream>
+        + Sync
+        + AllocGlobal,
+>(rt: &R, words: &[String], out: &mut MemorySink, faults: &mut MemorySink) -> u8
+where
+    R::Dir: Send,
+{
+    let mut notes = MemorySink::new(rt.alloc());
+    let status = run_follow(rt, rt, rt.alloc(), words, out, faults, &mut notes);
+    match write_all(faults, notes.bytes()) {
+        Ok(()) => status,
+        Err(_) => FAULT,
     }
 }
 

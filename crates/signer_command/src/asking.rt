@@ -5,6 +5,7 @@ use crate::heard::{Telling, Word};
 use crate::pace::tick;
 use crate::pool::Shop;
 use asked_logs::is_of_other_chain;
+use chain_dialing::{ChainDialer, ChainServer, Heard};
 use log_format::{Frames, Status};
 use log_transfer::{MOST_OF_A_STREAM, ServerConnector};
 use program_parts::{Origin, SourceWord};
@@ -37,6 +38,8 @@ const PIECE: usize = 65_536;
 struct ReadSoFar {
     frames: usize,
     last: Option<FrameDigest>,
+    // Whether it was told that its server was asked without the chain's name.
+    is_told_unnamed: bool,
 }
 
 impl ReadSoFar {
@@ -44,7 +47,14 @@ impl ReadSoFar {
         ReadSoFar {
             frames: 0,
             last: None,
+            is_told_unnamed: false,
         }
+    }
+
+    // From here on all of it is read again.
+    fn restart(&mut self) {
+        self.frames = 0;
+        self.last = None;
     }
 }
 
@@ -55,6 +65,8 @@ struct Given {
     first: usize,
     // Whether it is all that the source has: a server gives some frames at a time.
     is_all: bool,
+    // What was heard of its server.
+    heard: Heard,
 }
 
 // What came of one look at a source.
@@ -91,7 +103,7 @@ impl<
             if self.start.is_ending() || self.room.notes.has_told_put_back() {
                 break;
             }
-            let look = self.look_at(source, &mut so_far);
+            let look = self.look_at(number, source, &mut so_far);
             match look.unwrap_or(Look::Ended(Word::Memory)) {
                 Look::More => {}
                 Look::PutBack => break,
@@ -125,10 +137,29 @@ impl<
     }
 
     // One look at a source. Where another frame stands in the place of the last that was read, all of it is read again at the next.
-    fn look_at(&self, source: &SourceWord<'_>, so_far: &mut ReadSoFar) -> Result<Look, AllocError> {
+    fn look_at(
+        &self,
+        number: usize,
+        source: &SourceWord<'_>,
+        so_far: &mut ReadSoFar,
+    ) -> Result<Look, AllocError> {
         let Some(given) = self.given_by(source, so_far)? else {
             return Ok(Look::Ended(Word::Unresolved));
         };
+        self.tell_unnamed(number, given.heard, so_far);
+        if given.heard == Heard::NoLog {
+            return Ok(Look::Ended(Word::OtherChain));
+        }
+        self.look_into(source, &given, so_far)
+    }
+
+    // Looks into what a source gave.
+    fn look_into(
+        &self,
+        source: &SourceWord<'_>,
+        given: &Given,
+        so_far: &mut ReadSoFar,
+    ) -> Result<Look, AllocError> {
         let frames = Frames::of(self.alloc, &given.answer.text)?;
         let ended = status_of(frames.status(), given.answer.end);
         // The place of the first frame that was not read yet.
@@ -136,7 +167,7 @@ impl<
         if from > 0 && !has_last(&frames, from, so_far) {
             // Of a file all is there, so what it lacks is gone.
             if given.is_all || frames.len() >= from || ended == Status::Whole {
-                *so_far = ReadSoFar::nothing();
+                so_far.restart();
             }
             return Ok(Look::Ended(Word::Read(unless_whole(ended))));
         }
@@ -161,7 +192,15 @@ impl<
         }
         self.hearing
             .note_certified(self.rt, self.alloc, self.room.committee, &frames, from)?;
-        Ok(read_on(&frames, from, &given, ended, so_far))
+        Ok(read_on(&frames, from, given, ended, so_far))
+    }
+
+    // Tells once that a source was asked without the chain's name.
+    fn tell_unnamed(&self, number: usize, heard: Heard, so_far: &mut ReadSoFar) {
+        if heard == Heard::Unnamed && !so_far.is_told_unnamed {
+            so_far.is_told_unnamed = true;
+            self.room.notes.tell_asking(number, Word::Unnamed);
+        }
     }
 
     // What a source gives: a file all of it, a server what stands behind the last frame that was read, which comes first then. None where
@@ -178,6 +217,7 @@ impl<
                     answer,
                     first: 0,
                     is_all: true,
+                    heard: Heard::Nothing,
                 }));
             }
             Origin::Tcp(name) => name,
@@ -190,13 +230,18 @@ impl<
             addresses,
             ending: &self.start.ending,
         };
-        let mut connector = ServerConnector::over(self.rt, dialer);
+        let server = ChainServer::new(dialer, self.room.committee.chain());
         let first = so_far.frames.saturating_sub(1);
         let asked = u32::try_from(first).unwrap_or(u32::MAX);
+        let answer = {
+            let mut connector = ServerConnector::over(self.rt, ChainDialer::of(&server));
+            ask(self.alloc, &mut connector, asked)?
+        };
         Ok(Some(Given {
-            answer: ask(self.alloc, &mut connector, asked)?,
+            answer,
             first,
             is_all: false,
+            heard: server.heard(),
         }))
     }
 

@@ -1,7 +1,8 @@
 //! A log that is handed out to all who ask, while votes go on.
 
-use log_format::{FrameRequest, REQUEST_LEN};
-use log_handout::Handout;
+use blocks::Id;
+use chain_request::{RequestBytes, asked_in};
+use log_handout::Reply;
 use patient_sockets::{Bounds, Next, Rules, Talk};
 use stable_log::Disk;
 use std::alloc::Global;
@@ -29,34 +30,23 @@ pub(crate) fn rules(most: usize) -> Rules {
     }
 }
 
-/// Answers one request of each connection: the entries that there are when it comes, in pieces that are copied under the desk's lock
-/// and sent behind it, as one export. A piece is copied once the one before was taken.
+/// Answers one request of each connection, which may name a chain: by the entries that there are when it comes, in pieces that are
+/// copied under the desk's lock and sent behind it, as one export; or by the word that there is no log of the chain that it names. A
+/// piece is copied once the one before was taken.
 #[derive(Drop)]
 pub(crate) struct LogTalk<'a, N: DeskNaming, T, D: Disk> {
     pub rt: &'a T,
     pub alloc: Global,
     pub desk: &'a Desk<N, D>,
+    /// The chain of its log.
+    pub chain: Id,
 }
 
 /// What came of a request, and then what goes out.
 #[derive(Drop)]
 pub(crate) struct LogLine {
-    request: [u8; REQUEST_LEN],
-    have: usize,
-    handout: Option<Handout>,
-}
-
-impl LogLine {
-    // Takes the first bytes, until the request is whole. Answers whether it is.
-    fn take(&mut self, bytes: &[u8]) -> bool {
-        for byte in bytes {
-            if let Some(at) = self.request.get_mut(self.have) {
-                *at = *byte;
-                self.have += 1;
-            }
-        }
-        self.have == REQUEST_LEN
-    }
+    request: RequestBytes,
+    reply: Option<Reply>,
 }
 
 impl<N: DeskNaming, T: Wait, D: Disk> Talk for LogTalk<'_, N, T, D> {
@@ -64,29 +54,32 @@ impl<N: DeskNaming, T: Wait, D: Disk> Talk for LogTalk<'_, N, T, D> {
 
     fn begin(&mut self) -> io::Result<LogLine> {
         Ok(LogLine {
-            request: [0; REQUEST_LEN],
-            have: 0,
-            handout: None,
+            request: RequestBytes::new(),
+            reply: None,
         })
     }
 
     fn hear(&mut self, line: &mut LogLine, bytes: &[u8]) -> io::Result<()> {
-        if line.handout.is_some() || !line.take(bytes) {
+        if line.reply.is_some() {
             return Ok(());
         }
-        let Some(request) = FrameRequest::from_bytes(&line.request) else {
+        line.request.take(bytes);
+        if !line.request.is_whole() {
+            return Ok(());
+        }
+        let Some(asked) = asked_in(&self.chain, line.request.as_bytes()) else {
             return Err(io::Error::from(ErrorKind::InvalidData));
         };
-        line.handout = Some(Handout::begin(self.rt, self.desk, request));
+        line.reply = Some(Reply::begin(self.rt, self.desk, asked));
         Ok(())
     }
 
     fn next(&mut self, line: &mut LogLine, is_full: bool) -> io::Result<Next> {
-        let Some(handout) = &mut line.handout else {
+        let Some(reply) = &mut line.reply else {
             return Ok(Next::Asks);
         };
         let share = if is_full { 1 } else { MOST_FRAMES_AT_ONCE };
-        match handout.next_piece(self.rt, self.alloc, self.desk, share) {
+        match reply.next_piece(self.rt, self.alloc, self.desk, share) {
             Ok(Some(piece)) => Ok(Next::Piece(piece)),
             Ok(None) => Ok(Next::End),
             Err(_) => Err(io::Error::from(ErrorKind::Other)),

@@ -18,8 +18,10 @@ pub(crate) enum Word {
     Read(Status),
     /// Its name has no address.
     Unresolved,
-    /// It is the log of another chain.
+    /// It is the log of another chain, or its server says that it has none of this one.
     OtherChain,
+    /// It closed without a byte, and was asked again without the chain's name.
+    Unnamed,
     /// It shows a vote of this replica, in whose view the replica's own log can't be read, or has another one that is not good.
     OwnLog,
     /// Memory was refused.
@@ -33,6 +35,7 @@ impl Word {
             Word::Read(status) => status.name(),
             Word::Unresolved => "Unresolved",
             Word::OtherChain => "OtherChain",
+            Word::Unnamed => "Unnamed",
             Word::OwnLog => "OwnLog",
             Word::Memory => "Memory",
         }

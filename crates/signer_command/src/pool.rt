@@ -195,6 +195,7 @@ impl<
             rt: self.rt,
             alloc: self.alloc,
             desk: self.office.desk,
+            chain: self.room.committee.chain(),
         };
         self.talk_at(place, &rules, &mut talk);
     }

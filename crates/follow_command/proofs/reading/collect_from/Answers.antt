@@ -1,12 +1,12 @@
 use Rattle.follow_command.proofs.Opened.{may_be_tried}
-use Rattle.follow_command.proofs.reading.read_evidence.Goals as goal
+use Rattle.follow_command.proofs.reading.collect_from.Goals as goal
 
 pub collect-requires-clause-tries : goal.collect-requires-clause-tries
 collect-requires-clause-tries g c κs within = may_be_tried c.args.words.now c.in_ok-sources.sources.items c.in_ok-sources.ensures
 
 pub returns-in-Ok-clause-shown : goal.returns-in-Ok-clause-shown
 returns-in-Ok-clause-shown g c = record {
-  under = c.requires;
+  under = c.requires.committee;
   of = record { sources = c.in_ok-sources.sources.items; opened = c.in_ok-sources.ensures };
   evidence = c.in-Ok.ensures.ok;
   caused = c.in-Ok.ensures.cause;

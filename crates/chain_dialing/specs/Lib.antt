@@ -1,0 +1,4 @@
+pub mod Closings
+pub mod Naming
+pub mod Hearing
+pub mod HeardLines

@@ -1,0 +1,3 @@
+pub mod ChainRequestBytes
+pub mod AskedLaws
+pub mod GatheringLaws

@@ -1,0 +1,3 @@
+pub use Rattle.log_format.specs.Requests
+pub mod ChainRequests
+pub mod Gathering
