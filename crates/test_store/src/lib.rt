@@ -1,4 +1,4 @@
-//! Tests of disks and journals: what no clause says.
+//! Tests of disks, journals and word stores: what no clause says.
 #![tactic(auto)]
 
 #[cfg(test)]
@@ -7,3 +7,5 @@ mod disk_tests;
 mod journal_tests;
 #[cfg(test)]
 mod order_tests;
+#[cfg(test)]
+mod word_tests;

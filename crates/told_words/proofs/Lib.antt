@@ -1,0 +1,4 @@
+pub mod HistoryLaws
+pub mod Recovered
+pub mod Refused
+pub mod WordLaws

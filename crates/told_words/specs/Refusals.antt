@@ -1,0 +1,99 @@
+-- When a word store refuses: for each call its first refusal whose case holds. `Memory` comes where a growth was
+-- refused, `Device` where the disk failed.
+use Rattle.std.specs.Prelude.{ℕ, ◌≡◌, ◌≢◌, ◌++◌, List, [], ◌∷◌, length, take, Option, Some, IfSome, IsSome, true, false}
+use Rattle.stable_log.specs.Image.{magic, StandsFor}
+use Rattle.stable_log.specs.Refusals.{IsDamaged}
+use Rattle.told_words.specs.State.{WordState, HasOther, MustWrite}
+use Rattle.told_words.specs.Words.{IsWord, Says, kind_in, words_of}
+use Rattle.told_words.specs.declared.word.GoneOver.{GoneOver}
+use Rattle.told_words.specs.declared.word.TheConstants.{GONE_OVER, WORD_LEN}
+use Rattle.told_words.specs.declared.error.WordError.{WordError}
+use Rattle.told_words.specs.declared.error.WordError.TheVariants.{Memory, Device, NotAJournal, Damaged, UnknownKind, WrongLength, SecondWord, Stopped, Other}
+use Rattle.stable_log.specs.declared.error.JournalError.{JournalError}
+use Rattle.stable_log.specs.declared.error.JournalError.TheVariants as journal
+
+-- the number that docs/REFUSALS.md gives a refusal
+abbrev pub word_error_number : WordError → ℕ
+word_error_number Memory = 1
+word_error_number Device = 2
+word_error_number NotAJournal = 3
+word_error_number Damaged = 4
+word_error_number UnknownKind = 5
+word_error_number WrongLength = 6
+word_error_number SecondWord = 7
+word_error_number Stopped = 8
+word_error_number Other = 9
+
+-- what a refusal of the journal means to the store; it is never full, no word is too long, and none is asked for
+-- that is not there
+abbrev pub word_error : JournalError → WordError
+word_error journal.Memory = Memory
+word_error journal.Device = Device
+word_error journal.NotAJournal = NotAJournal
+word_error journal.Stopped = Stopped
+word_error _ = Damaged
+
+-- `create` on a disk that tells these bytes
+abbrev pub IsWordCreateRefusal : Option (List ℕ) → WordError → Type 0
+IsWordCreateRefusal told Device = Unit {0}
+IsWordCreateRefusal told NotAJournal = IfSome told (λ bytes. bytes ≢ [])
+IsWordCreateRefusal told _ = ⊥
+
+-- an entry is no word: it has no kind that is known, or not the length of its kind
+abbrev pub IsEntryRefusal : List ℕ → WordError → Type 0
+IsEntryRefusal entry UnknownKind = kind_in entry ≢ GONE_OVER
+IsEntryRefusal entry WrongLength = (kind_in entry ≡ GONE_OVER) × (length entry ≢ WORD_LEN)
+IsEntryRefusal entry _ = ⊥
+
+-- an entry can not be taken behind this word or none: it is no word, or a second one
+abbrev pub IsNextRefusal : Option GoneOver → List ℕ → WordError → Type 0
+IsNextRefusal before entry SecondWord = (kind_in entry ≡ GONE_OVER) × (length entry ≡ WORD_LEN) × IsSome before
+IsNextRefusal before entry e = IsEntryRefusal entry e
+
+-- these payloads begin with a word or none, and the entry behind it is the first that can not be taken
+pub record IsFirstRefused (payloads : List (List ℕ)) (e : WordError) : Type 0 where
+  pub gone : Option GoneOver
+  pub whole : IfSome gone IsWord
+  pub entry : List ℕ
+  pub rest : List (List ℕ)
+  pub split : payloads ≡ words_of gone ++ entry ∷ rest
+  pub refused : IsNextRefusal gone entry e
+
+-- the bytes are a journal of such payloads
+abbrev pub HasRefused : WordError → List ℕ → Type 0
+HasRefused e bytes = (payloads : List (List ℕ)) × StandsFor bytes payloads × IsFirstRefused payloads e
+
+-- `recover` on a disk that tells these bytes
+abbrev pub IsWordRecoverRefusal : Option (List ℕ) → WordError → Type 0
+IsWordRecoverRefusal told Memory = Unit {0}
+IsWordRecoverRefusal told Device = Unit {0}
+IsWordRecoverRefusal told NotAJournal = IfSome told (λ bytes. take 8 bytes ≢ magic)
+IsWordRecoverRefusal told Damaged = IfSome told IsDamaged
+IsWordRecoverRefusal told UnknownKind = IfSome told (HasRefused UnknownKind)
+IsWordRecoverRefusal told WrongLength = IfSome told (HasRefused WrongLength)
+IsWordRecoverRefusal told SecondWord = IfSome told (HasRefused SecondWord)
+IsWordRecoverRefusal told _ = ⊥
+
+-- what `recover` refuses, but for want of memory and a fault, says neither a word nor that there is none
+abbrev pub WhatIsRefusedSaysNothing : Type 0
+WhatIsRefusedSaysNothing =
+    (bytes : List ℕ) (e : WordError) (gone : Option GoneOver) → IsWordRecoverRefusal (Some bytes) e → e ≢ Memory → e ≢ Device → Says bytes gone → ⊥
+
+-- `go_over` to this word
+abbrev pub IsGoOverRefusal : {D : Type 0} → WordState D → GoneOver → WordError → Type 0
+IsGoOverRefusal store word Memory = MustWrite store
+IsGoOverRefusal store word Device = MustWrite store
+IsGoOverRefusal store word Stopped = store.stopped ≡ true
+IsGoOverRefusal store word Other = (store.stopped ≡ false) × HasOther store.gone word
+IsGoOverRefusal store word _ = ⊥
+
+-- ---- parts of these calls
+
+-- reading the words of a journal with these payloads fails
+abbrev pub IsWordsRefusal : Option (List ℕ) → List (List ℕ) → WordError → Type 0
+IsWordsRefusal told payloads Memory = Unit {0}
+IsWordsRefusal told payloads Device = Unit {0}
+IsWordsRefusal told payloads UnknownKind = IfSome told (λ _. IsFirstRefused payloads UnknownKind)
+IsWordsRefusal told payloads WrongLength = IfSome told (λ _. IsFirstRefused payloads WrongLength)
+IsWordsRefusal told payloads SecondWord = IfSome told (λ _. IsFirstRefused payloads SecondWord)
+IsWordsRefusal told payloads _ = ⊥
