@@ -120,7 +120,8 @@ def chain_of(room):
 
 
 class Server:
-    """Hands out frames, which may be changed, in a manner that may be changed: whole, cut, flip (whole and cut in turn), hang, drip, reset, endless or silent (the connection ends, with no byte)."""
+    """Hands out frames, which may be changed, in a manner that may be changed: whole, cut, flip (whole and cut in turn), hang, drip, reset, endless or silent (the connection ends, with no byte);
+    or as an earlier version does, which closes at a request that names a chain, or as one that has no log of that chain (other)."""
 
     def __init__(self, frames=(), manner="whole"):
         self.frames, self.manner, self.asked = list(frames), manner, []
@@ -136,17 +137,21 @@ class Server:
     def answer(self, stream):
         with contextlib.suppress(OSError), stream:
             request = b""
-            while len(request) < 12:
-                piece = stream.recv(12 - len(request))
+            while (wanted := (44 if request[:4] == b"HSL2" else 12) if len(request) >= 4 else 4) > len(request):
+                piece = stream.recv(wanted - len(request))
                 if not piece:
                     return
                 request += piece
-            first, most = struct.unpack(">II", request[4:])
+                if self.manner == "earlier" and request[:4] == b"HSL2":
+                    return
+            if self.manner == "other" and request[:4] == b"HSL2":
+                return stream.sendall(b"HSL0" + bytes(4))
+            first, most = struct.unpack(">II", request[-8:])
             self.asked.append((first, most))
             self.give(stream, export_of(self.frames[first : first + most]))
 
     def give(self, stream, text):
-        if self.manner == "whole":
+        if self.manner in ("whole", "earlier"):
             stream.sendall(text)
         elif self.manner == "cut" or (self.manner == "flip" and len(self.asked) % 2):
             stream.sendall(text[:-3])

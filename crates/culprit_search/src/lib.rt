@@ -12,7 +12,7 @@ mod search;
 mod verdict;
 mod writing;
 
-pub use auditing::audit;
+pub use auditing::{Searched, audit, audit_searched, search_evidence};
 pub use report::{Commit, Conflict, Report};
 pub use search::verdicts_of;
 pub use verdict::Verdict;

@@ -12,7 +12,7 @@ ghost use Rattle.draw_command.specs.Words.{IsUsage};
 
 use crate::reading::read_evidence;
 use crate::words::{SourceFile, Words, read_words};
-use culprit_search::audit;
+use culprit_search::{audit_searched, search_evidence};
 use fork_picture::{Purpose, draw, scene_of};
 use program_parts::{
     ProgramFault, SourceFault, exit_status, parse_committee, read_committee, write_out,
@@ -102,7 +102,8 @@ where
     let bytes = read_committee(files, alloc, committee)?;
     let committee = parse_committee(&bytes)?;
     let evidence = read_evidence(files, rt, alloc, &committee, sources)?;
-    let report = audit(alloc, &evidence)?;
-    let scene = scene_of(alloc, &evidence, &report)?;
+    let searched = search_evidence(alloc, &evidence)?;
+    let report = audit_searched(alloc, &evidence, &searched)?;
+    let scene = scene_of(alloc, &evidence, &searched, &report)?;
     Ok(draw(alloc, &scene, Purpose::Audit)?)
 }

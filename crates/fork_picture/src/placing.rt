@@ -1,7 +1,9 @@
 //! Where everything stands: a column for each view, a row for each branch.
 
 ghost use Rattle.std.specs.Prelude.{◌≡◌, IfOk, IsPermutation, length, map, string_bytes};
-ghost use Rattle.std.specs.List.{All, AllZip};
+ghost use Rattle.std.specs.List.{All, AllZip, Contains};
+ghost use Rattle.ancestry.specs.Known.{all_of};
+ghost use Rattle.culprit_search.specs.Found.{IsSearchOf};
 ghost use Rattle.culprit_search.specs.Reports.{Report as ReportValue};
 ghost use Rattle.evidence.specs.Evidence.{Evidence as EvidenceValue};
 ghost use Rattle.fork_picture.specs.Drawings.{IsDrawn, IsDrawnOf, IsHandoverView, IsJudgedBlock, IsRecent, IsRecentPicture};
@@ -18,9 +20,9 @@ use crate::scene::{Block, Column, Culprit, Link, Mark, Place, Scene, Standing, S
 use crate::standing::standing_of;
 use crate::voters::support_of;
 use blocks::{Id, NamedHeader};
-use culprit_search::{Report, Verdict};
+use culprit_search::{Report, Searched, Verdict};
 use evidence::{Evidence, SourceReport};
-use handover_lines::handover_of;
+use handover_lines::handover_in;
 use std::alloc::{AllocError, Global};
 use std::collections::BTreeMap;
 use verdict_format::BoundVote;
@@ -240,19 +242,17 @@ fn judged_blocks(
 }
 
 // The view in which the ledger was handed over.
-fn handover_view(
-    alloc: Global,
-    evidence: &Evidence,
-    report: &Report,
-) -> Result<Option<u64>, AllocError>
-    ensures { IfOk result (IsHandoverView evidence.now report.now) }
+fn handover_view(report: &Report, searched: &Searched) -> Option<u64>
+    requires { All (Contains (all_of searched.now.chains)) searched.now.commits.items }
+    ensures { (e : EvidenceValue) → IsSearchOf e searched.now
+        → IsHandoverView e report.now result }
 {
     if report.conflict().is_some() {
-        return Ok(None);
+        return None;
     }
-    match handover_of(alloc, evidence)? {
-        Some(block) => Ok(Some(block.header().view)),
-        None => Ok(None),
+    match handover_in(searched) {
+        Some(block) => Some(block.header().view),
+        None => None,
     }
 }
 
@@ -260,11 +260,13 @@ fn handover_view(
 fn scene_with(
     alloc: Global,
     evidence: &Evidence,
+    searched: &Searched,
     report: &Report,
     unplaced: &[Culprit],
     chosen: &[NamedHeader],
     sources: Vec<SourceReport>,
 ) -> Result<Scene, AllocError>
+    requires { IsSearchOf evidence.now searched.now }
     ensures findings { IfOk result (λ scene.
         findings_in scene ≡ findings_of evidence.now.committee report.now) }
     ensures drawn { IfOk result (λ scene.
@@ -288,14 +290,20 @@ fn scene_with(
         conflict: report.conflict(),
         culprits,
         weight: report.weight(),
-        handover: handover_view(alloc, evidence, report)?,
+        handover: handover_view(report, searched),
         sources,
     })
 }
 
-/// The picture of evidence, of which this is the report, as an audit draws it: all its blocks, or `MOST_BLOCKS`, and its sources.
-/// AllocError comes where memory is refused.
-pub fn scene_of(alloc: Global, evidence: &Evidence, report: &Report) -> Result<Scene, AllocError>
+/// The picture of evidence, which was searched so and of which this is the report, as an audit draws it: all its blocks, or
+/// `MOST_BLOCKS`, and its sources. AllocError comes where memory is refused.
+pub fn scene_of(
+    alloc: Global,
+    evidence: &Evidence,
+    searched: &Searched,
+    report: &Report,
+) -> Result<Scene, AllocError>
+    requires { IsSearchOf evidence.now searched.now }
     ensures findings { IfOk result (λ scene.
         findings_in scene ≡ findings_of evidence.now.committee report.now) }
     ensures drawn { IfOk result (λ scene. IsDrawn evidence.now report.now (drawn_in scene)) }
@@ -303,7 +311,9 @@ pub fn scene_of(alloc: Global, evidence: &Evidence, report: &Report) -> Result<S
     let unplaced = culprits_of(alloc, &[], report.verdicts())?;
     let chosen = choose(alloc, evidence, report.conflict(), &unplaced)?;
     let sources = evidence.sources().to_vec(alloc)?;
-    scene_with(alloc, evidence, report, &unplaced, &chosen, sources)
+    scene_with(
+        alloc, evidence, searched, report, &unplaced, &chosen, sources,
+    )
 }
 
 /// .. as a watch draws it: blocks that the report names, the latest ones, and those around a conflict or a culprit's vote. The blocks
@@ -311,26 +321,33 @@ pub fn scene_of(alloc: Global, evidence: &Evidence, report: &Report) -> Result<S
 pub fn recent_scene_of(
     alloc: Global,
     evidence: &Evidence,
+    searched: &Searched,
     report: &Report,
 ) -> Result<Scene, AllocError>
+    requires { IsSearchOf evidence.now searched.now }
     ensures findings { IfOk result (λ scene.
         findings_in scene ≡ findings_of evidence.now.committee report.now) }
     ensures drawn { IfOk result (λ scene. IsRecent evidence.now report.now (drawn_in scene)) }
 {
     let unplaced = culprits_of(alloc, &[], report.verdicts())?;
     let chosen = choose_recent(alloc, evidence, report, &unplaced)?;
-    scene_with(alloc, evidence, report, &unplaced, &chosen, Vec::new(alloc))
+    let sources = Vec::new(alloc);
+    scene_with(
+        alloc, evidence, searched, report, &unplaced, &chosen, sources,
+    )
 }
 
 /// The text of that picture, for light and for dark. AllocError comes where memory is refused.
 pub fn recent_picture(
     alloc: Global,
     evidence: &Evidence,
+    searched: &Searched,
     report: &Report,
 ) -> Result<String, AllocError>
+    requires { IsSearchOf evidence.now searched.now }
     ensures { IfOk result (λ text.
         IsRecentPicture evidence.now report.now (string_bytes text)) }
 {
-    let scene = recent_scene_of(alloc, evidence, report)?;
+    let scene = recent_scene_of(alloc, evidence, searched, report)?;
     draw(alloc, &scene, Purpose::Watch)
 }

@@ -6,4 +6,4 @@ mod folders;
 mod names;
 
 pub use folders::{folder_of, is_nothing_at, sync_folder, sync_folder_of};
-pub use names::{NewName, replace_file};
+pub use names::{NewName, replace_file, store_new};

@@ -23,10 +23,20 @@ impl<'f, F: Files<File = File>> NewName<'f, F> {
     /// A new file for reading and writing, at `PATH.new`, and the name that it is to take. Fails where `PATH.new` is there
     /// already, which then stays.
     pub fn begin(files: &'f F, alloc: Global, path: &str) -> io::Result<(NewName<'f, F>, File)> {
+        NewName::begin_with(files, alloc, path, MODE)
+    }
+
+    // .. of this mode.
+    fn begin_with(
+        files: &'f F,
+        alloc: Global,
+        path: &str,
+        mode: u32,
+    ) -> io::Result<(NewName<'f, F>, File)> {
         let beside = format!(in alloc; "{path}.new")?;
         let path = path.to_string(alloc)?;
         let mut how = OpenOptions::new();
-        how.read(true).write(true).create_new(true).mode(MODE);
+        how.read(true).write(true).create_new(true).mode(mode);
         let file = how.open(files, &beside)?;
         Ok((
             NewName {
@@ -96,6 +106,28 @@ fn see_place<F: Files<File = File>>(files: &F, path: &str) -> io::Result<()> {
         return Ok(());
     }
     Err(io::Error::from(ErrorKind::AlreadyExists))
+}
+
+/// Puts these bytes at `path`, where nothing stands, in a file of this mode: whole and synced, or not at all. What took the name
+/// meanwhile stays, and that is a failure. Fails where `PATH.new` is there already, which then stays.
+pub fn store_new<F: Files<File = File>>(
+    files: &F,
+    alloc: Global,
+    path: &str,
+    mode: u32,
+    bytes: &[u8],
+) -> io::Result<()> {
+    if !is_nothing_at(files, path)? {
+        return Err(io::Error::from(ErrorKind::AlreadyExists));
+    }
+    let (name, file) = NewName::begin_with(files, alloc, path, mode)?;
+    match fill(file, bytes) {
+        Ok(()) => name.take_new(),
+        Err(error) => {
+            name.give_up();
+            Err(error)
+        }
+    }
 }
 
 fn fill(mut file: File, bytes: &[u8]) -> io::Result<()> {

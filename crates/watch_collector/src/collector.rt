@@ -65,6 +65,13 @@ impl<'a> Collector<'a> {
         Ok(())
     }
 
+    /// The committee of whose logs it is.
+    pub fn committee(&self) -> CommitteeView<'a>
+        ensures { result ≡ self.now.gathered.committee }
+    {
+        self.growing.committee()
+    }
+
     /// How many logs there are.
     pub fn logs(&self) -> usize
         ensures { result ≡ length self.now.reports }
@@ -157,6 +164,8 @@ impl<'a> Collector<'a> {
             (l : ReceivedLog) → IsCollected committee logs self.old
             → IsPartOn committee l part.now
             → IsEvidenceRefusal (IsHeaderInEvidence committee (logs_then logs log l)) e) }
+        ensures err { IfErr result
+            (IsGatheringRefusal self.old.gathered (Contains part.now.listing.headers)) }
         ensures reports { OnOk result
             (self.new.reports ≡ reports_then self.old.reports log part.now.report) }
         ensures grown { OnOk result (Grows self.old.gathered self.new.gathered

@@ -12,7 +12,7 @@ mod making;
 mod part;
 mod reports;
 
-pub use auditing::audit_so_far;
+pub use auditing::{AuditSoFar, audit_so_far};
 pub use collector::Collector;
 pub use laws::{
     longer_logs_show_more, what_is_named_falls, what_is_proved_stays,

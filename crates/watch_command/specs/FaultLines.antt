@@ -4,7 +4,7 @@ use Rattle.printed_lines.specs.Printed.{file_line}
 use Rattle.program_parts.specs.FaultLines.{fault_line, source_fault_line}
 use Rattle.program_parts.specs.declared.program_fault.ProgramFault.{ProgramFault}
 use Rattle.watch_command.specs.declared.fault.FolderFile.{FolderFile}
-use Rattle.watch_command.specs.declared.fault.FolderFile.TheVariants.{Lock, Verdict, Chain, Export, Part}
+use Rattle.watch_command.specs.declared.fault.FolderFile.TheVariants.{Lock, Chain, Export, Part}
 use Rattle.watch_command.specs.declared.fault.WatchFault.{WatchFault}
 use Rattle.watch_command.specs.declared.fault.WatchFault.TheVariants.{Sources, FileIn, State, Listen, Threads}
 
@@ -15,7 +15,6 @@ log_behind replica source log = codes "/" ++ decimal replica ++ codes "-" ++ dec
 -- a file behind its folder
 abbrev pub name_behind : FolderFile → List ℕ
 name_behind Lock = codes "/lock"
-name_behind (Verdict replica) = codes "/verdict-" ++ decimal replica ++ codes ".hsx"
 name_behind Chain = codes "/chain"
 name_behind (Export replica source log) = log_behind replica source log ++ codes ".hsl"
 name_behind (Part replica source log place) = log_behind replica source log ++ codes "-" ++ decimal place

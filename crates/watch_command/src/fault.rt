@@ -16,7 +16,7 @@ pub type Fault<'a> = ProgramFault<'a, WatchFault<'a>>;
 /// What this program alone gives up for.
 #[derive(Clone, Copy, Debug)]
 pub enum WatchFault<'a> {
-    /// A word of a source is not as written or its name can't be resolved, or two headers in evidence have one id.
+    /// A word of a source is not as written, or two headers in evidence have one id.
     Sources(SourceFault),
     /// This file of the folder at this path can't be made, read or locked.
     FileIn(&'a str, FolderFile),
@@ -33,8 +33,6 @@ pub enum WatchFault<'a> {
 pub enum FolderFile {
     /// Its lock.
     Lock,
-    /// The verdict on this replica.
-    Verdict(u16),
     /// What says of which chain the logs are that are kept.
     Chain,
     /// What is given out of a log: the replica, which of its sources, and which log of that.
@@ -52,11 +50,6 @@ impl FolderFile {
         match self {
             FolderFile::Lock => name.push(b"/lock"),
             FolderFile::Chain => name.push(b"/chain"),
-            FolderFile::Verdict(replica) => {
-                name.push(b"/verdict-");
-                name.push(Buffer::new().format(replica).as_bytes());
-                name.push(b".hsx");
-            }
             FolderFile::Export(replica, source, log) => {
                 push_log(&mut name, replica, source, log);
                 name.push(b".hsl");

@@ -3,10 +3,12 @@
 use crate::patience::Dialer;
 use crate::reader::{Reader, note_answer};
 use crate::shop::{Place, Shop, Target};
+use chain_dialing::{ChainDialer, ChainServer};
 use evidence::EvidenceRefusal;
 use log_format::{Frames, Status};
 use log_transfer::{FetchError, FileConnector, Pull, ServerConnector, Step};
-use source_reading::{End, MOST_FRAMES_ASKED, ask};
+use source_reading::{Answer, End, MOST_FRAMES_ASKED, ask};
+use std::alloc::AllocError;
 use std::fs::{File, Files};
 use std::net::{Net, TcpStream};
 use std::sync::Wait;
@@ -14,7 +16,7 @@ use std::sync::atomic::Ordering;
 use std::time::Clock;
 use wire::MOST_ENTRIES;
 
-/// Reads what is kept of a source, and then the source until the watch ends, or it is set aside; a file to its end.
+/// Reads what is kept of a source, and then the source until the watch ends, or it is set aside; a file once.
 pub(crate) fn follow<'c, T: Files<File = File> + Wait + Clock + Net<Stream = TcpStream>>(
     shop: &Shop<'_, '_, 'c, T>,
     source: usize,
@@ -29,9 +31,14 @@ pub(crate) fn follow<'c, T: Files<File = File> + Wait + Clock + Net<Stream = Tcp
     }
     reader.join_parts(shop)?;
     match &target.place {
-        Place::File(path) => read_file_once(shop, &mut reader, path),
+        Place::File(path) => read_file_once(shop, &mut reader, target, path),
         Place::Server(name) => follow_server(shop, &mut reader, target, name),
     }
+}
+
+// Whether no more of a source is read.
+fn is_over<T: Wait + Clock>(shop: &Shop<'_, '_, '_, T>, target: &Target) -> bool {
+    shop.is_ending() || target.aside.load(Ordering::SeqCst)
 }
 
 fn follow_server<'c, T: Files<File = File> + Wait + Clock + Net<Stream = TcpStream>>(
@@ -41,18 +48,50 @@ fn follow_server<'c, T: Files<File = File> + Wait + Clock + Net<Stream = TcpStre
     name: &str,
 ) -> Result<(), EvidenceRefusal> {
     for _ in shop.rt.forever() {
-        if shop.is_ending() || target.aside.load(Ordering::SeqCst) {
+        if is_over(shop, target) {
             break;
         }
         reader.begin_anew(shop)?;
         if !read_on(shop, reader, name)? {
             reader.store_again(shop)?;
             reader.end_round(shop);
-            shop.pause();
+            rest(shop, target, reader.pauses());
         }
     }
     reader.let_others_read_anew(shop);
     Ok(())
+}
+
+// So many pauses, unless no more of the source is read.
+fn rest<T: Wait + Clock>(shop: &Shop<'_, '_, '_, T>, target: &Target, pauses: u8) {
+    for _ in 0..pauses {
+        if is_over(shop, target) {
+            return;
+        }
+        shop.pause();
+    }
+}
+
+// Asks the server for the log of the committee's chain from this frame on. Its connection is closed then.
+fn ask_server<'c, T: Files<File = File> + Wait + Clock + Net<Stream = TcpStream>>(
+    shop: &Shop<'_, '_, 'c, T>,
+    reader: &mut Reader,
+    name: &str,
+    first: u32,
+) -> Result<Answer, AllocError> {
+    let dialer = Dialer {
+        net: shop.rt,
+        alloc: shop.alloc,
+        name,
+        ending: &shop.ending,
+    };
+    let server = ChainServer::new(dialer, shop.committee.chain());
+    let answer = {
+        let mut connector = ServerConnector::over(shop.rt, ChainDialer::of(&server));
+        ask(shop.alloc, &mut connector, first)?
+    };
+    reader.note_server(shop, server.heard());
+    Ok(answer)
 }
 
 // Asks the server once, and hands over what is new. Answers whether something was read and more is there at once: a server that
@@ -63,17 +102,7 @@ fn read_on<'c, T: Files<File = File> + Wait + Clock + Net<Stream = TcpStream>>(
     name: &str,
 ) -> Result<bool, EvidenceRefusal> {
     let first = u32::try_from(reader.logs.read().saturating_sub(1)).unwrap_or(u32::MAX);
-    let answer = {
-        let dialer = Dialer {
-            net: shop.rt,
-            alloc: shop.alloc,
-            name,
-            ending: &shop.ending,
-        };
-        // Its connection is closed before the frames are added.
-        let mut connector = ServerConnector::over(shop.rt, dialer);
-        ask(shop.alloc, &mut connector, first)?
-    };
+    let answer = ask_server(shop, reader, name, first)?;
     let frames = Frames::of(shop.alloc, &answer.text)?;
     let status = status_of(frames.status(), answer.end);
     if !answer.text.is_empty() {
@@ -116,10 +145,11 @@ fn status_of(status: Status, end: End) -> Status {
     }
 }
 
-// Reads a file once, to its end.
+// Reads a file once, to its end or until it is set aside.
 fn read_file_once<'c, T: Files<File = File> + Wait + Clock>(
     shop: &Shop<'_, '_, 'c, T>,
     reader: &mut Reader,
+    target: &Target,
     path: &str,
 ) -> Result<(), EvidenceRefusal> {
     let mut pull = Pull::new(FileConnector::new(shop.rt, path), 1);
@@ -127,12 +157,14 @@ fn read_file_once<'c, T: Files<File = File> + Wait + Clock>(
     let mut draft = reader.draft(shop)?;
     let mut ended = Status::Whole;
     for _ in 0..=MOST_ENTRIES {
-        if shop.is_ending() {
+        if is_over(shop, target) {
+            ended = Status::Cut;
             break;
         }
         match pull.next(&mut frame) {
             Ok(Step::Frame) => {
                 if !reader.take_frame(shop, &mut draft, &frame)? {
+                    ended = Status::Cut;
                     break;
                 }
             }

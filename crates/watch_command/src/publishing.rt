@@ -50,7 +50,7 @@ pub(crate) fn first_snapshot<T: Files<File = File> + Clock>(
         sources: source_places(alloc, targets, &since)?,
         picture: None,
     };
-    snapshot_of(alloc, committee, &desk, &[], moment)
+    snapshot_of(alloc, &desk, &[], moment)
 }
 
 /// The replicas whose logs the sources are said to be.
@@ -81,6 +81,7 @@ fn source_places(
                 status: holds.status,
                 bad: holds.bad,
                 aside: holds.aside,
+                beyond: holds.beyond,
             },
         })?;
     }
@@ -159,13 +160,7 @@ pub(crate) fn publish<T: Files<File = File> + Wait + Clock>(
         return Ok(());
     };
     let moment = moment_of(shop, server, rounds)?;
-    let seen = snapshot_of(
-        shop.alloc,
-        shop.committee,
-        &rounds.desk,
-        &rounds.places,
-        moment,
-    )?;
+    let seen = snapshot_of(shop.alloc, &rounds.desk, &rounds.places, moment)?;
     server.publish(shop.rt, Shared::new(shop.alloc, seen)?);
     Ok(())
 }

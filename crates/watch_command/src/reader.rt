@@ -2,6 +2,7 @@
 
 use crate::draft::Draft;
 use crate::shop::{Delivery, Shop, StoredPart, Target, Told};
+use chain_dialing::Heard;
 use evidence::EvidenceRefusal;
 use log_format::{Frames, Status};
 use source_reading::{FrameDigest, SourceLogs, digest_of};
@@ -29,6 +30,9 @@ pub(crate) enum Compared {
     /// The logs that were kept, at a start: it is to begin with one of them.
     Kept,
 }
+
+/// How many pauses come at most before a source that goes back again and again is asked again.
+const MOST_PAUSES: u8 = 60;
 
 /// How many bytes of parts of one source may wait until they can be stored: with more, no more of it is stored.
 const MOST_WAITING: usize = 8 * 1024 * 1024;
@@ -61,8 +65,11 @@ pub(crate) struct Reader {
     begins: usize,
     // What it had before all of it is read, if that is known.
     pub before: Option<Extent>,
-    // When it last went back, and how much it gave since as that was told.
+    // When it last went back, how often it did with less than an hour between, and how much it gave since as that was told.
     back: Option<Instant>,
+    times_back: u8,
+    // The last answer went back.
+    has_parted: bool,
     told_given: Extent,
     // How what came last ended, as it was told.
     status: Option<Status>,
@@ -71,6 +78,8 @@ pub(crate) struct Reader {
     /// The last frame that was looked at was of such a log.
     pub is_closed: bool,
     has_told_beyond: bool,
+    // What was heard of its server last.
+    server: Heard,
     // When all of the log had been read last.
     read_whole: Option<Instant>,
     // All of it is read anew, and no other source's.
@@ -103,11 +112,14 @@ impl Reader {
             begins: 0,
             before: None,
             back: None,
+            times_back: 0,
+            has_parted: false,
             told_given: NOTHING_GIVEN,
             status: None,
             closed: None,
             is_closed: false,
             has_told_beyond: false,
+            server: Heard::Nothing,
             read_whole: None,
             is_anew: false,
             compared: Compared::Nothing,
@@ -163,6 +175,17 @@ impl Reader {
         }
     }
 
+    /// Notes what was heard of its server where it was asked by the name of the chain, and tells what is new of that.
+    pub fn note_server<T: Wait + Clock>(&mut self, shop: &Shop<'_, '_, '_, T>, heard: Heard) {
+        if heard == Heard::Nothing || heard == self.server {
+            return;
+        }
+        self.server = heard;
+        if heard != Heard::Named {
+            self.tell(shop, Told::Server(heard));
+        }
+    }
+
     /// All that is there was read, and is compared.
     pub fn end_round<T: Wait + Clock>(&mut self, shop: &Shop<'_, '_, '_, T>) {
         self.let_others_read_anew(shop);
@@ -193,6 +216,12 @@ impl Reader {
 
     // It went back, when it had this.
     fn go_back<T: Wait + Clock>(&mut self, shop: &Shop<'_, '_, '_, T>, had: Option<Extent>) {
+        let before = if self.is_back(shop) {
+            self.times_back
+        } else {
+            0
+        };
+        self.times_back = before.saturating_add(1);
         self.back = Instant::now(shop.rt).ok();
         self.told_given = NOTHING_GIVEN;
         self.tell(shop, Told::WentBack(had));
@@ -274,8 +303,19 @@ impl Reader {
         let had = self.had();
         self.compared = Compared::Nothing;
         self.go_back(shop, had);
+        self.has_parted = true;
         self.restart()?;
         Ok(())
+    }
+
+    /// How many pauses come before it is asked again: behind an answer that went back as many as it did so within the hour, up to
+    /// `MOST_PAUSES`, so that one that goes back again and again is read all the less; else one.
+    pub fn pauses(&mut self) -> u8 {
+        if !self.has_parted {
+            return 1;
+        }
+        self.has_parted = false;
+        self.times_back.clamp(1, MOST_PAUSES)
     }
 
     /// The place of its next frame, in this log of it.
@@ -356,7 +396,8 @@ impl Reader {
         }
     }
 
-    /// Adds a new frame, which stands there; what does not go on with the draft is handed over first.
+    /// Adds a new frame, which stands there; what does not go on with the draft is handed over first. More is to come then, so it says
+    /// nothing new of how the log ends.
     pub fn add_frame<'c, T: Files<File = File> + Wait + Clock>(
         &mut self,
         shop: &Shop<'_, '_, 'c, T>,
@@ -367,8 +408,9 @@ impl Reader {
     ) -> Result<(), EvidenceRefusal> {
         if !draft.goes_on(place) {
             let next = draft.next(shop.alloc, shop.committee, self.replica)?;
-            let whole = std::mem::replace(draft, next);
-            self.hand_over(shop, whole, Status::Whole)?;
+            let full = std::mem::replace(draft, next);
+            let status = self.status.unwrap_or(Status::Cut);
+            self.hand_over(shop, full, status)?;
         }
         draft.add(shop.alloc, place, frame)?;
         self.front = digest_then(&self.front, digest);

@@ -1,6 +1,7 @@
 //! The thread that collects what comes, round by round: it hands it to the desk, and tells what the desk says is new.
 
-ghost use Rattle.std.specs.Prelude.{◌≢◌, IfErr};
+ghost use Rattle.std.specs.Prelude.{◌≡◌, ◌≢◌, ◌*◌, IfErr, min};
+ghost use Rattle.watch_command.specs.declared.rounds.TheConstants.{PATIENCE_MILLISECONDS, REST};
 
 use crate::fault::{Fault, fault_of_evidence};
 use crate::publishing::{publish, replicas_of};
@@ -8,6 +9,7 @@ use crate::queue::Line;
 use crate::shop::{Delivery, Shop, StoredPart, Told};
 use crate::since::Since;
 use crate::verdict_files::{Kept, VerdictFolder};
+use chain_dialing::Heard;
 use fork_picture::recent_picture;
 use program_parts::ProgramFault;
 use std::alloc::AllocError;
@@ -16,8 +18,8 @@ use std::sync::Wait;
 use std::sync::atomic::Ordering;
 use std::thread::Threads;
 use std::time::{Clock, Duration, Instant};
-use watch_desk::{Desk, FoundVerdict, KeptVerdicts, News, VerdictPlace, put_news};
-use watch_lines::{put_kept, put_lost, put_unstored, stamp, utc_text};
+use watch_desk::{Desk, KeptVerdicts, KnownVerdict, News, VerdictPlace, put_news};
+use watch_lines::{put_kept, put_lost, put_source_alarm, put_unstored, stamp, utc_text};
 use watch_web::seconds_now;
 
 /// How long the collector waits for what comes, in milliseconds: then it looks whether the watch is to end. So long an audit
@@ -63,6 +65,8 @@ pub(crate) fn collect<'c, T: Files<File = File> + Threads + Wait + Clock + Sync>
         path: shop.words.folder,
     };
     let mut rounds = Rounds::open(shop, &folder)?;
+    // Culprits of verdicts that are kept are shown before kept logs are read.
+    publish(shop, &rounds)?;
     for _ in shop.rt.forever() {
         if rounds.is_over(shop) {
             break;
@@ -207,6 +211,7 @@ impl<'c> Rounds<'c> {
             Told::Gives(given) => self.desk.give(i, *given),
             Told::GivesKept(log) => tell_all(shop, stamp, &self.desk.count_kept(i, *log)?)?,
             Told::Beyond => tell_one(shop, stamp, self.desk.go_beyond(i))?,
+            Told::Server(heard) => tell_server(shop, stamp, i, *heard)?,
             Told::Unstored(path) => self.tell_unstored(shop, stamp, i, path)?,
             Told::Stored => self.note_gap(i, false),
         }
@@ -276,12 +281,18 @@ impl<'c> Rounds<'c> {
         let audited = self.desk.audit()?;
         for news in &audited.news {
             match news {
-                News::Culprit(found) => self.name(shop, folder, stamp, news, found)?,
+                News::Culprit(found) => self.name(shop, folder, stamp, news, found.get())?,
                 _ => tell(shop, stamp, news, b"")?,
             }
         }
         if shop.server.is_some() {
-            self.picture = Some(recent_picture(shop.alloc, &audited.evidence, &audited.report)?);
+            let picture = recent_picture(
+                shop.alloc,
+                &audited.evidence,
+                &audited.searched,
+                &audited.report,
+            )?;
+            self.picture = Some(picture);
         }
         self.note_audit(shop, begun);
         Ok(())
@@ -303,8 +314,7 @@ impl<'c> Rounds<'c> {
         if let Some(begun) = begun
             && let Ok(took) = begun.elapsed(shop.rt)
         {
-            let rest = milliseconds_of(took).saturating_mul(REST);
-            self.rest = rest.min(PATIENCE_MILLISECONDS);
+            self.rest = rest_after(milliseconds_of(took));
         }
         self.audited = Instant::now(shop.rt).ok();
     }
@@ -316,7 +326,7 @@ impl<'c> Rounds<'c> {
         folder: &VerdictFolder<'_, '_, T>,
         stamp: &[u8],
         news: &News,
-        found: &FoundVerdict,
+        found: &KnownVerdict,
     ) -> Result<(), AllocError> {
         let replica = found.replica();
         let second = match self.taken.get(usize::from(replica)) {
@@ -324,7 +334,7 @@ impl<'c> Rounds<'c> {
             None => false,
         };
         let path = folder.path_of(replica, second)?;
-        let is_unstored = folder.store(&path, found.known().get().as_bytes()).is_err();
+        let is_unstored = folder.store(&path, found.as_bytes()).is_err();
         tell(shop, stamp, news, path.as_bytes())?;
         if is_unstored {
             let mut line = Vec::new(shop.alloc);
@@ -382,6 +392,26 @@ fn tell_kept<T: Files<File = File> + Wait + Clock>(
     }
 }
 
+// What was heard of the server of a source. It may come again.
+fn tell_server<T: Wait + Clock>(
+    shop: &Shop<'_, '_, '_, T>,
+    stamp: &[u8],
+    i: usize,
+    heard: Heard,
+) -> Result<(), AllocError> {
+    let word = match heard {
+        Heard::Nothing | Heard::Named => return Ok(()),
+        Heard::Unnamed => b"unnamed".as_slice(),
+        Heard::NoLog => b"no-log".as_slice(),
+    };
+    if let Some(target) = shop.targets.get(i) {
+        let mut line = Vec::new(shop.alloc);
+        put_source_alarm(&mut line, stamp, word, i, target.replica)?;
+        shop.queue.say(shop.rt, Line::Passing(line));
+    }
+    Ok(())
+}
+
 // How many lines were dropped, where there is room for that.
 fn tell_lost<T: Wait + Clock>(shop: &Shop<'_, '_, '_, T>, stamp: &[u8]) -> Result<(), AllocError> {
     let lost = shop.queue.take_lost(shop.rt);
@@ -413,16 +443,15 @@ fn tell<T: Wait + Clock>(
 ) -> Result<(), AllocError> {
     let mut line = Vec::new(shop.alloc);
     put_news(&mut line, stamp, news, path, nth_of(shop, news))?;
-    match news {
-        News::Status(_, _, _) | News::WentBack(_, _) => {
-            shop.queue.say(shop.rt, Line::Passing(line));
-        }
-        News::SetAside(i, _) => {
-            shop.set_aside(*i);
-            shop.queue.say(shop.rt, Line::Lasting(line));
-        }
-        _ => shop.queue.say(shop.rt, Line::Lasting(line)),
+    if let News::SetAside(i, _) = news {
+        shop.set_aside(*i);
     }
+    let line = if news.may_be_dropped() {
+        Line::Passing(line)
+    } else {
+        Line::Lasting(line)
+    };
+    shop.queue.say(shop.rt, line);
     Ok(())
 }
 
@@ -446,6 +475,13 @@ fn tell_all<T: Wait + Clock>(
         tell(shop, stamp, news, b"")?;
     }
     Ok(())
+}
+
+// How many milliseconds the next audit waits behind one that took so many.
+fn rest_after(took: u64) -> u64
+    ensures { result ≡ min (took * REST) PATIENCE_MILLISECONDS }
+{
+    took.saturating_mul(REST).min(PATIENCE_MILLISECONDS)
 }
 
 fn milliseconds_of(time: Duration) -> u64 {

@@ -6,6 +6,7 @@ use crate::queue::Queue;
 use crate::serving::{ANSWERERS, Server};
 use crate::words::Words;
 use blocks::CommitteeView;
+use chain_dialing::Heard;
 use std::alloc::{AllocError, Global};
 use std::sync::atomic::{AtomicBool, AtomicU32, AtomicU64, Ordering};
 use std::sync::{Condvar, Mutex, Wait};
@@ -43,6 +44,8 @@ pub(crate) enum Told<'c> {
     GivesKept(usize),
     /// It gave one log too many.
     Beyond,
+    /// Its server, which was asked by the name of the chain, has no log of it, or was asked without.
+    Server(Heard),
     /// What stands at this path, among what is kept, is no part of a log of it.
     Unstored(String),
     /// All of it that could not be stored is stored now.

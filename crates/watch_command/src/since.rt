@@ -7,14 +7,16 @@ use watch_desk::{Desk, SourceKnown};
 /// .. of a source. Times are seconds since 1970, 0 for what does not hold.
 #[derive(Clone, Copy, Debug)]
 pub(crate) struct SourceSince {
-    // How its log ends.
-    ends: Option<Status>,
-    /// Since when it ends so.
+    // Whether its log came whole, once something was told of it.
+    is_whole: Option<bool>,
+    /// Since when that is so.
     pub status: u64,
     /// Since when votes of it are not good.
     pub bad: u64,
     /// Since when it is set aside.
     pub aside: u64,
+    /// Since when it gives one log too many.
+    pub beyond: u64,
 }
 
 /// .. of all that a watch shows.
@@ -29,10 +31,11 @@ pub(crate) struct Since {
 
 // Of a source of which nothing came.
 const NOTHING: SourceSince = SourceSince {
-    ends: None,
+    is_whole: None,
     status: 0,
     bad: 0,
     aside: 0,
+    beyond: 0,
 };
 
 impl Since {
@@ -61,12 +64,14 @@ impl Since {
 
 impl SourceSince {
     fn note(&mut self, known: &SourceKnown, second: u64) {
-        if self.ends != known.status {
-            self.ends = known.status;
+        let is_whole = known.status.map(|status| status == Status::Whole);
+        if self.is_whole != is_whole {
+            self.is_whole = is_whole;
             self.status = second;
         }
         self.bad = held(self.bad, !known.bad.is_empty(), second);
         self.aside = held(self.aside, known.is_aside(), second);
+        self.beyond = held(self.beyond, known.is_beyond, second);
     }
 }
 

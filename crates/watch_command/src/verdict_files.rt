@@ -4,13 +4,13 @@ ghost use Rattle.std.specs.Prelude.{◌≢◌, IfErr};
 
 use crate::fault::{Fault, FolderFile, WatchFault};
 use program_parts::{InputFault, MOST_OF_A_SHORT_FILE, ProgramFault, read_file};
+use safe_files::store_new;
 use std::alloc::{AllocError, Global};
 use std::fs::{File, Files, OpenOptions};
 use std::io::ErrorKind;
 use std::os::unix::fs::OpenOptionsExt;
 use std::{fs, io};
 use watch_desk::KeptVerdicts;
-use watch_state::store_new;
 
 /// The mode of a new verdict's file: everyone may read it.
 const VERDICT_MODE: u32 = 0o644;

@@ -1,5 +1,5 @@
 -- What a round of a watch tells, and in which order.
-use Rattle.std.specs.Prelude.{◌-◌, ◌++◌, ◌&&◌, ℕ, List, [], ◌∷◌, Bool, false, not, nat_eq, map, filter, drop, length, Option, None, Some, if◌then◌else◌}
+use Rattle.std.specs.Prelude.{◌-◌, ◌++◌, ◌&&◌, ℕ, List, [], ◌∷◌, Bool, true, false, not, nat_eq, map, filter, drop, length, Option, None, Some, if◌then◌else◌}
 use Rattle.std.specs.List.{list_any}
 use Rattle.std.specs.Str.{bytes_eq}
 use Rattle.blocks.specs.Headers.{Header}
@@ -58,3 +58,16 @@ abbrev pub commits_told : List Commit → List News
 commits_told new =
     left_out (length new - most_commits) (drop (length new - most_commits) new)
     ++ map (λ c. news.Commit c) (drop (length new - most_commits) new)
+
+-- ---- what may be dropped where nobody takes the lines: what comes again if it goes on
+
+abbrev pub may_be_dropped : News → Bool
+may_be_dropped (news.Status i log report) = true
+may_be_dropped (news.WentBack i replica) = true
+may_be_dropped (news.Conflict c) = false
+may_be_dropped (news.Culprit v) = false
+may_be_dropped (news.Handover b after) = false
+may_be_dropped (news.Commits count first) = false
+may_be_dropped (news.Commit c) = false
+may_be_dropped (news.Beyond i replica) = false
+may_be_dropped (news.SetAside i replica) = false

@@ -1,9 +1,10 @@
 -- What is known of a source once a part of a log of it came.
-use Rattle.std.specs.Prelude.{◌≡◌, ◌++◌, ◌+◌, ◌-◌, ◌^◌, min, ℕ, List, [], ◌∷◌, Bool, true, false, nat_le, length, map, Option, None, Some, slice_get, slice_set, option_and_then}
-use Rattle.std.specs.List.{All, Contains}
+use Rattle.std.specs.Prelude.{◌≡◌, ◌++◌, ◌+◌, ◌-◌, ◌^◌, min, ℕ, List, [], ◌∷◌, Bool, true, false, nat_le, length, map, Option, None, Some, replicate, slice_get, slice_set, option_and_then}
+use Rattle.std.specs.List.{Contains}
 use Rattle.certificates.specs.declared.vote.SignedVote.{SignedVote}
 use Rattle.evidence.specs.declared.source.SourceReport.{SourceReport}
 use Rattle.log_format.specs.declared.status.Status.{Status}
+use Rattle.watch_snapshot.specs.declared.source.SourceDigests.{SourceDigests}
 use Rattle.watch_desk.specs.Backs.{back_after, back_then}
 use Rattle.watch_desk.specs.Sources.{GainsOnce, most_bad_votes, aside_told, back_told, beyond_told, log_named, status_told, top_from}
 use Rattle.watch_desk.specs.declared.back.Extent.{Extent}
@@ -34,19 +35,30 @@ pub record IsFreshLog (l : LogKnown) : Type 0 where
 abbrev pub HasBegun : (logs new : List LogKnown) → ℕ → Type 0
 HasBegun logs new number = (l : LogKnown) × (l.number ≡ number) × IsFreshLog l × (new ≡ logs ++ l ∷ [])
 
--- nothing came of it yet
-pub record IsFreshSource (s : SourceKnown) : Type 0 where
-  pub logs : All IsFreshLog s.logs.items
+-- what frames digest to where there are none
+abbrev pub no_digests : SourceDigests
+no_digests = record { first = replicate 32 0; all = replicate 32 0 }
+
+-- it has one log, which has this number, and nothing came of it yet
+pub record IsFreshSource (number : ℕ) (s : SourceKnown) : Type 0 where
+  pub logs : HasBegun [] s.logs.items number
   pub status : s.status ≡ None
   pub bad : s.bad.items ≡ []
+  pub top_view : s.top_view ≡ 0
   pub times_back : s.times_back ≡ 0
+  pub back_told : s.back_told ≡ 0
   pub back : s.back ≡ None
   pub is_beyond : s.is_beyond ≡ false
+  pub digests : s.digests ≡ no_digests
 
--- a source of each of these replicas, of which nothing came
+-- each of the list has this at its place
+abbrev pub AllAt : {X : Type 0} → (ℕ → X → Type 0) → List X → Type 0
+AllAt {X} Has xs = (i : ℕ) → (x : X) → slice_get xs i ≡ Some x → Has i x
+
+-- a source of each of these replicas, of which nothing came; the log of the first is log 0, that of the second log 1, ..
 pub record AreFreshSources (replicas : List ℕ) (sources : List SourceKnown) : Type 0 where
   pub of : map (λ s. s.replica) sources ≡ replicas
-  pub fresh : All IsFreshSource sources
+  pub fresh : AllAt IsFreshSource sources
 
 -- nothing changed but what is known of its logs
 pub record SameButLogs (old new : SourceKnown) : Type 0 where
@@ -121,38 +133,25 @@ pub record IsNoted (old new : SourceKnown) (i : ℕ) (p : NewPart) (report : Sou
 
 -- ---- what else is noted of a source
 
--- it went back once more in this round and at this second, when it had this
+-- it went back once more in this round and at this second, when it had this, and nothing else changed
 pub record IsBack (old new : SourceKnown) (i round second : ℕ) (had : Option Extent) (heard : Option News) : Type 0 where
-  pub back : new.back ≡ Some (back_then old.back second had)
-  pub times_back : new.times_back ≡ min (old.times_back + 1) (2 ^ 64 - 1)
-  pub told : new.back_told ≡ round
+  pub changed : new ≡ record old { back = Some (back_then old.back second had); times_back = min (old.times_back + 1) (2 ^ 64 - 1); back_told = round }
   pub heard_is : heard ≡ back_told i old.replica old.back_told round
-  pub bad : new.bad ≡ old.bad
-  pub status : new.status ≡ old.status
-  pub replica : new.replica ≡ old.replica
 
 -- it gives this of a log, and nothing else changed
 abbrev pub IsGiven : (old new : SourceKnown) → Extent → Type 0
 IsGiven old new given = new ≡ record old { back = back_after old.back given }
 
--- it gave one log too many
+-- it gave one log too many, and nothing else changed
 pub record IsBeyond (old new : SourceKnown) (i : ℕ) (heard : Option News) : Type 0 where
-  pub beyond : new.is_beyond ≡ true
+  pub changed : new ≡ record old { is_beyond = true }
   pub heard_is : heard ≡ beyond_told i old.replica old.is_beyond
-  pub back : new.back ≡ old.back
-  pub bad : new.bad ≡ old.bad
-  pub status : new.status ≡ old.status
-  pub replica : new.replica ≡ old.replica
 
 -- the votes that are not good of what was kept of a log
 abbrev pub bad_of : Option LogKnown → List SignedVote
 bad_of None = []
 bad_of (Some l) = l.kept_bad.items
 
--- they are counted, each once of the source
-pub record AreKeptCounted (old new : SourceKnown) (i log : ℕ) (heard : List News) : Type 0 where
-  pub bad : GainsOnce old.bad.items new.bad.items (Contains (bad_of (slice_get old.logs.items log)))
-  pub heard_is : heard ≡ aside_told i old.replica (length old.bad.items) (length new.bad.items)
-  pub back : new.back ≡ old.back
-  pub status : new.status ≡ old.status
-  pub replica : new.replica ≡ old.replica
+-- they are counted, each once of the source, and nothing else changed
+abbrev pub AreKeptCounted : (old new : SourceKnown) → (i log : ℕ) → List News → Type 0
+AreKeptCounted old new i log heard = IsCountedIn old new i (bad_of (slice_get old.logs.items log)) [] heard

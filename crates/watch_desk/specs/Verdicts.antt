@@ -2,16 +2,11 @@
 use Rattle.std.specs.Prelude.{◌≡◌, ℕ, List, Bool, not, nat_eq, filter}
 use Rattle.std.specs.List.{list_any}
 use Rattle.verdict_format.specs.Proofs.{IsProof}
-use Rattle.verdict_format.specs.Verdicts.{earlier_in, later_in, replica_in, verdict_kind_in}
-use Rattle.watch_snapshot.specs.declared.snapshot.Pair.{Pair}
+use Rattle.verdict_format.specs.Verdicts.{replica_in}
 
 -- the bytes prove that this replica broke a rule
 abbrev pub IsVerdictOn : (committee : List ℕ) → ℕ → List ℕ → Type 0
 IsVerdictOn committee replica bytes = IsProof committee bytes × (replica_in bytes ≡ replica)
-
--- the rule that was broken, and the two votes that break it
-abbrev pub pair_in : List ℕ → Pair
-pair_in bytes = record { rule = verdict_kind_in bytes; earlier = earlier_in bytes; later = later_in bytes }
 
 -- whether one of the verdicts is on the replica
 abbrev pub is_named : List (List ℕ) → ℕ → Bool

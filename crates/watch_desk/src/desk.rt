@@ -1,10 +1,12 @@
 //! The desk.
 
-ghost use Rattle.std.specs.Prelude.{◌≡◌, ◌<◌, ◌↔◌, ℕ, List, IfOk, IsTrue, OnErr, Some, length, map, slice_get, slice_index_or};
-ghost use Rattle.std.specs.List.{All};
+ghost use Rattle.std.specs.Prelude.{◌≡◌, ◌<◌, ◌↔◌, ℕ, List, IfErr, IfOk, IsTrue, OnErr, Some, length, map, slice_get, slice_index_or};
+ghost use Rattle.std.specs.List.{All, Contains};
 ghost use Rattle.verdict_format.specs.Proofs.{IsProof};
+ghost use Rattle.evidence.specs.Gathering.{IsGatheringRefusal};
 ghost use Rattle.watch_collector.specs.Collectors.{IsCollected, MayFollow, unread_log};
 ghost use Rattle.evidence.specs.Logs.{ReceivedLog};
+ghost use Rattle.culprit_search.specs.Found.{IsSearchOf};
 ghost use Rattle.watch_collector.specs.Audits.{IsAuditOfLogs};
 ghost use Rattle.watch_desk.specs.Hearing.{IsHeard};
 ghost use Rattle.watch_desk.specs.Desks.{told_first};
@@ -18,13 +20,13 @@ use crate::source::{NewPart, SourceKnown};
 use crate::told::{Heard, Told};
 use crate::votes::bad_votes;
 use blocks::CommitteeView;
-use culprit_search::Report;
+use culprit_search::{Report, Searched};
 use evidence::{Evidence, EvidenceRefusal, SourceReport};
 use shared_values::Shared;
 use std::alloc::{AllocError, Global};
 use std::marker::Model;
 use std::thread::Threads;
-use watch_collector::{Collector, audit_so_far};
+use watch_collector::{AuditSoFar, Collector, audit_so_far};
 
 /// What came so far of the sources of a watch, and what was told of it. Contracts see what the collector knows, what is known of
 /// each source, and what was told. Each verdict that it knows is a proof under its committee.
@@ -68,6 +70,8 @@ fn report_at(reports: &[SourceReport], number: usize) -> SourceReport
 pub struct Audited<'c> {
     /// The evidence that was audited.
     pub evidence: Evidence<'c>,
+    /// What was searched in it.
+    pub searched: Searched,
     /// What it proves.
     pub report: Report,
     /// What is new of that, in the order in which it is told.
@@ -150,7 +154,9 @@ impl<'c> Desk<'c> {
         requires follows { MayFollow
             (slice_index_or self.old.collected.reports number new.now.part.report)
             new.now.part.report }
-        ensures { IfOk result (λ news. IsAddedAt self.old self.new i number new.now news.items) }
+        ensures ok { IfOk result (λ news. IsAddedAt self.old self.new i number new.now news.items) }
+        ensures refused { IfErr result (IsGatheringRefusal self.old.collected.gathered
+            (Contains new.now.part.listing.headers)) }
     {
         let _bad = self.collector.add(rt, self.alloc, number, &new.part)?;
         let report = report_at(self.collector.reports(), number);
@@ -161,7 +167,7 @@ impl<'c> Desk<'c> {
 
     /// Takes a part of a log of a source, and answers what is told of it. It is added behind what came of that log before, where
     /// it goes on there; a part that does not changes nothing. Each vote that no log named before is checked, in as many threads
-    /// as there are processors. After a refusal a part of it may have been added.
+    /// as there are processors. After a refusal, of memory or since two headers have one id, a part of it may have been added.
     pub fn take<R: Threads + Sync>(
         &mut self,
         rt: &R,
@@ -169,7 +175,10 @@ impl<'c> Desk<'c> {
         new: &NewPart<'c>,
     ) -> Result<Vec<News>, EvidenceRefusal>
         requires { i < length self.old.sources }
-        ensures { IfOk result (λ news. IsTaken self.old self.new i new.now news.items) }
+        ensures ok { IfOk result (λ news. IsTaken self.old self.new i new.now news.items) }
+        // Two headers have one id: of what came so far, and of the part.
+        ensures refused { IfErr result (IsGatheringRefusal self.old.collected.gathered
+            (Contains new.now.part.listing.headers)) }
     {
         let number = self.number_of(i, new.log)?;
         if !self.collector.takes(number, &new.part) {
@@ -183,18 +192,25 @@ impl<'c> Desk<'c> {
         ensures audit { IfOk result (λ a. (committee : List ℕ) (logs : List ReceivedLog)
             → IsCollected committee logs self.old.collected
             → IsAuditOfLogs committee logs a.evidence a.report) }
+        ensures searched { IfOk result (λ a. IsSearchOf a.evidence a.searched) }
         ensures heard { IfOk result (λ a.
             IsHeard a.evidence a.report self.old.told self.new.told a.news.items) }
         ensures collected { self.new.collected ≡ self.old.collected }
         ensures sources { self.new.sources ≡ self.old.sources }
         ensures err { OnErr result (self.new ≡ self.old) }
     {
-        let (evidence, report) = audit_so_far(self.alloc, &self.collector)?;
-        let heard = self.told.hear(self.alloc, &evidence, &report)?;
+        let audit = audit_so_far(self.alloc, &self.collector)?;
+        let AuditSoFar {
+            evidence,
+            searched,
+            report,
+        } = audit;
+        let heard = self.told.hear(self.alloc, &searched, &report)?;
         let Heard { told, news } = heard;
         self.told = told;
         Ok(Audited {
             evidence,
+            searched,
             report,
             news,
         })
@@ -240,6 +256,13 @@ impl<'c> Desk<'c> {
     {
         let news = self.sources[i].count_kept(self.alloc, i, log)?;
         Ok(news)
+    }
+
+    // The committee that it audits.
+    pub(crate) fn committee(&self) -> CommitteeView<'c>
+        ensures { result ≡ self.now.collected.gathered.committee }
+    {
+        self.collector.committee()
     }
 
     /// What is known of a source.

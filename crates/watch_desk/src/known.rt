@@ -1,8 +1,9 @@
 //! The verdicts that a watch knows.
 
-ghost use Rattle.std.specs.Prelude.{◌≡◌, IfOk, IfSome, MatchOption};
+ghost use Rattle.std.specs.Prelude.{◌≡◌, IfOk, MatchOption};
 ghost use Rattle.verdict_format.specs.Verdicts.{earlier_in, later_in, replica_in, verdict_kind_in};
-ghost use Rattle.watch_desk.specs.Verdicts.{IsVerdictOn, is_named, pair_in, unnamed};
+ghost use Rattle.watch_snapshot.specs.Proved.{pair_in};
+ghost use Rattle.watch_desk.specs.Verdicts.{IsVerdictOn, is_named, unnamed};
 
 use blocks::{Ballot, CommitteeView};
 use culprit_search::Verdict;
@@ -10,27 +11,28 @@ use shared_values::Shared;
 use std::alloc::{AllocError, Global};
 use std::marker::Model;
 use verdict_checker::check;
+use verdict_format::VerdictView;
 use watch_snapshot::Pair;
 
 /// A verdict that a watch knows, of an audit or of a file that was there at the start. Contracts see its bytes.
 #[derive(Drop)]
 pub struct KnownVerdict {
     replica: u16,
-    pair: Option<Pair>,
+    pair: Pair,
     bytes: Vec<u8>,
 }
 
 impl Model for KnownVerdict {
-    ghost use Rattle.std.specs.Prelude.{◌≡◌, ℕ, List, IfSome};
+    ghost use Rattle.std.specs.Prelude.{◌≡◌, ℕ, List};
     ghost use Rattle.verdict_format.specs.Verdicts.{replica_in};
-    ghost use Rattle.watch_desk.specs.Verdicts.{pair_in};
+    ghost use Rattle.watch_snapshot.specs.Proved.{pair_in};
 
     ghost Value = { List ℕ };
 
     ghost view = { λ v. v.bytes.items };
 
     ghost invariant = { λ v. (v.replica ≡ replica_in v.bytes.items)
-        × IfSome v.pair (λ p. p ≡ pair_in v.bytes.items) };
+        × (v.pair ≡ pair_in v.bytes.items) };
 }
 
 // The two votes that a verdict is of.
@@ -53,6 +55,18 @@ fn pair_of(verdict: &Verdict) -> Pair
     }
 }
 
+// .. and those that bytes are of.
+fn pair_read(view: &VerdictView) -> Pair
+    ensures { result ≡ pair_in view.now }
+{
+    let rule = view.rule();
+    Pair {
+        rule: rule.number(),
+        earlier: view.earlier().ballot(),
+        later: view.later().ballot(),
+    }
+}
+
 impl KnownVerdict {
     /// A verdict of an audit.
     pub fn of(alloc: Global, verdict: &Verdict) -> Result<KnownVerdict, AllocError>
@@ -60,7 +74,7 @@ impl KnownVerdict {
     {
         Ok(KnownVerdict {
             replica: verdict.replica(),
-            pair: Some(pair_of(verdict)),
+            pair: pair_of(verdict),
             bytes: verdict.as_bytes().to_vec(alloc)?,
         })
     }
@@ -72,87 +86,11 @@ impl KnownVerdict {
         self.replica
     }
 
-    /// By which votes; none where its file was there at the start.
-    pub fn pair(&self) -> Option<Pair>
-        ensures { IfSome result (λ p. p ≡ pair_in self.now) }
+    /// Which rule it broke, and by which votes.
+    pub fn pair(&self) -> Pair
+        ensures { result ≡ pair_in self.now }
     {
         self.pair
-    }
-
-    /// The bytes.
-    pub fn as_bytes(&self) -> &[u8]
-        ensures { result.now ≡ self.now }
-    {
-        self.bytes.as_slice()
-    }
-}
-
-/// The verdict that these bytes of a file are, where they are one on this replica that the checker accepts.
-pub fn judge_kept(committee: &CommitteeView, replica: u16, bytes: Vec<u8>) -> Option<KnownVerdict>
-    ensures { MatchOption result (IsVerdictOn committee.now replica bytes.items → ⊥)
-        (λ v. (v ≡ bytes.items) × IsVerdictOn committee.now replica v) }
-{
-    match check(committee, &bytes) {
-        Ok(finding) if finding.replica == replica => Some(KnownVerdict {
-            replica,
-            pair: None,
-            bytes,
-        }),
-        _ => None,
-    }
-}
-
-/// A verdict that an audit found, and the votes that it is of. Contracts see its bytes.
-#[derive(Drop)]
-pub struct FoundVerdict {
-    verdict: Shared<KnownVerdict>,
-    pair: Pair,
-}
-
-impl Model for FoundVerdict {
-    ghost use Rattle.std.specs.Prelude.{◌≡◌, ℕ, List};
-    ghost use Rattle.watch_desk.specs.Verdicts.{pair_in};
-
-    ghost Value = { List ℕ };
-
-    ghost view = { λ f. f.verdict };
-
-    ghost invariant = { λ f. f.pair ≡ pair_in f.verdict };
-}
-
-impl FoundVerdict {
-    /// A verdict of an audit.
-    pub fn of(alloc: Global, verdict: &Verdict) -> Result<FoundVerdict, AllocError>
-        ensures { IfOk result (λ f. f ≡ verdict.now) }
-    {
-        Ok(FoundVerdict {
-            verdict: Shared::new(alloc, KnownVerdict::of(alloc, verdict)?)?,
-            pair: pair_of(verdict),
-        })
-    }
-
-    /// The same verdict, with one more owner.
-    pub fn again(&self) -> Result<FoundVerdict, AllocError>
-        ensures { IfOk result (λ f. f ≡ self.now) }
-    {
-        Ok(FoundVerdict {
-            verdict: self.verdict.again()?,
-            pair: self.pair,
-        })
-    }
-
-    /// The verdict.
-    pub fn known(&self) -> &Shared<KnownVerdict>
-        ensures { result.now ≡ self.now }
-    {
-        &self.verdict
-    }
-
-    /// The number of the accused replica.
-    pub fn replica(&self) -> u16
-        ensures { result ≡ replica_in self.now }
-    {
-        self.verdict.get().replica()
     }
 
     /// The number of the rule that it broke.
@@ -175,6 +113,32 @@ impl FoundVerdict {
     {
         self.pair.later.view
     }
+
+    /// The bytes.
+    pub fn as_bytes(&self) -> &[u8]
+        ensures { result.now ≡ self.now }
+    {
+        self.bytes.as_slice()
+    }
+}
+
+/// The verdict that these bytes of a file are, where they are one on this replica that the checker accepts.
+pub fn judge_kept(committee: &CommitteeView, replica: u16, bytes: Vec<u8>) -> Option<KnownVerdict>
+    ensures { MatchOption result (IsVerdictOn committee.now replica bytes.items → ⊥)
+        (λ v. (v ≡ bytes.items) × IsVerdictOn committee.now replica v) }
+{
+    let pair = match VerdictView::parse(&bytes) {
+        Ok(view) => pair_read(&view),
+        Err(_) => return None,
+    };
+    match check(committee, &bytes) {
+        Ok(finding) if finding.replica == replica => Some(KnownVerdict {
+            replica,
+            pair,
+            bytes,
+        }),
+        _ => None,
+    }
 }
 
 /// Whether one of the verdicts is on the replica.
@@ -189,13 +153,14 @@ pub(crate) fn unnamed(
     alloc: Global,
     known: &[Shared<KnownVerdict>],
     verdicts: &[Verdict],
-) -> Result<Vec<FoundVerdict>, AllocError>
+) -> Result<Vec<Shared<KnownVerdict>>, AllocError>
     ensures { IfOk result (λ found. found.items ≡ unnamed known.now verdicts.now) }
 {
     let mut found = Vec::new(alloc);
     for verdict in verdicts {
         if !is_named(known, verdict.replica()) {
-            found.push(FoundVerdict::of(alloc, verdict)?)?;
+            let new = KnownVerdict::of(alloc, verdict)?;
+            found.push(Shared::new(alloc, new)?)?;
         }
     }
     Ok(found)

@@ -19,7 +19,7 @@ mod votes;
 pub use back::{Back, Extent};
 pub use desk::{Audited, Desk};
 pub use kept::KeptVerdicts;
-pub use known::{FoundVerdict, KnownVerdict, judge_kept};
+pub use known::{KnownVerdict, judge_kept};
 pub use laws::{a_desk_names_just_the_culprits, nothing_is_told_twice, what_is_served_is_a_proof};
 pub use lines::put_news;
 pub use news::News;

@@ -4,7 +4,7 @@ ghost use Rattle.std.specs.Prelude.{◌≡◌, ◌++◌, OnOk};
 ghost use Rattle.watch_desk.specs.DeskLines.{commits_news, handover_news, news_line, payload_text, verdict_views_text};
 ghost use Rattle.watch_lines.specs.WatchLines.{culprit_news};
 
-use crate::known::FoundVerdict;
+use crate::known::KnownVerdict;
 use crate::news::News;
 use blocks::NamedHeader;
 use culprit_search::Commit;
@@ -16,7 +16,7 @@ use wire::append;
 
 // Adds the rule, the views and the path of a verdict.
 #[tactic(auto, unfolding(crate::specs::DeskLines::verdict_views_text))]
-fn put_views(text: &mut Vec<u8>, found: &FoundVerdict, path: &[u8]) -> Result<(), AllocError>
+fn put_views(text: &mut Vec<u8>, found: &KnownVerdict, path: &[u8]) -> Result<(), AllocError>
     ensures { OnOk result (text.new.items
         ≡ text.old.items ++ verdict_views_text found.now path.now) }
 {
@@ -35,7 +35,7 @@ fn put_views(text: &mut Vec<u8>, found: &FoundVerdict, path: &[u8]) -> Result<()
 fn put_culprit(
     text: &mut Vec<u8>,
     stamp: &[u8],
-    found: &FoundVerdict,
+    found: &KnownVerdict,
     path: &[u8],
 ) -> Result<(), AllocError>
     ensures { OnOk result (text.new.items
@@ -112,7 +112,7 @@ pub fn put_news(
 {
     match news {
         News::Conflict(conflict) => put_conflict(text, stamp, conflict),
-        News::Culprit(found) => put_culprit(text, stamp, found, path),
+        News::Culprit(found) => put_culprit(text, stamp, found.get(), path),
         News::Handover(block, after) => put_handover(text, stamp, block, *after),
         News::Commits(count, first) => put_commits(text, stamp, *count, first),
         News::Commit(commit) => put_commit(text, stamp, commit),

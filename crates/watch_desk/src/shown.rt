@@ -1,7 +1,10 @@
 //! What a watch knew at one moment.
 
-ghost use Rattle.std.specs.Prelude.{◌≡◌, IfOk, drop, length, map};
-ghost use Rattle.watch_desk.specs.Shown.{IsSnapshotOf, commit_shown, conflict_shown, culprit_facts, known_facts, last_commits, seen_facts, verdict_facts, weight_in};
+ghost use Rattle.std.specs.Prelude.{◌≡◌, IfOk, Some, drop, length, map, slice_get, sum_by};
+ghost use Rattle.std.specs.List.{All};
+ghost use Rattle.watch_snapshot.specs.Proved.{IsProved};
+ghost use Rattle.watch_desk.specs.Shown.{AreAccepted, IsShownAt, IsSnapshotOf, IsSnapshotUnder, IsFiledAt, capped, commit_shown, conflict_shown, culprit_facts, entries_in, entries_of, frames_in, frames_of, known_facts, last_commits, place_rest, seen_facts, verdict_facts, verdict_rest, weight_in};
+ghost use Rattle.watch_desk.specs.Taking.{AllAt};
 
 use crate::back::back_at;
 use crate::commits::MOST_COMMITS;
@@ -13,7 +16,7 @@ use culprit_search::{Commit, Conflict};
 use evidence::SourceReport;
 use shared_values::Shared;
 use std::alloc::{AllocError, Global};
-use watch_snapshot::{Culprit, Fork, Snapshot, SourceSeen};
+use watch_snapshot::{Culprit, Fork, ProvedVerdict, Snapshot, SourceSeen};
 
 /// When something was last so of a source, or since when it is. Times are seconds since 1970, 0 where there was none.
 #[derive(Clone, Copy, Debug, PartialEq, Eq)]
@@ -28,6 +31,8 @@ pub struct SourceTimes {
     pub bad: u64,
     /// Since when it is set aside.
     pub aside: u64,
+    /// Since when it gives one log too many.
+    pub beyond: u64,
 }
 
 // .. of a source of which nothing came.
@@ -37,6 +42,7 @@ const NO_TIMES: SourceTimes = SourceTimes {
     status: 0,
     bad: 0,
     aside: 0,
+    beyond: 0,
 };
 
 /// What a watch knows of a source besides what came of it.
@@ -110,30 +116,50 @@ fn weight_in(committee: &CommitteeView, replica: u16) -> u64
     }
 }
 
+// How many frames and entries came of the log of this number.
+fn counts_at(reports: &[SourceReport], number: usize) -> (u64, u64)
+    ensures frames { result.0 ≡ frames_in (slice_get reports.now number) }
+    ensures entries { result.1 ≡ entries_in (slice_get reports.now number) }
+{
+    match reports.get(number) {
+        Some(report) => (report.frames as u64, report.entries as u64),
+        None => (0, 0),
+    }
+}
+
 // How many frames and entries came of these logs.
-fn counts_of(reports: &[SourceReport], logs: &[LogKnown]) -> (u64, u64) {
+fn counts_of(reports: &[SourceReport], logs: &[LogKnown]) -> (u64, u64)
+    ensures frames { result.0 ≡ capped (sum_by (frames_of reports.now) logs.now) }
+    ensures entries { result.1 ≡ capped (sum_by (entries_of reports.now) logs.now) }
+{
     let mut frames: u64 = 0;
     let mut entries: u64 = 0;
     for log in logs {
-        if let Some(report) = reports.get(log.number) {
-            frames = frames.saturating_add(report.frames as u64);
-            entries = entries.saturating_add(report.entries as u64);
-        }
+        let here = counts_at(reports, log.number);
+        frames = frames.saturating_add(here.0);
+        entries = entries.saturating_add(here.1);
     }
     (frames, entries)
 }
 
-// The word of a source, whether it is a file, and its times.
-fn place_of(
-    alloc: Global,
-    place: Option<&SourcePlace>,
-) -> Result<(String, bool, SourceTimes), AllocError> {
-    match place {
+// What a watch knows of the source at this place.
+fn place_at(alloc: Global, places: &[SourcePlace], i: usize) -> Result<SourcePlace, AllocError>
+    ensures { IfOk result (λ p. place_rest (Some p) ≡ place_rest (slice_get places.now i)) }
+{
+    match places.get(i) {
         Some(place) => {
             let word = String::from_str(alloc, &place.word)?;
-            Ok((word, place.is_file, place.times))
+            Ok(SourcePlace {
+                word,
+                is_file: place.is_file,
+                times: place.times,
+            })
         }
-        None => Ok((String::new(alloc), false, NO_TIMES)),
+        None => Ok(SourcePlace {
+            word: String::new(alloc),
+            is_file: false,
+            times: NO_TIMES,
+        }),
     }
 }
 
@@ -142,11 +168,16 @@ fn source_seen(
     i: usize,
     known: &SourceKnown,
     reports: &[SourceReport],
-    place: Option<&SourcePlace>,
+    places: &[SourcePlace],
 ) -> Result<SourceSeen, AllocError>
-    ensures { IfOk result (λ s. seen_facts s ≡ known_facts known.now) }
+    ensures facts { IfOk result (λ s. seen_facts s ≡ known_facts reports.now known.now) }
+    ensures placed { IfOk result (IsShownAt places.now i) }
 {
-    let (word, is_file, times) = place_of(alloc, place)?;
+    let SourcePlace {
+        word,
+        is_file,
+        times,
+    } = place_at(alloc, places, i)?;
     let (frames, entries) = counts_of(reports, &known.logs);
     Ok(SourceSeen {
         number: u16::try_from(i).unwrap_or(u16::MAX),
@@ -168,6 +199,7 @@ fn source_seen(
         status_since: times.status,
         bad_since: times.bad,
         aside_since: times.aside,
+        beyond_since: times.beyond,
     })
 }
 
@@ -177,44 +209,65 @@ fn sources_seen(
     reports: &[SourceReport],
     places: &[SourcePlace],
 ) -> Result<Vec<SourceSeen>, AllocError>
-    ensures { IfOk result (λ seen. map seen_facts seen.items ≡ map known_facts sources.now) }
+    ensures facts { IfOk result (λ seen.
+        map seen_facts seen.items ≡ map (known_facts reports.now) sources.now) }
+    ensures placed { IfOk result (λ seen. AllAt (IsShownAt places.now) seen.items) }
 {
     let mut seen = Vec::new(alloc);
     for i in 0..sources.len() {
-        let source = source_seen(alloc, i, &sources[i], reports, places.get(i))?;
+        let source = source_seen(alloc, i, &sources[i], reports, places)?;
         seen.push(source)?;
     }
     Ok(seen)
 }
 
-// The path of a verdict, whether it is not stored there, and since when it is known.
-fn path_of(alloc: Global, place: Option<&VerdictPlace>) -> Result<(String, bool, u64), AllocError> {
-    match place {
+// Where the file of the verdict at this place is.
+fn verdict_place(
+    alloc: Global,
+    places: &[VerdictPlace],
+    i: usize,
+) -> Result<VerdictPlace, AllocError>
+    ensures { IfOk result (λ p. verdict_rest (Some p) ≡ verdict_rest (slice_get places.now i)) }
+{
+    match places.get(i) {
         Some(place) => {
             let path = String::from_str(alloc, &place.path)?;
-            Ok((path, place.is_unstored, place.since))
+            Ok(VerdictPlace {
+                path,
+                is_unstored: place.is_unstored,
+                since: place.since,
+            })
         }
-        None => Ok((String::new(alloc), true, 0)),
+        None => Ok(VerdictPlace {
+            path: String::new(alloc),
+            is_unstored: true,
+            since: 0,
+        }),
     }
 }
 
 fn culprit_seen(
     alloc: Global,
+    i: usize,
     committee: &CommitteeView,
     known: &KnownVerdict,
-    place: Option<&VerdictPlace>,
+    places: &[VerdictPlace],
 ) -> Result<Culprit, AllocError>
-    ensures { IfOk result (λ c. culprit_facts c ≡ verdict_facts committee.now known.now) }
+    requires { IsProved known.now }
+    ensures facts { IfOk result (λ c. culprit_facts c ≡ verdict_facts committee.now known.now) }
+    ensures stored { IfOk result (IsFiledAt places.now i) }
 {
-    let (path, is_unstored, since) = path_of(alloc, place)?;
+    let VerdictPlace {
+        path,
+        is_unstored,
+        since,
+    } = verdict_place(alloc, places, i)?;
     let replica = known.replica();
     let weight = weight_in(committee, replica);
-    let verdict = known.as_bytes().to_vec(alloc)?;
+    let verdict = ProvedVerdict::copy_of(alloc, replica, known.pair(), known.as_bytes())?;
     Ok(Culprit {
-        replica,
-        weight,
-        pair: known.pair(),
         verdict,
+        weight,
         path,
         is_unstored,
         since,
@@ -227,12 +280,14 @@ fn culprits_seen(
     verdicts: &[Shared<KnownVerdict>],
     places: &[VerdictPlace],
 ) -> Result<Vec<Culprit>, AllocError>
-    ensures { IfOk result (λ seen.
+    requires { All IsProved verdicts.now }
+    ensures facts { IfOk result (λ seen.
         map culprit_facts seen.items ≡ map (verdict_facts committee.now) verdicts.now) }
+    ensures stored { IfOk result (λ seen. AllAt (IsFiledAt places.now) seen.items) }
 {
     let mut seen = Vec::new(alloc);
     for i in 0..verdicts.len() {
-        let culprit = culprit_seen(alloc, committee, verdicts[i].get(), places.get(i))?;
+        let culprit = culprit_seen(alloc, i, committee, verdicts[i].get(), places)?;
         seen.push(culprit)?;
     }
     Ok(seen)
@@ -275,7 +330,9 @@ fn conflict_shown(conflict: Option<Conflict>) -> Option<Fork>
 }
 
 // How much these count together.
-fn weight_together(culprits: &[Culprit]) -> u64 {
+fn weight_together(culprits: &[Culprit]) -> u64
+    ensures { result ≡ capped (sum_by (λ c. c.weight) culprits.now) }
+{
     let mut weight: u64 = 0;
     for culprit in culprits {
         weight = weight.saturating_add(culprit.weight);
@@ -283,15 +340,16 @@ fn weight_together(culprits: &[Culprit]) -> u64 {
     weight
 }
 
-/// All that a watch may tell of what its desk knows, at this moment. The verdicts have these places, in the order of the desk's.
-pub fn snapshot_of(
+// .. with the weights of this committee.
+fn snapshot_under(
     alloc: Global,
     committee: &CommitteeView,
     desk: &Desk,
     places: &[VerdictPlace],
     moment: Moment,
 ) -> Result<Snapshot, AllocError>
-    ensures { IfOk result (IsSnapshotOf committee.now desk.now moment) }
+    ensures exact { IfOk result (IsSnapshotUnder committee.now desk.now places.now moment) }
+    ensures accepted { IfOk result (AreAccepted desk.now.collected.gathered.committee) }
 {
     let Moment {
         name,
@@ -344,4 +402,18 @@ pub fn snapshot_of(
         total: committee.total(),
         picture,
     })
+}
+
+/// All that a watch may tell of what its desk knows, at this moment. The verdicts have these places, in the order of the desk's;
+/// each is a proof under the committee that the desk audits.
+pub fn snapshot_of(
+    alloc: Global,
+    desk: &Desk,
+    places: &[VerdictPlace],
+    moment: Moment,
+) -> Result<Snapshot, AllocError>
+    ensures exact { IfOk result (IsSnapshotOf desk.now places.now moment) }
+    ensures accepted { IfOk result (AreAccepted desk.now.collected.gathered.committee) }
+{
+    snapshot_under(alloc, &desk.committee(), desk, places, moment)
 }

@@ -154,7 +154,7 @@ fn tell_aside(
 impl SourceKnown {
     /// Nothing came of a source yet, whose first log has this number.
     pub(crate) fn new(alloc: Global, replica: u16, number: usize) -> Result<SourceKnown, AllocError>
-        ensures fresh { IfOk result IsFreshSource }
+        ensures fresh { IfOk result (IsFreshSource number) }
         ensures replica { IfOk result (λ s. s.replica ≡ replica) }
     {
         let mut logs = Vec::new(alloc);

@@ -2,20 +2,19 @@
 
 ghost use Rattle.std.specs.Prelude.{◌≡◌, ◌++◌, [], IfOk, IfSome, IsSome, None, OnOk, false};
 ghost use Rattle.watch_desk.specs.News.{conflict_told, culprits_told, handover_told, is_conflict};
-ghost use Rattle.commit_search.specs.Chosen.{AreCertifiedHeaders};
-ghost use Rattle.evidence.specs.Evidence.{IsEvidence};
+ghost use Rattle.std.specs.List.{All, Contains};
+ghost use Rattle.ancestry.specs.Known.{all_of};
+ghost use Rattle.culprit_search.specs.Found.{IsSearchOf};
+ghost use Rattle.evidence.specs.Evidence.{Evidence as EvidenceValue};
 ghost use Rattle.watch_desk.specs.Hearing.{IsHeard, MayBeHandover, heard_news};
 ghost use Rattle.watch_desk.specs.Verdicts.{unnamed};
 
 use crate::certified::highest;
 use crate::commits::{new_commits, tell_commits};
-use crate::known::{FoundVerdict, KnownVerdict, unnamed};
+use crate::known::{KnownVerdict, unnamed};
 use crate::news::News;
-use ancestry::Ancestry;
 use blocks::NamedHeader;
-use commit_search::certified_chains;
-use culprit_search::{Commit, Conflict, Report};
-use evidence::Evidence;
+use culprit_search::{Commit, Conflict, Report, Searched};
 use handover_lines::{commits_after, handover_in};
 use shared_values::Shared;
 use std::alloc::{AllocError, Global};
@@ -69,7 +68,7 @@ fn tell_conflict(
     Ok(())
 }
 
-fn tell_culprits(news: &mut Vec<News>, found: &[FoundVerdict]) -> Result<(), AllocError>
+fn tell_culprits(news: &mut Vec<News>, found: &[Shared<KnownVerdict>]) -> Result<(), AllocError>
     ensures { OnOk result (news.new.items ≡ news.old.items ++ culprits_told found.now) }
 {
     for verdict in found {
@@ -97,7 +96,7 @@ fn tell_handover(
 fn joined(
     alloc: Global,
     known: &[Shared<KnownVerdict>],
-    found: Vec<FoundVerdict>,
+    found: Vec<Shared<KnownVerdict>>,
 ) -> Result<Vec<Shared<KnownVerdict>>, AllocError>
     ensures { IfOk result (λ all. all.items ≡ known.now ++ found.items) }
 {
@@ -106,7 +105,7 @@ fn joined(
         all.push(verdict.again()?)?;
     }
     for more in found {
-        all.push(more.known().again()?)?;
+        all.push(more)?;
     }
     Ok(all)
 }
@@ -176,25 +175,18 @@ impl Told {
     }
 
     // The handover of an audit that is to be told.
-    fn handover(
-        &self,
-        alloc: Global,
-        evidence: &Evidence,
-        chains: &Ancestry,
-        report: &Report,
-    ) -> Result<Option<NamedHeader>, AllocError>
-        requires evidence { IsEvidence evidence.now }
-        requires chains { AreCertifiedHeaders evidence.now chains.now }
-        ensures { IfOk result (MayBeHandover evidence.now report.now self.now) }
+    fn handover(&self, searched: &Searched, report: &Report) -> Option<NamedHeader>
+        requires { All (Contains (all_of searched.now.chains)) searched.now.commits.items }
+        ensures { (e : EvidenceValue) → IsSearchOf e searched.now
+            → MayBeHandover e report.now self.now result }
     {
         if self.has_handover {
-            return Ok(None);
+            return None;
         }
-        if report.conflict().is_some() {
-            return Ok(None);
+        match report.conflict() {
+            Some(_) => None,
+            None => handover_in(searched),
         }
-        let found = handover_in(alloc, evidence, chains)?;
-        Ok(found)
     }
 
     // The news of an audit.
@@ -202,7 +194,7 @@ impl Told {
         &self,
         alloc: Global,
         report: &Report,
-        found: &[FoundVerdict],
+        found: &[Shared<KnownVerdict>],
         handover: Option<NamedHeader>,
     ) -> Result<Vec<News>, AllocError>
         requires { found.now ≡ unnamed self.now.verdicts report.now.verdicts }
@@ -217,19 +209,20 @@ impl Told {
         Ok(news)
     }
 
-    /// Hears an audit of evidence: what of it is new, and what is told with that.
+    /// Hears an audit of evidence, which was searched so: what of it is new, and what is told with that.
     pub fn hear(
         &self,
         alloc: Global,
-        evidence: &Evidence,
+        searched: &Searched,
         report: &Report,
     ) -> Result<Heard, AllocError>
-        ensures { IfOk result (λ h. IsHeard evidence.now report.now self.now h.told h.news.items) }
+        requires { All (Contains (all_of searched.now.chains)) searched.now.commits.items }
+        ensures { IfOk result (λ h. (e : EvidenceValue) → IsSearchOf e searched.now
+            → IsHeard e report.now self.now h.told h.news.items) }
     {
         let found = unnamed(alloc, &self.verdicts, report.verdicts())?;
-        let chains = certified_chains(alloc, evidence)?;
-        let certified = highest(chains.headers());
-        let handover = self.handover(alloc, evidence, &chains, report)?;
+        let certified = highest(searched.chains.headers());
+        let handover = self.handover(searched, report);
         let news = self.news(alloc, report, &found, handover)?;
         let told = Told {
             commits: report.commits().to_vec(alloc)?,

@@ -5,7 +5,6 @@ mod news;
 mod time;
 
 pub use news::{
-    put_commit, put_conflict, put_culprit, put_kept, put_lost, put_source, put_source_alarm,
-    put_unstored, stamp,
+    put_commit, put_conflict, put_kept, put_lost, put_source, put_source_alarm, put_unstored, stamp,
 };
 pub use time::utc_text;

@@ -1,9 +1,9 @@
 //! The lines of a watch.
 
 ghost use Rattle.std.specs.Prelude.{◌≡◌, ◌++◌, IfOk, OnOk};
-ghost use Rattle.watch_lines.specs.WatchLines.{commit_news, conflict_news, culprit_news, kept_news, log_text, lost_news, source_alarm, source_news, stamp_text, unstored_news};
+ghost use Rattle.watch_lines.specs.WatchLines.{commit_news, conflict_news, kept_news, log_text, lost_news, source_alarm, source_news, stamp_text, unstored_news};
 
-use culprit_search::{Commit, Conflict, Verdict};
+use culprit_search::{Commit, Conflict};
 use evidence::SourceReport;
 use printed_lines::{put_id, put_number};
 use std::alloc::{AllocError, Global};
@@ -46,31 +46,6 @@ pub fn put_conflict(text: &mut Vec<u8>, stamp: &[u8], conflict: &Conflict) -> Re
     put_id(text, &conflict.first)?;
     append(text, b" ")?;
     put_id(text, &conflict.second)?;
-    append(text, b"\n")
-}
-
-/// Adds the line of a culprit, with the path of the verdict.
-#[tactic(auto, unfolding(crate::specs::WatchLines::culprit_news))]
-pub fn put_culprit(
-    text: &mut Vec<u8>,
-    stamp: &[u8],
-    verdict: &Verdict,
-    path: &[u8],
-) -> Result<(), AllocError>
-    ensures { OnOk result (text.new.items
-        ≡ text.old.items ++ culprit_news stamp.now verdict.now path.now) }
-{
-    append(text, stamp)?;
-    append(text, b"culprit ")?;
-    put_number(text, verdict.replica())?;
-    append(text, b" rule ")?;
-    put_number(text, verdict.rule().number())?;
-    append(text, b" views ")?;
-    put_number(text, verdict.earlier_view())?;
-    append(text, b" ")?;
-    put_number(text, verdict.later_view())?;
-    append(text, b" ")?;
-    append(text, path)?;
     append(text, b"\n")
 }
 

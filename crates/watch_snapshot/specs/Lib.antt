@@ -1,3 +1,4 @@
+pub mod Proved
 pub mod Times
 pub mod Sources
 pub mod Standings

@@ -44,5 +44,6 @@ standing_of s second =
     else if nat_lt 0 (length s.culprits.items) then stands.Culprits
     else if list_any (is_back second) s.sources.items then stands.WentBack
     else if list_any (λ o. o.is_aside) s.sources.items then stands.SetAside
+    else if list_any (λ o. o.is_beyond) s.sources.items then stands.Beyond
     else if list_any has_bad_votes s.sources.items then stands.BadVotes
     else reading_of s second

@@ -6,6 +6,7 @@ ghost use Rattle.blocks.specs.Weights.{weight_of};
 ghost use Rattle.watch_snapshot.specs.Sources.{has_bad_votes, is_back};
 ghost use Rattle.watch_snapshot.specs.Standings.{answering_of, is_watched, reading_of, standing_of, unwatched_of};
 
+use crate::proved::ProvedVerdict;
 use crate::source::SourceSeen;
 use blocks::{Ballot, Id};
 
@@ -18,28 +19,13 @@ pub struct Fork {
     pub second: Id,
 }
 
-/// By which two votes a culprit broke a rule.
-#[derive(Clone, Copy, Debug, PartialEq, Eq)]
-pub struct Pair {
-    /// The number of the rule, 1 or 2.
-    pub rule: u8,
-    /// For which block it voted first.
-    pub earlier: Ballot,
-    /// For which it voted then.
-    pub later: Ballot,
-}
-
 /// A replica that broke a rule.
 #[derive(Drop)]
 pub struct Culprit {
-    /// The replica's number.
-    pub replica: u16,
-    /// How much it counts.
+    /// Its verdict, which tells its number.
+    pub verdict: ProvedVerdict,
+    /// How much the replica counts.
     pub weight: u64,
-    /// By which votes; none where its verdict was there before the watch began.
-    pub pair: Option<Pair>,
-    /// The bytes of its verdict.
-    pub verdict: Vec<u8>,
     /// Where the verdict's file is, or is to be.
     pub path: String,
     /// It could not be stored there yet.
@@ -118,6 +104,8 @@ pub enum Standing {
     WentBack,
     /// A source was set aside.
     SetAside,
+    /// A source gave one log too many.
+    Beyond,
     /// Votes of a source are not good.
     BadVotes,
     /// Something could not be stored.
@@ -184,6 +172,12 @@ impl Snapshot {
         self.sources.iter().any(|source| source.is_aside)
     }
 
+    fn has_beyond(&self) -> bool
+        ensures { result ≡ list_any (λ o. o.is_beyond) self.now.sources.items }
+    {
+        self.sources.iter().any(|source| source.is_beyond)
+    }
+
     /// The worst that holds of it at this second.
     #[tactic(auto, unfolding(crate::specs::Standings::standing_of))]
     pub fn standing(&self, second: u64) -> Standing
@@ -200,6 +194,9 @@ impl Snapshot {
         }
         if self.has_aside() {
             return Standing::SetAside;
+        }
+        if self.has_beyond() {
+            return Standing::Beyond;
         }
         if self.has_bad_votes() {
             return Standing::BadVotes;

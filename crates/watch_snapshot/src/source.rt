@@ -1,7 +1,7 @@
 //! A source as a watch saw it.
 
 ghost use Rattle.std.specs.Prelude.{◌≡◌};
-ghost use Rattle.watch_snapshot.specs.Sources.{answers, has_bad_votes, is_back, is_heard, is_whole, since_of, source_state_of};
+ghost use Rattle.watch_snapshot.specs.Sources.{answers, has_bad_votes, hearing_of, is_back, is_heard, is_whole, since_of, source_state_of};
 
 use crate::times::{is_late, lasts_back};
 use blocks::Id;
@@ -57,15 +57,19 @@ pub struct SourceSeen {
     pub bad_since: u64,
     /// Since when no more of it is read.
     pub aside_since: u64,
+    /// Since when it gives one log too many.
+    pub beyond_since: u64,
 }
 
 /// How a source does: the first that is so.
 #[derive(Clone, Copy, Debug, PartialEq, Eq)]
 pub enum SourceState {
-    /// No more of it is read.
-    Aside,
     /// It went back, and did not give all again that it had.
     Back,
+    /// No more of it is read.
+    Aside,
+    /// It gave one log too many, which is not read.
+    Beyond,
     /// Votes of it are not good.
     Bad,
     /// Its log came whole, and it answers.
@@ -89,12 +93,12 @@ impl SourceSeen {
         }
     }
 
-    /// Whether it answers: it is read, no vote of it is bad, what came last of it was whole, and of a server it is not too old at
-    /// this second.
+    /// Whether it answers: all of it is read, no vote of it is bad, what came last of it was whole, and of a server it is not too
+    /// old at this second.
     pub fn answers(&self, every: u32, second: u64) -> bool
         ensures { result ≡ answers every second self.now }
     {
-        if self.is_aside {
+        if self.is_aside || self.is_beyond {
             return false;
         }
         if self.has_bad_votes() {
@@ -126,7 +130,8 @@ impl SourceSeen {
         lasts_back(self.went_back_at, second)
     }
 
-    pub(crate) fn has_bad_votes(&self) -> bool
+    /// Whether a vote of it is not good.
+    pub fn has_bad_votes(&self) -> bool
         ensures { result ≡ has_bad_votes self.now }
     {
         0 < self.bad_votes
@@ -137,16 +142,27 @@ impl SourceSeen {
     pub fn state(&self, every: u32, second: u64) -> SourceState
         ensures { result ≡ source_state_of every second self.now }
     {
+        if self.is_back(second) {
+            return SourceState::Back;
+        }
         if self.is_aside {
             return SourceState::Aside;
         }
-        if self.is_back(second) {
-            return SourceState::Back;
+        if self.is_beyond {
+            return SourceState::Beyond;
         }
         if self.has_bad_votes() {
             return SourceState::Bad;
         }
-        if self.answers(every, second) {
+        self.hearing(every, second)
+    }
+
+    /// How it answers, whatever else is wrong with it.
+    #[tactic(auto, unfolding(crate::specs::Sources::hearing_of))]
+    pub fn hearing(&self, every: u32, second: u64) -> SourceState
+        ensures { result ≡ hearing_of every second self.now }
+    {
+        if self.is_heard(every, second) {
             return SourceState::Answers;
         }
         if self.is_whole() {
@@ -164,8 +180,9 @@ impl SourceSeen {
         ensures { result ≡ since_of state self.now }
     {
         match state {
-            SourceState::Aside => self.aside_since,
             SourceState::Back => self.went_back_at,
+            SourceState::Aside => self.aside_since,
+            SourceState::Beyond => self.beyond_since,
             SourceState::Bad => self.bad_since,
             SourceState::Answers | SourceState::Silent => self.last_answer,
             SourceState::Unread => 0,

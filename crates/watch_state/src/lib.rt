@@ -15,7 +15,6 @@ mod order;
 mod runs;
 mod seam;
 mod source_parts;
-mod storing;
 mod text;
 mod walk;
 
@@ -28,6 +27,5 @@ pub use order::put_in_order;
 pub use runs::{JOINED, MOST_OF_A_PART, shortest_run};
 pub use seam::Seam;
 pub use source_parts::{MANY_PARTS, SourceParts};
-pub use storing::store_new;
 pub use text::PartText;
 pub use walk::{Found, PartVisitor, visit_parts};

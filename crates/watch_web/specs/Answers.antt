@@ -9,9 +9,11 @@ use Rattle.http_server.specs.declared.response.Response.{Response}
 use Rattle.http_server.specs.Exchange.{Call as Exchanged}
 use Rattle.http_uri.specs.Uri.{uri_path}
 use Rattle.host_rule.specs.HostRules.{HasGoodHost}
+use Rattle.verdict_format.specs.Verdicts.{replica_in}
 use Rattle.watch_web.specs.Pages.{IsPage}
 use Rattle.watch_web.specs.Metrics.{metrics_text}
 use Rattle.watch_web.specs.Reports.{report_text}
+use Rattle.watch_snapshot.specs.Proved.{IsProved}
 use Rattle.watch_snapshot.specs.declared.snapshot.Culprit.{Culprit}
 use Rattle.watch_snapshot.specs.declared.snapshot.Snapshot.{Snapshot}
 use Rattle.watch_web.specs.Places.{place_in, verdict_path}
@@ -22,14 +24,15 @@ use Rattle.watch_web.specs.declared.writing.Kind.TheVariants as kind
 
 -- the first culprit whose verdict is at this path
 abbrev pub culprit_at : List ℕ → List Culprit → Option Culprit
-culprit_at path culprits = find (λ c. bytes_eq path (verdict_path c.replica)) culprits
+culprit_at path culprits = find (λ c. bytes_eq path (verdict_path (replica_in c.verdict))) culprits
 
 -- what is not there; the path is not told again
 abbrev pub IsNowhereTold : Response → Type 0
 IsNowhereTold response = IsTold 404 kind.Text (codes "no such page\n") response
 
+-- a verdict, which is a proof under the file of some committee
 abbrev pub IsVerdictTold : Option Culprit → Response → Type 0
-IsVerdictTold (Some c) response = IsTold 200 kind.Verdict c.verdict.items response
+IsVerdictTold (Some c) response = IsTold 200 kind.Verdict c.verdict response × IsProved c.verdict
 IsVerdictTold None response = IsNowhereTold response
 
 -- the picture, where there is one

@@ -38,6 +38,11 @@ state_text bytes most =
     codes "# HELP hs_watch_state_bytes How many bytes the files in DIR have.\n# TYPE hs_watch_state_bytes gauge\nhs_watch_state_bytes " ++ decimal bytes
     ++ codes "\n# HELP hs_watch_state_bytes_max How many they may have, or 0.\n# TYPE hs_watch_state_bytes_max gauge\nhs_watch_state_bytes_max " ++ decimal most ++ codes "\n"
 
+unfoldable pub kept_text : (kept read : ℕ) → List ℕ
+kept_text kept read =
+    codes "# HELP hs_watch_kept_files How many files with parts of logs were kept when the watch began.\n# TYPE hs_watch_kept_files gauge\nhs_watch_kept_files " ++ decimal kept
+    ++ codes "\n# HELP hs_watch_kept_files_read How many of them were read; they are audited once all were.\n# TYPE hs_watch_kept_files_read gauge\nhs_watch_kept_files_read " ++ decimal read ++ codes "\n"
+
 -- milliseconds as seconds with three decimals
 unfoldable pub seconds_text : ℕ → List ℕ
 seconds_text ms = decimal (ms / 1000) ++ codes "." ++ decimal (ms / 100 % 10) ++ decimal (ms / 10 % 10) ++ decimal (ms % 10)
@@ -110,7 +115,7 @@ progress_text sources = family_text Whole sources ++ family_text TopView sources
 unfoldable pub whole_text : Snapshot → List ℕ
 whole_text s =
     findings_text (length s.culprits.items) (number_of (is_some s.conflict)) (number_of s.has_handover) ++ commits_text s.commit_count
-    ++ losses_text (number_of s.is_unstored) s.lines_lost ++ state_text s.state_bytes s.state_bytes_max ++ rounds_text s.stamped s.took s.round ++ process_text s.started
+    ++ losses_text (number_of s.is_unstored) s.lines_lost ++ state_text s.state_bytes s.state_bytes_max ++ kept_text s.kept s.kept_read ++ rounds_text s.stamped s.took s.round ++ process_text s.started
 
 unfoldable pub metrics_text : Snapshot → List ℕ
 metrics_text s =

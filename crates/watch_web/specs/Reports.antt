@@ -7,9 +7,11 @@ use Rattle.log_format.specs.Readings.{status_name}
 use Rattle.log_format.specs.declared.status.Status.{Status}
 use Rattle.escaped_text.specs.Escapes.{escaped}
 use Rattle.escaped_text.specs.declared.Inside.TheVariants.{Json}
+use Rattle.verdict_format.specs.Verdicts.{replica_in}
+use Rattle.watch_snapshot.specs.Proved.{pair_in}
+use Rattle.watch_snapshot.specs.declared.proved.Pair.{Pair}
 use Rattle.watch_snapshot.specs.declared.snapshot.Culprit.{Culprit}
 use Rattle.watch_snapshot.specs.declared.snapshot.Fork.{Fork}
-use Rattle.watch_snapshot.specs.declared.snapshot.Pair.{Pair}
 use Rattle.watch_snapshot.specs.declared.snapshot.Snapshot.{Snapshot}
 use Rattle.watch_snapshot.specs.declared.source.SourceDigests.{SourceDigests}
 use Rattle.watch_snapshot.specs.declared.source.SourceSeen.{SourceSeen}
@@ -68,14 +70,13 @@ conflict_text (Some f) = codes "[\"" ++ encode_lower f.first ++ codes "\",\"" ++
 
 -- ---- culprits
 
--- the rule and the two votes; a verdict that was there before the watch began says them itself
-unfoldable pub pair_text : Option Pair → List ℕ
-pair_text None = codes "null,\"votes\":[]"
-pair_text (Some p) = decimal p.rule ++ codes ",\"votes\":[" ++ block_text p.earlier ++ codes "," ++ block_text p.later ++ codes "]"
+-- the rule and the two votes
+unfoldable pub pair_text : Pair → List ℕ
+pair_text p = decimal p.rule ++ codes ",\"votes\":[" ++ block_text p.earlier ++ codes "," ++ block_text p.later ++ codes "]"
 
 unfoldable pub culprit_text : Culprit → List ℕ
 culprit_text c =
-    codes "{\"replica\":" ++ decimal c.replica ++ codes ",\"rule\":" ++ pair_text c.pair
+    codes "{\"replica\":" ++ decimal (replica_in c.verdict) ++ codes ",\"rule\":" ++ pair_text (pair_in c.verdict)
     ++ codes ",\"path\":" ++ string_text (string_bytes c.path) ++ codes ",\"unstored\":" ++ bool_text c.is_unstored ++ codes "}"
 
 -- ---- the whole

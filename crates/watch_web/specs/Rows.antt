@@ -6,10 +6,12 @@ use Rattle.log_format.specs.Readings.{status_name}
 use Rattle.log_format.specs.declared.status.Status.{Status}
 use Rattle.escaped_text.specs.Escapes.{escaped}
 use Rattle.escaped_text.specs.declared.Inside.TheVariants.{Html}
+use Rattle.verdict_format.specs.Verdicts.{replica_in}
+use Rattle.watch_snapshot.specs.Proved.{pair_in}
 use Rattle.watch_snapshot.specs.Sources.{source_state_of}
+use Rattle.watch_snapshot.specs.declared.proved.Pair.{Pair}
 use Rattle.watch_snapshot.specs.declared.snapshot.Culprit.{Culprit}
 use Rattle.watch_snapshot.specs.declared.snapshot.Fork.{Fork}
-use Rattle.watch_snapshot.specs.declared.snapshot.Pair.{Pair}
 use Rattle.watch_snapshot.specs.declared.source.SourceSeen.{SourceSeen}
 use Rattle.watch_snapshot.specs.declared.source.SourceState.{SourceState}
 use Rattle.watch_snapshot.specs.declared.source.SourceState.TheVariants as does
@@ -31,15 +33,16 @@ bad_text bad = codes "votes that are not good: " ++ decimal bad ++ codes " (anot
 
 -- what there is to say of a source that does so
 unfoldable pub remark_text : SourceState → (bad_votes : ℕ) → List ℕ
-remark_text does.Aside bad = codes "set aside; " ++ bad_text bad
 remark_text does.Back bad = codes "went back"
+remark_text does.Aside bad = codes "set aside; " ++ bad_text bad
+remark_text does.Beyond bad = codes "went back, and gave a fifth log, which is not read"
 remark_text does.Bad bad = bad_text bad
 remark_text does.Answers bad = codes "answers"
 remark_text does.Silent bad = codes "silent"
 remark_text does.Unread bad = codes "not read yet"
 remark_text does.NotWhole bad = codes "no whole log"
 
--- how many views it is behind the source that has the greatest
+-- how many views it is behind the greatest view of a certified block
 unfoldable pub lag_text : (top view : ℕ) → List ℕ
 lag_text top view = decimal (top - view)
 
@@ -77,10 +80,6 @@ unfoldable pub pair_text : Pair → List ℕ
 pair_text p =
     codes " broke rule " ++ rule_text p.rule ++ codes ": votes in view " ++ decimal p.earlier.view ++ codes " and in view " ++ decimal p.later.view
 
-unfoldable pub votes_text : Option Pair → List ℕ
-votes_text None = codes " (its verdict was there before this watch began)"
-votes_text (Some p) = pair_text p
-
 unfoldable pub place_text : Culprit → List ℕ
 place_text c = if c.is_unstored then codes "not stored yet at " else codes "stored at "
 
@@ -90,5 +89,5 @@ link_text replica =
 
 unfoldable pub culprit_row : Culprit → List ℕ
 culprit_row c =
-    codes "<li>Replica " ++ decimal c.replica ++ votes_text c.pair ++ link_text c.replica ++ place_text c ++ codes "<code>"
+    codes "<li>Replica " ++ decimal (replica_in c.verdict) ++ pair_text (pair_in c.verdict) ++ link_text (replica_in c.verdict) ++ place_text c ++ codes "<code>"
     ++ shown (string_bytes c.path) ++ codes "</code></li>\n"

@@ -6,7 +6,7 @@ use Rattle.watch_web.specs.declared.words.Shares.{Shares}
 use Rattle.watch_snapshot.specs.Standings.{answering_of, unwatched_of}
 use Rattle.watch_snapshot.specs.declared.snapshot.Snapshot.{Snapshot}
 use Rattle.watch_snapshot.specs.declared.snapshot.Standing.{Standing}
-use Rattle.watch_snapshot.specs.declared.snapshot.Standing.TheVariants.{Conflict, Culprits, WentBack, SetAside, BadVotes, NotStored, ReadingKept, NothingRead, SomeAnswer, Unwatched, AllAnswer}
+use Rattle.watch_snapshot.specs.declared.snapshot.Standing.TheVariants.{Conflict, Culprits, WentBack, SetAside, Beyond, BadVotes, NotStored, ReadingKept, NothingRead, SomeAnswer, Unwatched, AllAnswer}
 
 -- so many of so many
 unfoldable pub share_text : (k m : ℕ) → List ℕ
@@ -27,6 +27,7 @@ state_text Conflict p = codes "Conflict: two commits disagree"
 state_text Culprits p = codes "Culprits were found"
 state_text WentBack p = codes "A log went back"
 state_text SetAside p = codes "A source was set aside"
+state_text Beyond p = codes "A source gave a fifth log"
 state_text BadVotes p = codes "Votes of a source are not good"
 state_text NotStored p = codes "Something is not stored"
 state_text ReadingKept p = codes "Reading kept logs"
@@ -41,6 +42,7 @@ level_of Conflict = Alarm
 level_of Culprits = Alarm
 level_of WentBack = Alarm
 level_of SetAside = Warning
+level_of Beyond = Warning
 level_of BadVotes = Warning
 level_of NotStored = Warning
 level_of ReadingKept = Warning
@@ -67,6 +69,7 @@ advice_text Conflict = codes "Two blocks are committed of which neither is the o
 advice_text Culprits = codes "Each verdict below shows by two signed votes that its replica broke a voting rule. Send it to the other operators, who check it with hs_check or check.html of their own copy of this project."
 advice_text WentBack = codes "A source gave less than it had given, or something else. This accuses nobody: what comes of a source is not signed by its replica. Ask the replica's operator whether a backup was put back: a replica that runs on one may vote twice without knowing it, and is to be stopped. This is shown until the source has given all again that it had, for an hour at most."
 advice_text SetAside = codes "64 votes of a source were not good: it is another committee's log, another replica's, or a liar's. Compare the chain id below with the other operators' and the word of the source with the committee's file."
+advice_text Beyond = codes "A source went back so often that it gave a fifth log, which is not read: what stands in it, this watch does not see. Ask the replica's operator what happened, and audit that log with hs_tool audit."
 advice_text BadVotes = codes "A log of a correct replica has no vote that is not good: this one is of another committee, or of another replica than its word says. Compare the chain id below with the other operators' and the word of the source with the committee's file."
 advice_text NotStored = codes "The disk of this watch is full, or has as much as it may hold, or a file stands where one is to be. The verdicts below can be fetched from this page."
 advice_text ReadingKept = codes "This watch has begun again, and reads what it kept before it asks a source. What it knew is shown once all of it was read."

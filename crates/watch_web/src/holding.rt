@@ -2,7 +2,7 @@
 
 ghost use Rattle.std.specs.Prelude.{◌≡◌, ◌++◌, OnOk};
 ghost use Rattle.std.specs.List.{flat_map};
-ghost use Rattle.watch_web.specs.Holding.{conflict_held, conflict_line, culprit_held, held_as, held_line, holding_text, name_of, names_below, source_held, unstored_held, unstored_line, unwatched_held, unwatched_line};
+ghost use Rattle.watch_web.specs.Holding.{conflict_held, conflict_line, culprit_held, held_as, held_if, held_line, holding_text, name_of, names_below, reading_held, source_held, unstored_held, unstored_line, unwatched_held, unwatched_line};
 ghost use Rattle.watch_web.specs.Words.{share_text};
 
 use crate::ages::put_for;
@@ -41,8 +41,9 @@ fn put_culprit_held(text: &mut Vec<u8>, second: u64, culprit: &Culprit) -> Resul
     ensures { OnOk result (text.new.items
         ≡ text.old.items ++ culprit_held second culprit.now) }
 {
+    let replica = culprit.verdict.replica();
     append(text, b"<li>Replica ")?;
-    put_number(text, culprit.replica)?;
+    put_number(text, replica)?;
     append(text, b" is a culprit")?;
     put_for(text, culprit.since, second)?;
     append(text, b"</li>\n")?;
@@ -84,6 +85,24 @@ fn put_held_line(
     Ok(())
 }
 
+// .. where that is so.
+#[tactic(auto, unfolding(crate::specs::Holding::held_if))]
+fn put_held_if(
+    text: &mut Vec<u8>,
+    is_so: bool,
+    second: u64,
+    state: SourceState,
+    source: &SourceSeen,
+) -> Result<(), AllocError>
+    ensures { OnOk result (text.new.items
+        ≡ text.old.items ++ held_if is_so second state source.now) }
+{
+    if !is_so {
+        return append(text, b"");
+    }
+    put_held_line(text, second, state, source)
+}
+
 // .. unless it answers.
 #[tactic(auto, unfolding(crate::specs::Holding::held_as))]
 fn put_held_as(
@@ -97,8 +116,9 @@ fn put_held_as(
 {
     match state {
         SourceState::Answers => append(text, b""),
-        SourceState::Aside
-        | SourceState::Back
+        SourceState::Back
+        | SourceState::Aside
+        | SourceState::Beyond
         | SourceState::Bad
         | SourceState::Silent
         | SourceState::Unread
@@ -106,6 +126,26 @@ fn put_held_as(
     }
 }
 
+// Of what is read: that votes are not good, and that it does not answer.
+#[tactic(auto, unfolding(crate::specs::Holding::reading_held))]
+fn put_reading_held(
+    text: &mut Vec<u8>,
+    every: u32,
+    second: u64,
+    source: &SourceSeen,
+) -> Result<(), AllocError>
+    ensures { OnOk result (text.new.items
+        ≡ text.old.items ++ reading_held every second source.now) }
+{
+    if source.is_aside {
+        return append(text, b"");
+    }
+    let is_bad = source.has_bad_votes();
+    put_held_if(text, is_bad, second, SourceState::Bad, source)?;
+    put_held_as(text, second, source.hearing(every, second), source)
+}
+
+#[tactic(auto, unfolding(crate::specs::Holding::source_held))]
 fn put_source_held(
     text: &mut Vec<u8>,
     every: u32,
@@ -115,7 +155,11 @@ fn put_source_held(
     ensures { OnOk result (text.new.items
         ≡ text.old.items ++ source_held every second source.now) }
 {
-    put_held_as(text, second, source.state(every, second), source)
+    let is_back = source.is_back(second);
+    put_held_if(text, is_back, second, SourceState::Back, source)?;
+    put_held_if(text, source.is_aside, second, SourceState::Aside, source)?;
+    put_held_if(text, source.is_beyond, second, SourceState::Beyond, source)?;
+    put_reading_held(text, every, second, source)
 }
 
 fn put_sources_held(

@@ -2,7 +2,7 @@
 
 ghost use Rattle.std.specs.Prelude.{◌≡◌, ◌++◌, IfOk, OnOk};
 ghost use Rattle.std.specs.List.{flat_map};
-ghost use Rattle.watch_web.specs.Metrics.{commits_text, family_text, findings_text, front_of, labels_of, losses_text, metrics_text, name_of, number_of, process_text, progress_text, rounds_text, sample, seconds_text, state_text, trouble_text, value_of, whole_text};
+ghost use Rattle.watch_web.specs.Metrics.{commits_text, family_text, findings_text, front_of, kept_text, labels_of, losses_text, metrics_text, name_of, number_of, process_text, progress_text, rounds_text, sample, seconds_text, state_text, trouble_text, value_of, whole_text};
 
 use escaped_text::{Inside, put_escaped};
 use printed_lines::put_number;
@@ -172,6 +172,24 @@ fn put_state(text: &mut Vec<u8>, bytes: u64, most: u64) -> Result<(), AllocError
     Ok(())
 }
 
+// What is kept is audited once all of it was read.
+fn put_kept(text: &mut Vec<u8>, kept: u64, read: u64) -> Result<(), AllocError>
+    ensures { OnOk result (text.new.items ≡ text.old.items ++ kept_text kept read) }
+{
+    append(
+        text,
+        b"# HELP hs_watch_kept_files How many files with parts of logs were kept when the watch began.\n# TYPE hs_watch_kept_files gauge\nhs_watch_kept_files ",
+    )?;
+    put_number(text, kept)?;
+    append(
+        text,
+        b"\n# HELP hs_watch_kept_files_read How many of them were read; they are audited once all were.\n# TYPE hs_watch_kept_files_read gauge\nhs_watch_kept_files_read ",
+    )?;
+    put_number(text, read)?;
+    append(text, b"\n")?;
+    Ok(())
+}
+
 // Adds milliseconds as seconds with three decimals.
 #[tactic(auto, unfolding(crate::specs::Metrics::seconds_text))]
 fn put_seconds(text: &mut Vec<u8>, milliseconds: u64) -> Result<(), AllocError>
@@ -290,6 +308,7 @@ fn put_whole(text: &mut Vec<u8>, seen: &Snapshot) -> Result<(), AllocError>
     let unstored = number_of(seen.is_unstored);
     put_losses(text, unstored, seen.lines_lost)?;
     put_state(text, seen.state_bytes, seen.state_bytes_max)?;
+    put_kept(text, seen.kept, seen.kept_read)?;
     put_rounds(text, seen.stamped, seen.took, seen.round)?;
     put_process(text, seen.started)
 }

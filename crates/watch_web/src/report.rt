@@ -142,12 +142,9 @@ fn put_conflict(text: &mut Vec<u8>, conflict: &Option<Fork>) -> Result<(), Alloc
 // ---- culprits
 
 #[tactic(auto, unfolding(crate::specs::Reports::pair_text))]
-fn put_pair(text: &mut Vec<u8>, pair: &Option<Pair>) -> Result<(), AllocError>
+fn put_pair(text: &mut Vec<u8>, pair: &Pair) -> Result<(), AllocError>
     ensures { OnOk result (text.new.items ≡ text.old.items ++ pair_text pair.now) }
 {
-    let Some(pair) = pair else {
-        return append(text, b"null,\"votes\":[]");
-    };
     put_number(text, pair.rule)?;
     append(text, b",\"votes\":[")?;
     put_block(text, &pair.earlier)?;
@@ -159,10 +156,12 @@ fn put_pair(text: &mut Vec<u8>, pair: &Option<Pair>) -> Result<(), AllocError>
 pub(crate) fn put_culprit(text: &mut Vec<u8>, culprit: &Culprit) -> Result<(), AllocError>
     ensures { OnOk result (text.new.items ≡ text.old.items ++ culprit_text culprit.now) }
 {
+    let replica = culprit.verdict.replica();
+    let pair = culprit.verdict.pair();
     append(text, b"{\"replica\":")?;
-    put_number(text, culprit.replica)?;
+    put_number(text, replica)?;
     append(text, b",\"rule\":")?;
-    put_pair(text, &culprit.pair)?;
+    put_pair(text, &pair)?;
     append(text, b",\"path\":")?;
     put_string(text, &culprit.path)?;
     append(text, b",\"unstored\":")?;

@@ -2,7 +2,7 @@
 
 ghost use Rattle.std.specs.Prelude.{◌≡◌, ◌++◌, OnOk, string_bytes};
 ghost use Rattle.std.specs.List.{flat_map};
-ghost use Rattle.watch_web.specs.Rows.{bad_text, cells_text, commit_row, conflict_text, culprit_row, ending_text, fork_text, lag_text, link_text, pair_text, place_text, remark_text, rule_text, shown, source_row, votes_text};
+ghost use Rattle.watch_web.specs.Rows.{bad_text, cells_text, commit_row, conflict_text, culprit_row, ending_text, fork_text, lag_text, link_text, pair_text, place_text, remark_text, rule_text, shown, source_row};
 
 use crate::ages::put_age;
 use blocks::Ballot;
@@ -59,11 +59,12 @@ pub(crate) fn put_remark(
     ensures { OnOk result (text.new.items ≡ text.old.items ++ remark_text state bad_votes) }
 {
     match state {
+        SourceState::Back => append(text, b"went back"),
         SourceState::Aside => {
             append(text, b"set aside; ")?;
             put_bad(text, bad_votes)
         }
-        SourceState::Back => append(text, b"went back"),
+        SourceState::Beyond => append(text, b"went back, and gave a fifth log, which is not read"),
         SourceState::Bad => put_bad(text, bad_votes),
         SourceState::Answers => append(text, b"answers"),
         SourceState::Silent => append(text, b"silent"),
@@ -201,16 +202,6 @@ fn put_pair(text: &mut Vec<u8>, pair: &Pair) -> Result<(), AllocError>
     Ok(())
 }
 
-#[tactic(auto, unfolding(crate::specs::Rows::votes_text))]
-fn put_votes(text: &mut Vec<u8>, pair: &Option<Pair>) -> Result<(), AllocError>
-    ensures { OnOk result (text.new.items ≡ text.old.items ++ votes_text pair.now) }
-{
-    match pair {
-        None => append(text, b" (its verdict was there before this watch began)"),
-        Some(pair) => put_pair(text, pair),
-    }
-}
-
 #[tactic(auto, unfolding(crate::specs::Rows::place_text))]
 fn put_place(text: &mut Vec<u8>, culprit: &Culprit) -> Result<(), AllocError>
     ensures { OnOk result (text.new.items ≡ text.old.items ++ place_text culprit.now) }
@@ -235,10 +226,12 @@ fn put_link(text: &mut Vec<u8>, replica: u16) -> Result<(), AllocError>
 fn put_culprit(text: &mut Vec<u8>, culprit: &Culprit) -> Result<(), AllocError>
     ensures { OnOk result (text.new.items ≡ text.old.items ++ culprit_row culprit.now) }
 {
+    let replica = culprit.verdict.replica();
+    let pair = culprit.verdict.pair();
     append(text, b"<li>Replica ")?;
-    put_number(text, culprit.replica)?;
-    put_votes(text, &culprit.pair)?;
-    put_link(text, culprit.replica)?;
+    put_number(text, replica)?;
+    put_pair(text, &pair)?;
+    put_link(text, replica)?;
     put_place(text, culprit)?;
     append(text, b"<code>")?;
     put_shown(text, &culprit.path)?;

@@ -7,6 +7,7 @@ ghost use Rattle.http_server.specs.Response.{IsBlank};
 ghost use Rattle.watch_web.specs.Metrics.{metrics_text};
 ghost use Rattle.watch_web.specs.Reports.{report_text};
 ghost use Rattle.watch_web.specs.Answers.{IsNowhereTold, IsPageTold, IsPictureTold, IsPlaceTold, IsVerdictTold, culprit_at};
+ghost use Rattle.verdict_format.specs.Verdicts.{replica_in};
 ghost use Rattle.watch_web.specs.Places.{verdict_path};
 ghost use Rattle.watch_web.specs.Replies.{IsTold, health_status, health_text};
 
@@ -33,9 +34,9 @@ pub(crate) fn tell_nowhere(response: &mut Response) -> Result<(), AllocError>
 }
 
 fn is_verdict_of(culprit: &Culprit, path: &[u8]) -> bool
-    ensures { result ≡ bytes_eq path.now (verdict_path culprit.now.replica) }
+    ensures { result ≡ bytes_eq path.now (verdict_path (replica_in culprit.now.verdict)) }
 {
-    path == verdict_path(culprit.replica).as_bytes()
+    path == verdict_path(culprit.verdict.replica()).as_bytes()
 }
 
 // The first culprit whose verdict is at this path.
@@ -50,7 +51,10 @@ fn tell_verdict(response: &mut Response, culprit: Option<&Culprit>) -> Result<()
     ensures { OnOk result (IsVerdictTold (option_copied culprit.entry) response.new) }
 {
     match culprit {
-        Some(culprit) => tell(response, StatusCode::OK, Kind::Verdict, &culprit.verdict),
+        Some(culprit) => {
+            let verdict = culprit.verdict.as_bytes();
+            tell(response, StatusCode::OK, Kind::Verdict, verdict)
+        }
         None => tell_nowhere(response),
     }
 }

@@ -63,6 +63,7 @@ pub(crate) fn put_state(
         Standing::Culprits => append(text, b"Culprits were found"),
         Standing::WentBack => append(text, b"A log went back"),
         Standing::SetAside => append(text, b"A source was set aside"),
+        Standing::Beyond => append(text, b"A source gave a fifth log"),
         Standing::BadVotes => append(text, b"Votes of a source are not good"),
         Standing::NotStored => append(text, b"Something is not stored"),
         Standing::ReadingKept => append(text, b"Reading kept logs"),
@@ -89,9 +90,9 @@ pub(crate) fn level_of(standing: Standing) -> Level
 {
     match standing {
         Standing::Conflict | Standing::Culprits | Standing::WentBack => Level::Alarm,
-        Standing::SetAside | Standing::BadVotes | Standing::NotStored => Level::Warning,
-        Standing::ReadingKept | Standing::NothingRead | Standing::SomeAnswer => Level::Warning,
-        Standing::Unwatched => Level::Warning,
+        Standing::SetAside | Standing::Beyond | Standing::BadVotes => Level::Warning,
+        Standing::NotStored | Standing::ReadingKept | Standing::NothingRead => Level::Warning,
+        Standing::SomeAnswer | Standing::Unwatched => Level::Warning,
         Standing::AllAnswer => Level::Fine,
     }
 }
@@ -138,6 +139,10 @@ pub(crate) fn put_advice(text: &mut Vec<u8>, standing: Standing) -> Result<(), A
         Standing::SetAside => append(
             text,
             b"64 votes of a source were not good: it is another committee's log, another replica's, or a liar's. Compare the chain id below with the other operators' and the word of the source with the committee's file.",
+        ),
+        Standing::Beyond => append(
+            text,
+            b"A source went back so often that it gave a fifth log, which is not read: what stands in it, this watch does not see. Ask the replica's operator what happened, and audit that log with hs_tool audit.",
         ),
         Standing::BadVotes => append(
             text,

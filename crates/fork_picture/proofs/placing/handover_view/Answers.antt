@@ -1,4 +1,4 @@
 use Rattle.fork_picture.proofs.placing.handover_view.Goals as goal
 
 pub returns-in-None : goal.returns-in-None
-returns-in-None c = λ _ agree. c.in_ok-block.ensures.none agree c.in-None.is
+returns-in-None c = λ e is _ agree. c.handover_in.ensures.none e is agree c.in-None.is

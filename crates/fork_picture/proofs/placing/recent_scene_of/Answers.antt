@@ -20,4 +20,4 @@ returns-clause-drawn c =
     let e = c.args.evidence.now in
     let r = c.args.report.now in
     let are : AreRecent e r c.deref-3.result.now = subst (λ (hs : List Header). AreRecent e r hs) (sym c.deref-3.ensures.value) c.in_ok-chosen.ensures in
-    drawn e r c.deref-3.result.now c.new.result.items c.scene_with.result are c.new.ensures.items c.scene_with.ensures.drawn c.scene_with.ensures.sources
+    drawn e r c.deref-3.result.now c.new-sources.result.items c.scene_with.result are c.new-sources.ensures.items c.scene_with.ensures.drawn c.scene_with.ensures.sources

@@ -7,17 +7,13 @@ use Rattle.handover_lines.proofs.block.handover_in.Goals as goal
 
 pub first_handover-requires : goal.first_handover-requires
 first_handover-requires c = record {
-  known = subst (λ (hs : List Header). All (Contains (all_of c.args.chains.now)) hs) (sym c.deref.ensures.value) c.in_ok-commits.ensures.known;
+  known = subst (λ (hs : List Header). All (Contains (all_of c.args.searched.now.chains)) hs) (sym c.deref.ensures.value) c.requires;
 }
 
 pub returns-clause-first : goal.returns-clause-first
-returns-clause-first c =
-    let e = c.args.evidence.now in
-    let of = commits_of e c.args.chains.now c.in_ok-commits.commits.items c.deref.result.now c.requires.evidence c.requires.chains (c.in_ok-commits.ensures.proved e c.requires.evidence c.requires.chains) c.deref.ensures.value in
-    c.first_handover.ensures.first e of
+returns-clause-first c e is =
+    c.first_handover.ensures.first e (commits_of e c.args.searched.now.chains c.args.searched.now.commits.items c.deref.result.now is.evidence is.chains is.proved c.deref.ensures.value)
 
 pub returns-clause-none : goal.returns-clause-none
-returns-clause-none c apart none =
-    let e = c.args.evidence.now in
-    let of = commits_of e c.args.chains.now c.in_ok-commits.commits.items c.deref.result.now c.requires.evidence c.requires.chains (c.in_ok-commits.ensures.proved e c.requires.evidence c.requires.chains) c.deref.ensures.value in
-    c.first_handover.ensures.none e of apart none
+returns-clause-none c e is =
+    c.first_handover.ensures.none e (commits_of e c.args.searched.now.chains c.args.searched.now.commits.items c.deref.result.now is.evidence is.chains is.proved c.deref.ensures.value)

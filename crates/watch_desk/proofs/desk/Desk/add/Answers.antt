@@ -14,8 +14,8 @@ pub bad_votes-requires : goal.bad_votes-requires
 bad_votes-requires g c v there =
     (c.in_ok-_bad.ensures.grown.votes v).1 (inr (subst (λ (vs : List SignedVote). Contains vs v) c.votes.ensures there))
 
-pub returns : goal.returns
-returns g c =
+pub returns-clause-ok : goal.returns-clause-ok
+returns-clause-ok g c =
     let i = c.args.i in
     let d : Desk = record { collected = c.self.inside.collector; sources = c.self.inside.sources.items; told = c.self.inside.told } in
     let there : i < length d.sources = subst (λ (e : Desk). i < length e.sources) (sym c.self.view_is) c.requires.source in

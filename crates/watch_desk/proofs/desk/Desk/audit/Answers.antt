@@ -11,12 +11,12 @@ use Rattle.watch_desk.proofs.desk.Desk.audit.Goals as goal
 pub invariant_of-self : goal.invariant_of-self
 invariant_of-self c =
     let committee = c.self.inside.collector.gathered.committee in
-    let found : All (IsProof committee) c.in_ok-evidence.report.verdicts =
-    subst (λ (k : List ℕ). All (IsProof k) c.in_ok-evidence.report.verdicts) c.in_ok-evidence.ensures.under c.in_ok-evidence.ensures.accepted in
+    let found : All (IsProof committee) c.in_ok-audit.audit.report.verdicts =
+    subst (λ (k : List ℕ). All (IsProof k) c.in_ok-audit.audit.report.verdicts) c.in_ok-audit.ensures.under c.in_ok-audit.ensures.accepted in
     let old = c.self.inside.told.verdicts in
-    subst (All (IsProof committee)) (sym c.in_ok-heard.ensures.verdicts)
-    (All-append (IsProof committee) old (unnamed old c.in_ok-evidence.report.verdicts) c.self.invariant (unnamed_all (IsProof committee) old c.in_ok-evidence.report.verdicts found))
+    subst (All (IsProof committee)) (sym (c.in_ok-heard.ensures c.in_ok-audit.audit.evidence c.in_ok-audit.ensures.searched).verdicts)
+    (All-append (IsProof committee) old (unnamed old c.in_ok-audit.audit.report.verdicts) c.self.invariant (unnamed_all (IsProof committee) old c.in_ok-audit.audit.report.verdicts found))
 
 pub returns-clause-audit : goal.returns-clause-audit
 returns-clause-audit c committee logs known =
-    c.in_ok-evidence.ensures.audit committee logs (subst (IsCollected committee logs) (sym (ap (λ (d : Desk). d.collected) c.self.view_is)) known)
+    c.in_ok-audit.ensures.audit committee logs (subst (IsCollected committee logs) (sym (ap (λ (d : Desk). d.collected) c.self.view_is)) known)
