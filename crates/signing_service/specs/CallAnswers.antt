@@ -183,6 +183,11 @@ module _ {D : Type 0} (disk : Ghosts D) (committee : List ℕ) (replica : ℕ) (
   IsHalt asks (halt.PutBack ballot) = WasPutBack disk committee replica opening ballot
   IsHalt asks halt.Asking = asks ≡ true
 
+  -- why none is taken, if none is; it is that the log was put back, for a caller who was shown that
+  pub record IsHalted (asks : Bool) (shown : Option Showing) (halted : Option Halt) : Type 0 where
+    pub why : MatchOption halted (IsPast asks) (IsHalt asks)
+    pub stops : IsSome shown → IsStop halted
+
   -- what comes of a block or a timeout of a caller who has these receipts: that the log was put back, that others are asked first, or
   -- its answer, once enough were heard; none where its view lies too far, and then nothing is delivered
   abbrev pub IsOutcomeOf : ℕ → Bool → Telling → List Receipt → Asked → Option Told → Type 0
@@ -213,58 +218,57 @@ module _ {D : Type 0} (disk : Ghosts D) (committee : List ℕ) (replica : ℕ) (
       × IsResponse 200 (fields_of_kind Octets) text response)
       ⊎ ((e : ExportError) × SomeMove (RefusesExport disk part.first (min part.most MOST_FRAMES_AT_ONCE) e) × IsLogTold (from_export e) response)
 
-  -- why no block or timeout is taken
-  abbrev pub IsStopTold : Bool → Response → Type 0
-  IsStopTold asks response = (it : Halt) × IsHalt asks it × IsHaltTold it response
-
-  -- .. or whether a vote is good
-  abbrev pub IsVoteJudged : Bool → SignedVote → Response → Type 0
-  IsVoteJudged asks vote response = IsStopTold asks response ⊎ (IsPast asks × IsJudgementTold committee vote response)
+  -- why no block or timeout is taken, or whether a vote is good
+  abbrev pub IsVoteJudged : Bool → Option Showing → SignedVote → Response → Type 0
+  IsVoteJudged asks shown vote response =
+      ((it : Halt) × IsHalted asks shown (Some it) × IsHaltTold it response)
+      ⊎ (IsHalted asks shown None × IsJudgementTold committee vote response)
 
   -- .. or how a desk is: to who asks for its health both are told alike, by 503
-  abbrev pub IsDeskHealthTold : Bool → Response → Type 0
-  IsDeskHealthTold asks response =
-      ((it : Halt) × IsHalt asks it × IsLine 503 (halt_line it) response)
-      ⊎ (IsPast asks × ((status : DeskStatus) × SomeOne (λ d. status ≡ status_of d) × IsHealthTold status response))
+  abbrev pub IsDeskHealthTold : Bool → Option Showing → Response → Type 0
+  IsDeskHealthTold asks shown response =
+      ((it : Halt) × IsHalted asks shown (Some it) × IsLine 503 (halt_line it) response)
+      ⊎ (IsHalted asks shown None × ((status : DeskStatus) × SomeOne (λ d. status ≡ status_of d) × IsHealthTold status response))
 
   -- what a desk is at, why no block or timeout is taken if none is, and a block that some block with a good certificate commits,
   -- or none that is known
-  abbrev pub IsDeskStatusTold : Bool → Response → Type 0
-  IsDeskStatusTold asks response =
+  abbrev pub IsDeskStatusTold : Bool → Option Showing → Response → Type 0
+  IsDeskStatusTold asks shown response =
       (status : DeskStatus) × (halted : Option Halt) × (committed : Option Ballot) × SomeOne (λ d. status ≡ status_of d)
-      × MatchOption halted (IsPast asks) (IsHalt asks) × IfSome committed (IsCommitOf committee)
+      × IsHalted asks shown halted × IfSome committed (IsCommitOf committee)
       × IsStatusTold committee replica status halted committed response
 
-  -- .. and some numbers of what was told, and of the sources that were heard
-  pub record IsMeasured (asks : Bool) (m : Measured) : Type 0 where
+  -- .. and some numbers of what was told, and of the sources that were heard; and that the log was put back, to who was shown that
+  pub record IsMeasured (asks : Bool) (shown : Option Showing) (m : Measured) : Type 0 where
     pub status : SomeOne (λ d. m.status ≡ status_of d)
     pub put_back : IfSome m.put_back (WasPutBack disk committee replica opening)
+    pub stops : IsSome shown → IsSome m.put_back
     pub committed : IfSome m.committed (IsCommitOf committee)
     pub asking : IsShut asks m.is_asking
 
-  abbrev pub IsDeskMetricsTold : Bool → Response → Type 0
-  IsDeskMetricsTold asks response = (m : Measured) × IsMeasured asks m × IsMetricsTold m response
+  abbrev pub IsDeskMetricsTold : Bool → Option Showing → Response → Type 0
+  IsDeskMetricsTold asks shown response = (m : Measured) × IsMeasured asks shown m × IsMetricsTold m response
 
   -- ---- a call
 
-  -- what a call is told of a caller who has these receipts, and the outcome among it
-  abbrev pub IsCallTold : Rules → Bool → Telling → List Receipt → Call → Option Told → Response → Type 0
-  IsCallTold rules asks tells receipts (call.Replica asked) told response =
+  -- what a call is told of a caller who has these receipts, and was shown so much, and the outcome among it
+  abbrev pub IsCallTold : Rules → Bool → Telling → List Receipt → Option Showing → Call → Option Told → Response → Type 0
+  IsCallTold rules asks tells receipts shown (call.Replica asked) told response =
       IsOutcomeOf rules.furthest asks tells receipts asked told × IsOutcomeTold (block_asked asked) told response
-  IsCallTold rules asks tells receipts (call.Judge vote) told response = (told ≡ None) × IsVoteJudged asks vote response
-  IsCallTold rules asks tells receipts (call.VoteIn view) told response = (told ≡ None) × IsVoteTold view response
-  IsCallTold rules asks tells receipts (call.Header id) told response = (told ≡ None) × IsHeaderTold id response
-  IsCallTold rules asks tells receipts (call.Log part) told response = (told ≡ None) × IsPartTold part response
-  IsCallTold rules asks tells receipts call.Status told response = (told ≡ None) × IsDeskStatusTold asks response
-  IsCallTold rules asks tells receipts call.Live told response = (told ≡ None) × IsLine 200 (codes "ok\n") response
-  IsCallTold rules asks tells receipts call.Health told response = (told ≡ None) × IsDeskHealthTold asks response
-  IsCallTold rules asks tells receipts call.Metrics told response = (told ≡ None) × IsDeskMetricsTold asks response
-  IsCallTold rules asks tells receipts (call.Refused refusal) told response = (told ≡ None) × IsRefusalTold refusal response
+  IsCallTold rules asks tells receipts shown (call.Judge vote) told response = (told ≡ None) × IsVoteJudged asks shown vote response
+  IsCallTold rules asks tells receipts shown (call.VoteIn view) told response = (told ≡ None) × IsVoteTold view response
+  IsCallTold rules asks tells receipts shown (call.Header id) told response = (told ≡ None) × IsHeaderTold id response
+  IsCallTold rules asks tells receipts shown (call.Log part) told response = (told ≡ None) × IsPartTold part response
+  IsCallTold rules asks tells receipts shown call.Status told response = (told ≡ None) × IsDeskStatusTold asks shown response
+  IsCallTold rules asks tells receipts shown call.Live told response = (told ≡ None) × IsLine 200 (codes "ok\n") response
+  IsCallTold rules asks tells receipts shown call.Health told response = (told ≡ None) × IsDeskHealthTold asks shown response
+  IsCallTold rules asks tells receipts shown call.Metrics told response = (told ≡ None) × IsDeskMetricsTold asks shown response
+  IsCallTold rules asks tells receipts shown (call.Refused refusal) told response = (told ≡ None) × IsRefusalTold refusal response
 
   -- the response tells what the call is told, and the receipt of a new vote is added to the session; who was shown before that the
   -- log was put back is told so, and stays shown, and who is told so is shown from then on
   pub record IsCallServed (rules : Rules) (asks : Bool) (tells : Telling) (asked : Call) (before : List Receipt) (shown : Option Showing) (response : Response) (after : List Receipt) (shown_after : Option Showing) (told : Option Told) : Type 0 where
-    pub answers : IsCallTold rules asks tells before asked told response
+    pub answers : IsCallTold rules asks tells before shown asked told response
     pub receipts : after ≡ receipts_told before told
     pub stops : IsSome shown → IsStopped asked told
     pub keeps : IsSome shown → IsSome shown_after
@@ -284,7 +288,7 @@ module _ {D : Type 0} (disk : Ghosts D) (committee : List ℕ) (replica : ℕ) (
     pub reads : AsksFor rules committee exchanged.0 asked
     pub told : Option Told
     pub before : List Receipt
-    pub answers : IsCallTold rules asks tells before asked told exchanged.1
+    pub answers : IsCallTold rules asks tells before shown asked told exchanged.1
     pub grown : ReceiptsGrow before receipts
     pub backed : IfSome told (HasItsReceipt receipts)
     pub stops : IsSome shown → IsStopped asked told

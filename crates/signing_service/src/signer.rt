@@ -1,9 +1,9 @@
 //! One caller's side of a desk, as a service.
 
-ghost use Rattle.std.specs.Prelude.{◌≡◌, ◌<◌, ◌≤◌, ◌+◌, IfOk, IfSome, IsFalse, IsSome, IsTrue, MatchOption, OnErr, OnOk, Option, codes};
+ghost use Rattle.std.specs.Prelude.{◌≡◌, ◌<◌, ◌≤◌, ◌+◌, IfOk, IfSome, IsFalse, IsSome, IsTrue, OnErr, OnOk, Option, codes};
 ghost use Rattle.http_server.specs.Response.{IsBlank};
 ghost use Rattle.signer_answers.specs.Guards.{WasPutBack};
-ghost use Rattle.signing_service.specs.CallAnswers.{IsCallServed, IsDeskHealthTold, IsDeskMetricsTold, IsDeskStatusTold, IsFar, IsHalt, IsHeaderTold, IsMeasured, IsNear, IsOutcomeOf, IsPartTold, IsPast, IsServed, IsShut, IsStop, IsStopTo, IsVoteJudged, IsVoteTold, SomeOne, committed_by, from_export, parent_view_of, receipts_told};
+ghost use Rattle.signing_service.specs.CallAnswers.{IsCallServed, IsDeskHealthTold, IsDeskMetricsTold, IsDeskStatusTold, IsFar, IsHalted, IsHeaderTold, IsMeasured, IsNear, IsOutcomeOf, IsPartTold, IsServed, IsShut, IsStopTo, IsVoteJudged, IsVoteTold, SomeOne, committed_by, from_export, parent_view_of, receipts_told};
 ghost use Rattle.signing_service.specs.Refusals.{IsRefusalTold, refusal_fields};
 ghost use Rattle.signing_service.specs.Responses.{IsLine, IsReady};
 ghost use Rattle.signing_service.specs.ToldLines.{block_asked};
@@ -97,12 +97,8 @@ impl<
 
     // Why no block or timeout is taken, if none is: first that the log was put back.
     fn halt(&self) -> Option<Halt>
-        ensures halt { MatchOption result
-            (IsPast D.Disk N.committee N.replica N.opening self.now.reception.now.gate.now.asks)
-            (IsHalt D.Disk N.committee N.replica N.opening self.now.reception.now.gate.now.asks) }
-
-        // Who was shown that the log was put back is always stopped by it.
-        ensures shown { IsSome self.now.caller.shown → IsStop result }
+        ensures { IsHalted D.Disk N.committee N.replica N.opening
+            self.now.reception.now.gate.now.asks self.now.caller.shown result }
     {
         if let Some(ballot) = self.put_back() {
             return Some(Halt::PutBack(ballot));
@@ -330,7 +326,8 @@ impl<
     fn tell_desk_health(&self, response: &mut Response) -> Result<(), AllocError>
         requires { IsBlank response.old }
         ensures { OnOk result
-            (IsDeskHealthTold D.Disk N.committee N.replica N.opening self.now.reception.now.gate.now.asks response.new) }
+            (IsDeskHealthTold D.Disk N.committee N.replica N.opening self.now.reception.now.gate.now.asks
+            self.now.caller.shown response.new) }
     {
         make_ready(response, Kind::Text)?;
         match self.halt() {
@@ -344,7 +341,8 @@ impl<
     fn judge(&self, vote: &SignedVote, response: &mut Response) -> Result<(), AllocError>
         requires { IsBlank response.old }
         ensures { OnOk result
-            (IsVoteJudged D.Disk N.committee N.replica N.opening self.now.reception.now.gate.now.asks vote.now response.new) }
+            (IsVoteJudged D.Disk N.committee N.replica N.opening self.now.reception.now.gate.now.asks
+            self.now.caller.shown vote.now response.new) }
     {
         if let Some(halt) = self.halt() {
             make_to_retry(response)?;
@@ -358,7 +356,8 @@ impl<
     fn tell_desk_status(&self, response: &mut Response) -> Result<(), AllocError>
         requires { IsBlank response.old }
         ensures { OnOk result
-            (IsDeskStatusTold D.Disk N.committee N.replica N.opening self.now.reception.now.gate.now.asks response.new) }
+            (IsDeskStatusTold D.Disk N.committee N.replica N.opening self.now.reception.now.gate.now.asks
+            self.now.caller.shown response.new) }
     {
         make_ready(response, Kind::Json)?;
         let status = self.office.desk.status(self.rt);
@@ -378,7 +377,7 @@ impl<
     // What the metrics tell.
     fn measure(&self) -> Result<Measured, AllocError>
         ensures { IfOk result (IsMeasured D.Disk N.committee N.replica N.opening
-            self.now.reception.now.gate.now.asks) }
+            self.now.reception.now.gate.now.asks self.now.caller.shown) }
     {
         let heard = self.reception.sources.heard(self.alloc)?;
         Ok(Measured {
@@ -395,7 +394,7 @@ impl<
     fn tell_desk_metrics(&self, response: &mut Response) -> Result<(), AllocError>
         requires { IsBlank response.old }
         ensures { OnOk result (IsDeskMetricsTold D.Disk N.committee N.replica N.opening
-            self.now.reception.now.gate.now.asks response.new) }
+            self.now.reception.now.gate.now.asks self.now.caller.shown response.new) }
     {
         let measured = self.measure()?;
         make_room(response, Kind::Metrics, METRICS_ROOM)?;
