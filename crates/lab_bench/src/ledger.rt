@@ -4,7 +4,7 @@ use crate::chain::{Certified, Votes, block_on};
 use crate::export::{Export, certificate};
 use crate::keys::Keys;
 use crate::plan::{BRANCH, Kind, LOG_ENTRIES, Plan};
-use blocks::{CommitteeView, Header, NamedHeader};
+use blocks::{CommitteeView, NamedHeader};
 use certificates::SignedVote;
 use parallel_verify::SourceText;
 use std::alloc::Global;
@@ -27,7 +27,7 @@ pub(crate) struct Site<'a, R> {
     rt: &'a R,
     alloc: Global,
     keys: &'a Keys,
-    committee: CommitteeView<'a>,
+    pub committee: CommitteeView<'a>,
 }
 
 /// Blocks of one chain, each on the one before, and the votes for them.
@@ -78,16 +78,9 @@ fn log_along<'b>(alloc: Global, replica: u16, parts: &'b [Part<'b>]) -> io::Resu
     log_of(replica, export)
 }
 
-// The log of replica 0 alone.
-fn only_log(alloc: Global, export: Export) -> io::Result<Vec<SourceText>> {
-    let mut logs = Vec::new(alloc);
-    logs.push(log_of(0, export)?)?;
-    Ok(logs)
-}
-
 impl<'a, R: Threads + Sync> Site<'a, R> {
     pub fn of(rt: &'a R, alloc: Global, keys: &'a Keys) -> io::Result<Site<'a, R>> {
-        let Ok(committee) = CommitteeView::parse(keys.committee()) else {
+        let Ok(committee) = CommitteeView::parse(&keys.committee) else {
             return Err(refused());
         };
         Ok(Site {
@@ -98,16 +91,7 @@ impl<'a, R: Threads + Sync> Site<'a, R> {
         })
     }
 
-    pub fn committee(&self) -> &CommitteeView<'a> {
-        &self.committee
-    }
-
-    // How many replicas may be faulty: they are 3f + 1, and count once.
-    fn faulty(&self) -> u16 {
-        self.committee.n() / 3
-    }
-
-    // How many replicas make a quorum.
+    // How many replicas make a quorum: they are 3f + 1, and count once.
     fn quorum(&self) -> u16 {
         let n = self.committee.n();
         n - n / 3
@@ -131,18 +115,24 @@ impl<'a, R: Threads + Sync> Site<'a, R> {
         })
     }
 
-    // So many blocks from a view on, the first on `base`.
+    // So many blocks from a view on, the first on `base`, and the others on it, too, or each on the one before.
     fn blocks_on(
         &self,
         base: &NamedHeader,
         first_view: u64,
         count: u16,
+        is_chain: bool,
     ) -> io::Result<Vec<NamedHeader>> {
         let mut headers = Vec::new(self.alloc);
         let mut parent = *base;
         for view in (first_view..u64::MAX).take(usize::from(count)) {
-            parent = block_on(&parent, view).ok_or_else(refused)?;
-            headers.push(parent)?;
+            let Some(block) = block_on(&parent, view) else {
+                return Err(refused());
+            };
+            headers.push(block)?;
+            if is_chain {
+                parent = block;
+            }
         }
         Ok(headers)
     }
@@ -174,15 +164,15 @@ impl<'a, R: Threads + Sync> Site<'a, R> {
         count: u16,
         first_signer: u16,
     ) -> io::Result<Stretch> {
-        let headers = self.blocks_on(&base.block, first_view, count)?;
-        let votes = self.votes(self.keys.trees().len(), &headers)?;
+        let headers = self.blocks_on(&base.block, first_view, count, true)?;
+        let votes = self.votes(self.keys.trees.len(), &headers)?;
         let blocks = self.certified(&headers, &votes, first_signer)?;
         Ok(Stretch { blocks, votes })
     }
 
     // The votes of the first `signers` replicas for these blocks.
     fn votes(&self, signers: usize, blocks: &[NamedHeader]) -> io::Result<Votes> {
-        let trees = self.keys.trees();
+        let trees = self.keys.trees.as_slice();
         let trees = trees.get(..signers).unwrap_or(trees);
         Votes::sign(self.rt, self.alloc, trees, self.committee.chain(), blocks)
     }
@@ -205,11 +195,16 @@ impl<'a, R: Threads + Sync> Site<'a, R> {
         Ok(logs)
     }
 
-    // These logs, all of whose votes are good.
-    fn good(&self, logs: Vec<SourceText>, sample: &[SignedVote]) -> io::Result<Ledger> {
+    // These logs, in which so many votes are not good.
+    fn made(
+        &self,
+        logs: Vec<SourceText>,
+        bad_votes: u16,
+        sample: &[SignedVote],
+    ) -> io::Result<Ledger> {
         Ok(Ledger {
             logs,
-            bad_votes: 0,
+            bad_votes: usize::from(bad_votes),
             sample: sample.to_vec(self.alloc)?,
         })
     }
@@ -220,7 +215,7 @@ impl<'a, R: Threads + Sync> Site<'a, R> {
         let trunk = self.stretch(&genesis, 1, blocks, 0)?;
         let parts = [(&genesis, &trunk)];
         let logs = self.logs(&parts, &parts)?;
-        self.good(logs, trunk.votes.of(0))
+        self.made(logs, 0, trunk.votes.of(0))
     }
 
     // The first 2f + 1 replicas vote for the one branch and the last 2f + 1 for the other, so that f + 1 vote for both. These
@@ -231,69 +226,48 @@ impl<'a, R: Threads + Sync> Site<'a, R> {
         let fork = trunk.blocks.last().unwrap_or(&genesis);
         let view = u64::from(blocks) + 1;
         let left = self.stretch(fork, view, BRANCH, 0)?;
-        let right = self.stretch(fork, view + u64::from(BRANCH), BRANCH, self.faulty())?;
+        let faulty = self.committee.n() / 3;
+        let right = self.stretch(fork, view + u64::from(BRANCH), BRANCH, faulty)?;
         let logs = self.logs(
             &[(&genesis, &trunk), (fork, &left)],
             &[(&genesis, &trunk), (fork, &right)],
         )?;
-        self.good(logs, trunk.votes.of(0))
+        self.made(logs, 0, trunk.votes.of(0))
     }
 
-    // The log of replica 0 that has its votes for these blocks on genesis.
+    // The log of replica 0 that has its votes for these blocks on one parent so often.
     fn votes_on(
         &self,
-        genesis: &Certified,
+        parent: &Certified,
         blocks: &[NamedHeader],
         votes: &[SignedVote],
+        times: u16,
     ) -> io::Result<SourceText> {
         let mut export = Export::new(self.alloc)?;
-        for (block, vote) in blocks.iter().zip(votes) {
-            let parent = genesis.block.header();
-            export.put_entry(block.header(), parent, vote, &genesis.certificate)?;
+        let header = parent.block.header();
+        for _ in 0..times {
+            for (block, vote) in blocks.iter().zip(votes) {
+                export.put_entry(block.header(), header, vote, &parent.certificate)?;
+            }
         }
         log_of(0, export)
-    }
-
-    // Blocks on genesis, one in each view.
-    fn flat_blocks(&self, genesis: &NamedHeader, blocks: u16) -> io::Result<Vec<NamedHeader>> {
-        let mut headers = Vec::new(self.alloc);
-        for view in 1..=u64::from(blocks) {
-            headers.push(block_on(genesis, view).ok_or_else(refused)?)?;
-        }
-        Ok(headers)
     }
 
     // Replica 0 votes for one block on genesis in each view, and hands out full logs, of which the last may be shorter.
     fn flat(&self, blocks: u16) -> io::Result<Ledger> {
         let genesis = self.genesis()?;
-        let headers = self.flat_blocks(&genesis.block, blocks)?;
+        let headers = self.blocks_on(&genesis.block, 1, blocks, false)?;
         let votes = self.votes(1, &headers)?;
         let votes = votes.of(0);
         let mut logs = Vec::new(self.alloc);
         let entries = usize::from(LOG_ENTRIES);
         for (blocks, votes) in headers.chunks(entries).zip(votes.chunks(entries)) {
-            logs.push(self.votes_on(&genesis, blocks, votes)?)?;
+            logs.push(self.votes_on(&genesis, blocks, votes, 1)?)?;
         }
-        self.good(logs, votes)
+        self.made(logs, 0, votes)
     }
 
-    // The log of replica 0 that has the entry of its vote for a block so often.
-    fn copies(
-        &self,
-        count: u16,
-        block: &Header,
-        parent: &Header,
-        vote: &SignedVote,
-        certificate: &[u8],
-    ) -> io::Result<Vec<SourceText>> {
-        let mut export = Export::new(self.alloc)?;
-        for _ in 0..count {
-            export.put_entry(block, parent, vote, certificate)?;
-        }
-        only_log(self.alloc, export)
-    }
-
-    // An entry whose certificate on block 1 has the signatures that a quorum made for block 2.
+    // An entry whose certificate on block 1 has the signatures that a quorum made for block 2, so often.
     fn copied(&self, copies: u16) -> io::Result<Ledger> {
         let genesis = self.genesis()?;
         let Stretch { blocks, votes } = self.stretch(&genesis, 1, 2, 0)?;
@@ -301,12 +275,12 @@ impl<'a, R: Threads + Sync> Site<'a, R> {
             return Err(refused());
         };
         let quorum = self.quorum();
-        let bad = votes.certificate(self.alloc, &first.block, 1, 0, quorum)?;
-        let (block, parent) = (second.block.header(), first.block.header());
-        Ok(Ledger {
-            logs: self.copies(copies, block, parent, vote, &bad)?,
-            bad_votes: usize::from(quorum),
-            sample: votes.of(0).to_vec(self.alloc)?,
-        })
+        let bad = Certified {
+            block: first.block,
+            certificate: votes.certificate(self.alloc, &first.block, 1, 0, quorum)?,
+        };
+        let mut logs = Vec::new(self.alloc);
+        logs.push(self.votes_on(&bad, &[second.block], &[*vote], copies)?)?;
+        self.made(logs, quorum, votes.of(0))
     }
 }

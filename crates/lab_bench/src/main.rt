@@ -15,7 +15,7 @@ mod row;
 use keys::Keys;
 use ledger::Site;
 use measuring::{Measured, measure};
-use plan::{Kind, Plan};
+use plan::{FEWEST, Kind, Plan};
 use row::{HEAD, print_counts, print_row};
 use std::alloc::Global;
 use std::sync::Wait;
@@ -26,12 +26,28 @@ use std::{env, io};
 /// How many words name a ledger.
 const WORDS: usize = 3;
 
-/// The ledgers of four replicas that are made where no words are given, each with its number of blocks.
-const SMALL: [(Kind, u16); 4] = [
-    (Kind::Honest, 5),
-    (Kind::Forked, 2),
-    (Kind::Flat, 6),
-    (Kind::Copied, 7),
+/// The ledgers that are made where no words are given.
+const SMALL: [Plan; 4] = [
+    Plan {
+        kind: Kind::Honest,
+        replicas: FEWEST,
+        blocks: 5,
+    },
+    Plan {
+        kind: Kind::Forked,
+        replicas: FEWEST,
+        blocks: 2,
+    },
+    Plan {
+        kind: Kind::Flat,
+        replicas: FEWEST,
+        blocks: 6,
+    },
+    Plan {
+        kind: Kind::Copied,
+        replicas: FEWEST,
+        blocks: 7,
+    },
 ];
 
 // What an audit of the planned ledger takes and finds.
@@ -43,38 +59,28 @@ fn run<R: Threads + Wait + Clock + Sync>(
 ) -> io::Result<Measured> {
     let site = Site::of(rt, alloc, keys)?;
     let ledger = site.ledger(plan)?;
-    measure(rt, alloc, site.committee(), &ledger)
+    measure(rt, alloc, &site.committee, &ledger)
 }
 
-// Small ledgers, and what is found in them.
-fn run_small<R: Threads + Wait + Clock + Print + Sync>(rt: &R, alloc: Global) -> io::Result<()> {
-    let keys = Keys::generate(rt, alloc, plan::FEWEST)?;
-    for (kind, blocks) in SMALL {
-        let plan = Plan {
-            kind,
-            replicas: plan::FEWEST,
-            blocks,
-        };
-        let measured = run(rt, alloc, &keys, plan)?;
-        print_counts(rt, plan, &measured.found)?;
-    }
-    Ok(())
-}
-
-// The ledgers that the words name, and how long their audits take. Those of as many replicas in a row have one committee.
-fn run_timed<R: Threads + Wait + Clock + Print + Sync>(
+// Makes these ledgers and audits them, and prints what is found in each, or how long that takes. Those of as many replicas in
+// a row have one committee.
+fn run_all<R: Threads + Wait + Clock + Print + Sync>(
     rt: &R,
     alloc: Global,
-    words: &[String],
+    plans: &[Plan],
+    is_timed: bool,
 ) -> io::Result<()> {
-    println!(rt; "{HEAD}")?;
     let mut keys = Keys::generate(rt, alloc, 0)?;
-    for plan in words.chunks(WORDS).filter_map(Plan::read) {
-        if keys.trees().len() != usize::from(plan.replicas) {
+    for plan in plans {
+        if keys.trees.len() != usize::from(plan.replicas) {
             keys = Keys::generate(rt, alloc, plan.replicas)?;
         }
-        let measured = run(rt, alloc, &keys, plan)?;
-        print_row(rt, plan, &measured)?;
+        let measured = run(rt, alloc, &keys, *plan)?;
+        if is_timed {
+            print_row(rt, *plan, &measured)?;
+        } else {
+            print_counts(rt, *plan, &measured.found)?;
+        }
     }
     Ok(())
 }
@@ -83,14 +89,16 @@ fn main(rt: HostRuntime) -> io::Result<()> {
     let alloc = rt.alloc();
     let words = env::args(&rt)?.skip(1).collect::<Vec<String>>(alloc)?;
     if words.is_empty() {
-        return run_small(&rt, alloc);
+        return run_all(&rt, alloc, &SMALL, false);
     }
-    if !words
-        .chunks(WORDS)
-        .all(|ledger| Plan::read(ledger).is_some())
-    {
-        eprintln!(rt; "usage: lab_bench [honest|forked|flat|copied REPLICAS BLOCKS]..")?;
-        return Err(io::Error::from(io::ErrorKind::InvalidInput));
+    let mut plans = Vec::new(alloc);
+    for ledger in words.chunks(WORDS) {
+        let Some(plan) = Plan::read(ledger) else {
+            eprintln!(rt; "usage: lab_bench [honest|forked|flat|copied REPLICAS BLOCKS]..")?;
+            return Err(io::Error::from(io::ErrorKind::InvalidInput));
+        };
+        plans.push(plan)?;
     }
-    run_timed(&rt, alloc, &words)
+    println!(rt; "{HEAD}")?;
+    run_all(&rt, alloc, &plans, true)
 }

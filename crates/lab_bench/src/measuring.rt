@@ -9,7 +9,7 @@ use crate::lent::Lent;
 use crate::phases::{Phases, Times, since};
 use blocks::CommitteeView;
 use certificates::{SignedVote, check_vote};
-use culprit_search::{Report, audit};
+use culprit_search::audit;
 use log_transfer::{Connector, Watched};
 use parallel_verify::{
     Evidence, EvidenceRefusal, Judging, Source, SourceText, evidence_of, read_sources, unobserved,
@@ -170,21 +170,18 @@ fn entries_in(evidence: &Evidence) -> usize {
     entries
 }
 
-fn found_in(evidence: &Evidence, report: &Report) -> Found {
-    Found {
-        entries: entries_in(evidence),
-        votes: evidence.votes().len(),
-        commits: report.commits().len(),
-        culprits: report.verdicts().len(),
-    }
-}
-
 // What an audit finds in the evidence, and how long that takes.
 fn search<R: Clock>(rt: &R, alloc: Global, evidence: &Evidence) -> io::Result<(Found, u64)> {
     let start = Instant::now(rt)?;
     let report = audit(alloc, evidence)?;
     let time = since(rt, start)?;
-    Ok((found_in(evidence, &report), time))
+    let found = Found {
+        entries: entries_in(evidence),
+        votes: evidence.votes().len(),
+        commits: report.commits().len(),
+        culprits: report.verdicts().len(),
+    };
+    Ok((found, time))
 }
 
 // What an audit of the logs finds, and how long their evidence takes on one thread, and its search.

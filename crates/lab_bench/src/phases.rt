@@ -18,7 +18,7 @@ pub(crate) struct Phases<'a, R: Clock> {
 }
 
 /// How long the phases of a collection took, in microseconds.
-#[derive(Clone, Copy, Default)]
+#[derive(Clone, Copy)]
 pub(crate) struct Times {
     /// The sources were read.
     pub reading: u64,

@@ -4,7 +4,7 @@ use crate::counts::Counts;
 use crate::failure::{Failure, same};
 use crate::keys::MOST_KEYS;
 use crate::model::{Kept, is_marked, known_blocks, linked};
-use crate::round::{Round, Run};
+use crate::round::Round;
 use crate::tree::BlockTree;
 use blocks::CommitteeView;
 use certificates::{SignedVote, check_vote};
@@ -34,21 +34,15 @@ fn nothing_is_lost(log: &mut VoteLog<MemoryDisk>, released: &[Receipt]) -> Resul
     Ok(())
 }
 
-// The place of a vote's key index among those of all keys, if there is such an index.
-fn place_of(vote: &SignedVote) -> Option<usize> {
-    let [a, b, c, d, ..] = vote.signature;
-    let index = u32::from_be_bytes([a, b, c, d]);
-    if index >= INDICES {
-        return None;
-    }
-    let first = u32::from(vote.key).checked_mul(INDICES)?;
-    Some(first.checked_add(index)? as usize)
-}
-
 // Notes the key index of a vote, which has to be a new one.
 fn note_index(given: &mut [bool], vote: &SignedVote) -> Result<(), Failure> {
-    match place_of(vote).and_then(|place| given.get_mut(place)) {
-        Some(is_given) if !*is_given => {
+    let [a, b, c, d, ..] = vote.signature;
+    let index = u32::from_be_bytes([a, b, c, d]);
+    let place = u32::from(vote.key)
+        .saturating_mul(INDICES)
+        .saturating_add(index);
+    match given.get_mut(place as usize) {
+        Some(is_given) if index < INDICES && !*is_given => {
             *is_given = true;
             Ok(())
         }
@@ -142,10 +136,10 @@ impl<'a> Findings<'a> {
         let mut committed = vec![in alloc; false; self.tree.count()]?;
         let mut count = 0usize;
         for last in 1..self.tree.count() {
-            let place = self
-                .committed_by(last)
-                .and_then(|first| committed.get_mut(first));
-            if let Some(is_counted) = place {
+            let Some(first) = self.committed_by(last) else {
+                continue;
+            };
+            if let Some(is_counted) = committed.get_mut(first) {
                 if !*is_counted {
                     *is_counted = true;
                     count = count.saturating_add(1);
@@ -199,17 +193,6 @@ fn names_signers(report: &Report, broke: bool) -> bool {
     true
 }
 
-// The source came whole, with all entries.
-fn is_whole(evidence: &Evidence, entries: usize) -> bool {
-    let whole = SourceReport {
-        replica: 0,
-        status: Status::Whole,
-        frames: entries,
-        entries,
-    };
-    evidence.sources() == [whole].as_slice()
-}
-
 // An audit of the evidence accuses just those signers that broke a rule, and proves just the commits of the model.
 fn nobody_honest_is_accused(
     alloc: Global,
@@ -218,7 +201,7 @@ fn nobody_honest_is_accused(
     counts: &mut Counts,
 ) -> Result<(), Failure> {
     let report = audit(alloc, evidence)?;
-    let findings = Findings::of(alloc, &round.tree, round.desk.replica.stored())?;
+    let findings = Findings::of(alloc, &round.tree, &round.desk.replica.stored)?;
     if !names_signers(&report, findings.signers_broke_a_rule()) {
         return Err(Failure::Refused("an audit names those who broke a rule"));
     }
@@ -231,7 +214,7 @@ fn nobody_honest_is_accused(
     Ok(())
 }
 
-// The log is audited as it is sent.
+// The log is audited as it is sent. It comes whole, with all entries.
 fn audit_is_right(
     alloc: Global,
     committee: &CommitteeView,
@@ -243,14 +226,20 @@ fn audit_is_right(
     let Ok(evidence) = evidence_of(alloc, committee, &texts) else {
         return Err(Failure::Refused("evidence is gathered"));
     };
-    if !is_whole(&evidence, log.count()) {
+    let whole = SourceReport {
+        replica: 0,
+        status: Status::Whole,
+        frames: log.count(),
+        entries: log.count(),
+    };
+    if evidence.sources() != [whole].as_slice() {
         return Err(Failure::Refused("an export is whole"));
     }
     nobody_honest_is_accused(alloc, &evidence, round, counts)
 }
 
-// Checks what is found at the end of a round.
-fn check(
+/// Checks what is found in the log at the end of a round.
+pub(crate) fn check_log(
     alloc: Global,
     committee: &CommitteeView,
     log: &mut VoteLog<MemoryDisk>,
@@ -262,16 +251,4 @@ fn check(
     counts.stored_votes = counts.stored_votes.saturating_add(votes);
     counts.beyond = counts.beyond.saturating_add(u64::from(round.beyond));
     audit_is_right(alloc, committee, log, round, counts)
-}
-
-/// Checks the log that is found at the end of a round.
-pub(crate) fn check_log(
-    alloc: Global,
-    committee: &CommitteeView,
-    log: VoteLog<MemoryDisk>,
-    round: &Round,
-    run: &mut Run,
-) -> Result<(), Failure> {
-    let mut log = log;
-    check(alloc, committee, &mut log, round, &mut run.counts)
 }

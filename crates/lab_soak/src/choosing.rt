@@ -53,85 +53,97 @@ fn above(random: &mut Random, view: u64, most: u64) -> u64 {
     view.saturating_add(1).saturating_add(gap)
 }
 
-// Adds a block on this parent that names the parent's view.
-fn child(
-    alloc: Global,
-    signers: &Signers,
-    round: &mut Round,
+// A block that is to be made.
+#[derive(Clone, Copy)]
+struct New {
     parent: usize,
+    parent_view: u64,
     view: u64,
-) -> io::Result<usize> {
-    let parent_view = round.tree.view(parent);
-    round.tree.add(alloc, signers, parent, parent_view, view)
+}
+
+// A view for a block on this one, above its view, or in half of the cases also above those that may not be voted for.
+fn view_on(round: &Round, random: &mut Random, parent: usize, most: u64) -> u64 {
+    let mut view = round.tree.view(parent);
+    if random.percent(50) {
+        view = view.max(round.desk.replica.vote_view);
+    }
+    above(random, view, most)
 }
 
 // A block on the highest held one, mostly of the next view, or of the first that may be voted for.
-fn grown(alloc: Global, signers: &Signers, round: &mut Round, run: &mut Run) -> io::Result<usize> {
+fn grown(round: &Round, random: &mut Random) -> New {
     let parent = top(round);
-    let mut view = round.tree.view(parent);
-    if run.random.percent(50) {
-        view = view.max(round.desk.replica.vote_view());
+    New {
+        parent,
+        parent_view: round.tree.view(parent),
+        view: view_on(round, random, parent, 3),
     }
-    let view = above(&mut run.random, view, 3);
-    child(alloc, signers, round, parent, view)
 }
 
 // A block on a young one, or on any, in half of the cases of a view that may be voted for, so that it may be against the
 // lock.
-fn forked(alloc: Global, signers: &Signers, round: &mut Round, run: &mut Run) -> io::Result<usize> {
-    let parent = young_or_any(&mut run.random, &round.tree, 70);
-    let mut view = round.tree.view(parent);
-    if run.random.percent(50) {
-        view = view.max(round.desk.replica.vote_view());
+fn forked(round: &Round, random: &mut Random) -> New {
+    let parent = young_or_any(random, &round.tree, 70);
+    New {
+        parent,
+        parent_view: round.tree.view(parent),
+        view: view_on(round, random, parent, 5),
     }
-    let view = above(&mut run.random, view, 5);
-    child(alloc, signers, round, parent, view)
 }
 
-// A block whose parent was never delivered.
-fn orphan(alloc: Global, signers: &Signers, round: &mut Round, run: &mut Run) -> io::Result<usize> {
-    let parent = grown(alloc, signers, round, run)?;
-    let view = above(&mut run.random, round.tree.view(parent), 3);
-    child(alloc, signers, round, parent, view)
+// A block on this one, which was never delivered.
+fn orphan(round: &Round, random: &mut Random, parent: usize) -> New {
+    let parent_view = round.tree.view(parent);
+    New {
+        parent,
+        parent_view,
+        view: above(random, parent_view, 3),
+    }
 }
 
 // A block that names a view that its parent does not have, with a certificate on it.
-fn misnamed(
-    alloc: Global,
-    signers: &Signers,
-    round: &mut Round,
-    run: &mut Run,
-) -> io::Result<usize> {
-    let parent = young_or_any(&mut run.random, &round.tree, 90);
-    let parent_view = above(&mut run.random, round.tree.view(parent), 3);
-    let view = above(&mut run.random, parent_view, 3);
+fn misnamed(round: &Round, random: &mut Random) -> New {
+    let parent = young_or_any(random, &round.tree, 90);
+    let parent_view = above(random, round.tree.view(parent), 3);
+    New {
+        parent,
+        parent_view,
+        view: above(random, parent_view, 3),
+    }
+}
+
+fn add(alloc: Global, signers: &Signers, round: &mut Round, new: New) -> io::Result<usize> {
+    let New {
+        parent,
+        parent_view,
+        view,
+    } = new;
     round.tree.add(alloc, signers, parent, parent_view, view)
 }
 
-// A block that may have been delivered before, mostly a young one; a new one in the place of genesis, which is none to
-// deliver.
-fn again(alloc: Global, signers: &Signers, round: &mut Round, run: &mut Run) -> io::Result<usize> {
-    let number = young_or_any(&mut run.random, &round.tree, 80);
-    if number == 0 {
-        return grown(alloc, signers, round, run);
-    }
-    Ok(number)
-}
-
-// The block that is delivered.
+// The block that is delivered: a new one; or one that may have been delivered before, mostly a young one, and a new one in the
+// place of genesis, which is none to deliver.
 fn block(alloc: Global, signers: &Signers, round: &mut Round, run: &mut Run) -> io::Result<usize> {
-    match run.random.below(100) {
-        0..45 => grown(alloc, signers, round, run),
-        45..70 => forked(alloc, signers, round, run),
-        70..74 => orphan(alloc, signers, round, run),
-        74..78 => misnamed(alloc, signers, round, run),
-        _ => again(alloc, signers, round, run),
-    }
+    let new = match run.random.below(100) {
+        0..45 => grown(round, &mut run.random),
+        45..70 => forked(round, &mut run.random),
+        70..74 => {
+            let parent = grown(round, &mut run.random);
+            let parent = add(alloc, signers, round, parent)?;
+            orphan(round, &mut run.random, parent)
+        }
+        74..78 => misnamed(round, &mut run.random),
+        _ => match young_or_any(&mut run.random, &round.tree, 80) {
+            0 => grown(round, &mut run.random),
+            number => return Ok(number),
+        },
+    };
+    add(alloc, signers, round, new)
 }
 
 // The view up to which all are given up: a few above the vote view, or one below it.
 fn given_up(round: &Round, random: &mut Random) -> u64 {
-    let view = round.desk.replica.vote_view();
+    let view = round.desk.replica.vote_view;
     if random.percent(80) {
         view.saturating_add(random.below(10))
     } else {
@@ -146,10 +158,8 @@ pub(crate) fn choose(
     round: &mut Round,
     run: &mut Run,
 ) -> io::Result<Operation> {
-    if run
-        .random
-        .percent(if round.desk.is_stopped() { 40 } else { 7 })
-    {
+    let leaving = if round.desk.stopped { 40 } else { 7 };
+    if run.random.percent(leaving) {
         return Ok(Operation::Leave);
     }
     if run.random.percent(8) {

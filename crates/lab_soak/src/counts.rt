@@ -86,59 +86,53 @@ impl Counts {
 
     /// Prints them.
     pub fn print<R: Print>(&self, rt: &R) -> io::Result<()> {
-        let Counts {
-            deliveries,
-            timeouts,
-            restarts,
-            crashes,
-            ..
-        } = *self;
-        println!(rt;
-            "operations: deliveries {deliveries} timeouts {timeouts} restarts {restarts} crashes {crashes}"
-        )?;
-        self.print_answers(rt)?;
-        self.print_ends(rt)
+        let lines: [&[(&str, u64)]; 6] = [
+            &[
+                ("operations: deliveries", self.deliveries),
+                (" timeouts", self.timeouts),
+                (" restarts", self.restarts),
+                (" crashes", self.crashes),
+            ],
+            &[
+                ("answers: voted", self.votes),
+                (" raised", self.raised),
+                (" held", self.held),
+                (" unknown parent", self.unknown_parents),
+                (" parent view", self.parent_views),
+            ],
+            &[
+                ("answers: key spent", self.key_spent),
+                (" device", self.device),
+                (" stopped", self.stopped),
+                (" other", self.other_refusals),
+            ],
+            &[
+                ("recoveries that failed first", self.failed_recoveries),
+                (", stored though the delivery failed", self.found),
+            ],
+            &[
+                ("rounds", self.rounds),
+                (": keys", self.keys),
+                (" votes", self.stored_votes),
+                (" commits", self.commits),
+                (" culprits", self.culprits),
+            ],
+            &[(
+                "voted under a later key than the round's first",
+                self.beyond,
+            )],
+        ];
+        for line in lines {
+            print_line(rt, line)?;
+        }
+        Ok(())
     }
+}
 
-    fn print_answers<R: Print>(&self, rt: &R) -> io::Result<()> {
-        let Counts {
-            votes,
-            raised,
-            held,
-            unknown_parents,
-            parent_views,
-            key_spent,
-            device,
-            stopped,
-            ..
-        } = *self;
-        println!(rt;
-            "answers: voted {votes} raised {raised} held {held} unknown parent {unknown_parents} parent view {parent_views}"
-        )?;
-        println!(rt;
-            "answers: key spent {key_spent} device {device} stopped {stopped} other {}",
-            self.other_refusals
-        )
+// A line of counts, each behind its words.
+fn print_line<R: Print>(rt: &R, counts: &[(&str, u64)]) -> io::Result<()> {
+    for (words, count) in counts {
+        print!(rt; "{words} {count}")?;
     }
-
-    fn print_ends<R: Print>(&self, rt: &R) -> io::Result<()> {
-        let Counts {
-            failed_recoveries,
-            found,
-            rounds,
-            keys,
-            beyond,
-            stored_votes,
-            commits,
-            culprits,
-            ..
-        } = *self;
-        println!(rt;
-            "recoveries that failed first {failed_recoveries}, stored though the delivery failed {found}"
-        )?;
-        println!(rt;
-            "rounds {rounds}: keys {keys} votes {stored_votes} commits {commits} culprits {culprits}"
-        )?;
-        println!(rt; "voted under a later key than the round's first {beyond}")
-    }
+    println!(rt; "")
 }

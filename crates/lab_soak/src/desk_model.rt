@@ -60,8 +60,9 @@ pub(crate) struct DeskModel {
     next: u32,
     // all indices below it are taken on the disk
     boundary: u32,
-    fuses: Fuses,
-    stopped: bool,
+    /// How the disks fail from here on.
+    pub fuses: Fuses,
+    pub stopped: bool,
     unsettled: Unsettled,
 }
 
@@ -74,21 +75,12 @@ fn append_fails(fuse: &mut Option<u32>) -> bool {
     fuse.is_none()
 }
 
+// Whether this is the entry of a block, and of a vote or a raised lock.
 fn is_entry(tree: &BlockTree, step: &Stored, kept: &Kept) -> bool {
     let parent = tree.parent(kept.block).unwrap_or(0);
     step.voted == kept.voted
         && step.block == tree.block(kept.block).header
         && step.parent == tree.block(parent).header
-}
-
-// Whether these are the entries of a stored list.
-fn are_entries(tree: &BlockTree, steps: &[Stored], stored: &[Kept]) -> bool {
-    for (step, kept) in steps.iter().zip(stored) {
-        if !is_entry(tree, step, kept) {
-            return false;
-        }
-    }
-    steps.len() == stored.len()
 }
 
 /// The number of the key that an index is of, and the index's number among those of its key. Each key has 1,024 of them.
@@ -113,10 +105,6 @@ impl DeskModel {
         })
     }
 
-    pub fn is_stopped(&self) -> bool {
-        self.stopped
-    }
-
     // How many indices all keys have.
     fn indices(&self) -> u32 {
         INDICES.saturating_mul(u32::from(self.keys))
@@ -125,11 +113,6 @@ impl DeskModel {
     /// How many indices are left when a desk is opened.
     pub fn left(&self) -> u32 {
         self.indices().saturating_sub(self.boundary)
-    }
-
-    /// From here on the disks fail so.
-    pub fn fuse(&mut self, fuses: Fuses) {
-        self.fuses = fuses;
     }
 
     // The refusals that change nothing, in their order, and else what is to be done.
@@ -144,13 +127,12 @@ impl DeskModel {
             return Err(DeskError::Core(CoreRefusal::ParentView));
         }
         let act = self.replica.act(tree, block);
-        if act != Act::Pass && self.replica.stored().len() >= MOST_ENTRIES {
-            return Err(DeskError::LogFull);
+        match act {
+            Act::Pass => Ok(act),
+            _ if self.replica.stored.len() >= MOST_ENTRIES => Err(DeskError::LogFull),
+            Act::Vote if self.next >= self.indices() => Err(DeskError::KeySpent),
+            _ => Ok(act),
         }
-        if act == Act::Vote && self.next >= self.indices() {
-            return Err(DeskError::KeySpent);
-        }
-        Ok(act)
     }
 
     fn stop(&mut self, unsettled: Unsettled) -> DeskError {
@@ -177,7 +159,7 @@ impl DeskModel {
         if append_fails(&mut self.fuses.log) {
             return Err(self.stop(Unsettled::Entry(act, block)));
         }
-        Ok(self.replica.stored().len())
+        Ok(self.replica.stored.len())
     }
 
     // What the desk answers and stores. The replica does it afterwards.
@@ -204,19 +186,14 @@ impl DeskModel {
 
     /// What the desk must answer to a block. The model does the same.
     pub fn deliver(&mut self, tree: &BlockTree, block: usize) -> Result<Expected, AllocError> {
-        match self.judge(tree, block) {
+        let (outcome, committed) = match self.judge(tree, block) {
             Ok((act, outcome)) => {
                 self.replica.take(tree, act, block)?;
-                Ok(Expected {
-                    outcome,
-                    committed: committed_by(tree, block),
-                })
+                (outcome, committed_by(tree, block))
             }
-            Err(refusal) => Ok(Expected {
-                outcome: Outcome::Refused(refusal),
-                committed: None,
-            }),
-        }
+            Err(refusal) => (Outcome::Refused(refusal), None),
+        };
+        Ok(Expected { outcome, committed })
     }
 
     /// Gives up on all views up to this one, unless the desk is stopped.
@@ -224,7 +201,7 @@ impl DeskModel {
         if self.stopped {
             return Err(DeskError::Stopped);
         }
-        self.replica.time_out(view);
+        self.replica.vote_view = self.replica.vote_view.max(view);
         Ok(())
     }
 
@@ -240,7 +217,7 @@ impl DeskModel {
                 Ok(is_there)
             }
             Unsettled::Entry(act, block) => {
-                let is_there = entries > self.replica.stored().len();
+                let is_there = entries > self.replica.stored.len();
                 if is_there {
                     self.replica.take(tree, act, block)?;
                 }
@@ -269,6 +246,11 @@ impl DeskModel {
 
     /// Whether a log has the entries of the stored list, and nothing else.
     pub fn has_stored(&self, tree: &BlockTree, steps: &[Stored]) -> bool {
-        are_entries(tree, steps, self.replica.stored())
+        for (step, kept) in steps.iter().zip(&self.replica.stored) {
+            if !is_entry(tree, step, kept) {
+                return false;
+            }
+        }
+        steps.len() == self.replica.stored.len()
     }
 }

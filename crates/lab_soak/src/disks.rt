@@ -39,7 +39,7 @@ pub(crate) struct Remains {
 }
 
 /// Why a disk could not be read.
-#[derive(Clone, Copy, PartialEq, Eq)]
+#[derive(Clone, Copy)]
 enum Unread {
     Device,
     Damaged,
@@ -110,7 +110,10 @@ fn found<S: Store>(
 ) -> Result<S, Failure> {
     let mut disk = disk;
     disk.fuse(u32::MAX, false);
-    S::find(alloc, committee, disk).map_err(|_| Failure::Refused("a store is found again"))
+    match S::find(alloc, committee, disk) {
+        Ok(store) => Ok(store),
+        Err(_) => Err(Failure::Refused("a store is found again")),
+    }
 }
 
 // The disk after a recovery a call of which may fail.
@@ -145,7 +148,10 @@ fn found_with_fuse<S: Store>(
     let calls = disk.calls().saturating_sub(before);
     let calls = u32::try_from(calls).unwrap_or(u32::MAX);
     disk.fuse(calls.saturating_add(pass), forever);
-    S::find(alloc, committee, disk).map_err(|_| Failure::Refused("a store is found once more"))
+    match S::find(alloc, committee, disk) {
+        Ok(store) => Ok(store),
+        Err(_) => Err(Failure::Refused("a store is found once more")),
+    }
 }
 
 // The store on a disk, by a second recovery if the first fails.
@@ -227,7 +233,7 @@ pub(crate) fn recovered(
     let Remains { trees, disks } = remains;
     let (index, log) = stores_on(alloc, committee, disks, fuses, run)?;
     restart(alloc, &log, &index, round, run)?;
-    round.desk.fuse(fuses);
+    round.desk.fuses = fuses;
     Ok(Parts { trees, index, log })
 }
 
@@ -238,7 +244,7 @@ fn judge(
     log: &VoteLog<MemoryDisk>,
     index: &IndexStore<MemoryDisk>,
 ) -> Result<(), Failure> {
-    let stored = round.desk.replica.stored().len();
+    let stored = round.desk.replica.stored.len();
     same(alloc, "entries found", &stored, &log.count())?;
     same(alloc, "indices left", &round.desk.left(), &index.left())?;
     if !round.desk.has_stored(&round.tree, log.steps()) {

@@ -100,7 +100,11 @@ fn main(rt: HostRuntime) -> ExitCode {
         Ok(words) => words.skip(1).collect::<Vec<String>>(rt.alloc()),
         Err(_) => return ExitCode::from(FAULT),
     };
-    let Some(plan) = words.ok().and_then(|words| Plan::read(&words)) else {
+    let plan = match words {
+        Ok(words) => Plan::read(&words),
+        Err(_) => None,
+    };
+    let Some(plan) = plan else {
         let _ = eprintln!(rt; "usage: lab_soak [SEED OPERATIONS]");
         return ExitCode::from(FAULT);
     };

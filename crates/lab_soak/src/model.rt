@@ -4,7 +4,7 @@ use crate::tree::BlockTree;
 use std::alloc::{AllocError, Global};
 
 /// What a replica does with a block.
-#[derive(Clone, Copy, Debug, PartialEq, Eq)]
+#[derive(Clone, Copy)]
 pub(crate) enum Act {
     Vote,
     Raise,
@@ -12,7 +12,7 @@ pub(crate) enum Act {
 }
 
 /// An entry of the stored list.
-#[derive(Clone, Copy, Debug, PartialEq, Eq)]
+#[derive(Clone, Copy)]
 pub(crate) struct Kept {
     pub voted: bool,
     pub block: usize,
@@ -21,10 +21,11 @@ pub(crate) struct Kept {
 /// The state of a replica, its stored list, and the blocks that it holds.
 #[derive(Drop)]
 pub(crate) struct Model {
-    vote_view: u64,
-    stored_vote_view: u64,
-    lock: usize,
-    stored: Vec<Kept>,
+    pub vote_view: u64,
+    pub stored_vote_view: u64,
+    /// The block that the replica is locked on.
+    pub lock: usize,
+    pub stored: Vec<Kept>,
     // by number
     held: Vec<bool>,
 }
@@ -53,7 +54,7 @@ fn mark(marks: &mut Vec<bool>, block: usize) -> Result<(), AllocError> {
 }
 
 pub(crate) fn is_marked(marks: &[bool], block: usize) -> bool {
-    marks.get(block).copied().unwrap_or(false)
+    matches!(marks.get(block), Some(true))
 }
 
 /// Genesis, and of each entry the block and its parent.
@@ -112,23 +113,6 @@ impl Model {
         })
     }
 
-    pub fn vote_view(&self) -> u64 {
-        self.vote_view
-    }
-
-    pub fn stored_vote_view(&self) -> u64 {
-        self.stored_vote_view
-    }
-
-    /// The block that the replica is locked on.
-    pub fn lock(&self) -> usize {
-        self.lock
-    }
-
-    pub fn stored(&self) -> &[Kept] {
-        &self.stored
-    }
-
     pub fn holds(&self, block: usize) -> bool {
         is_marked(&self.held, block)
     }
@@ -161,10 +145,11 @@ impl Model {
     /// Does it, and holds the block.
     pub fn take(&mut self, tree: &BlockTree, act: Act, block: usize) -> Result<(), AllocError> {
         mark(&mut self.held, block)?;
-        if act == Act::Pass {
-            return Ok(());
-        }
-        let voted = act == Act::Vote;
+        let voted = match act {
+            Act::Vote => true,
+            Act::Raise => false,
+            Act::Pass => return Ok(()),
+        };
         self.stored.push(Kept { voted, block })?;
         if voted {
             self.vote_view = tree.view(block);
@@ -174,10 +159,6 @@ impl Model {
             self.lock = lock;
         }
         Ok(())
-    }
-
-    pub fn time_out(&mut self, view: u64) {
-        self.vote_view = self.vote_view.max(view);
     }
 
     /// Timeouts are forgotten, and blocks whose chain is not known from the stored list.

@@ -48,9 +48,10 @@ fn live<R: Threads + Wait + Sync>(
 ) -> Result<(), Failure> {
     let mut remains = remains;
     for _ in 0..u64::MAX {
-        let parts = recovered(site.alloc, site.committee, remains, round, run)?;
+        let mut parts = recovered(site.alloc, site.committee, remains, round, run)?;
         if round.is_over(run) {
-            return check_log(site.alloc, site.committee, parts.log, round, run);
+            let log = &mut parts.log;
+            return check_log(site.alloc, site.committee, log, round, &mut run.counts);
         }
         remains = left(stay(rt, site, parts, round, run)?, run)?;
     }

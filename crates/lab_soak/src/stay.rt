@@ -49,9 +49,10 @@ fn answered(tree: &BlockTree, reply: &Result<Reply, DeskError>) -> Expected {
     match reply {
         Ok(reply) => Expected {
             outcome: outcome_of(&reply.act),
-            committed: reply
-                .committed
-                .map(|id| tree.number_of(&id).unwrap_or(usize::MAX)),
+            committed: match reply.committed {
+                Some(id) => Some(tree.number_of(&id).unwrap_or(usize::MAX)),
+                None => None,
+            },
         },
         Err(refusal) => Expected {
             outcome: Outcome::Refused(*refusal),
@@ -190,11 +191,11 @@ fn judge_state(
     replica: &Model,
     core: &Core,
 ) -> Result<(), Failure> {
-    let views = [replica.vote_view(), replica.stored_vote_view()];
+    let views = [replica.vote_view, replica.stored_vote_view];
     let got = [core.vote_view(), core.stored_vote_view()];
     same(alloc, "the vote view and the stored one", &views, &got)?;
     let lock = tree.number_of(&core.lock().id);
-    same(alloc, "the lock", &Some(replica.lock()), &lock)
+    same(alloc, "the lock", &Some(replica.lock), &lock)
 }
 
 // The core that a desk leaves has the model's state, and holds the same blocks.

@@ -44,11 +44,18 @@ impl<'a, R: Net<Stream = TcpStream> + Clock> ServerConnector<'a, R, TcpDialer<'a
         ensures failures { result.failures ≡ 0 }
         ensures pause { result.pause ≡ pause }
     {
-        ServerConnector::over(net, TcpDialer { net, address }).with_pause(pause)
+        ServerConnector::over(net, TcpDialer::new(net, address)).with_pause(pause)
     }
 }
 
-impl<R: Net<Stream = TcpStream>> TcpDialer<'_, R> {
+impl<'a, R: Net<Stream = TcpStream>> TcpDialer<'a, R> {
+    /// Opens streams to this address. Nothing is opened yet.
+    pub fn new(net: &'a R, address: &'a str) -> TcpDialer<'a, R>
+        ensures { result.address ≡ address.entry }
+    {
+        TcpDialer { net, address }
+    }
+
     // Connects to the first of the host's addresses that answers.
     fn connect_to_one(&self) -> io::Result<TcpStream> {
         let timeout = Duration::from_secs(CONNECT_SECONDS);

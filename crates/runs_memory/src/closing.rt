@@ -3,11 +3,10 @@
 ghost use Rattle.std.specs.Prelude.{◌≡◌};
 
 use crate::outcome::Outcome;
-use crate::replica::{Block, checked, committee, new_parts};
+use crate::replica::{Block, are_numbered, checked, committee, new_parts};
 use crate::stage::announce;
 use blocks::CommitteeView;
 use stable_log::MemoryDisk;
-use std::alloc::Global;
 use std::marker::Brand;
 use std::sync::Wait;
 use std::sync::ledger::Blank;
@@ -22,8 +21,11 @@ const VOTES: u8 = 6;
 
 const ALL_VOTES: usize = 18;
 
+/// How many indices of the key are left after them.
+const INDICES_LEFT: u32 = 1_006;
+
 /// Which sessions are handed in.
-#[derive(Clone, Copy, PartialEq, Eq)]
+#[derive(Clone, Copy)]
 pub(crate) enum HandedIn {
     All,
     AllButOne,
@@ -93,71 +95,36 @@ fn closes<N: DeskNaming, R: Wait + AllocGlobal, W: Sink>(
     if !all_vote(rt, &desk, &mut sessions, committee) {
         return None;
     }
-    let _kept = if handed_in == HandedIn::All {
-        None
-    } else {
-        sessions.pop()
+    let _kept = match handed_in {
+        HandedIn::All => None,
+        HandedIn::AllButOne => sessions.pop(),
     };
     announce(stage);
     Some(desk.close(alloc, sessions))
 }
 
-// A desk of one session is opened on these parts, and closed.
-fn reopens<N: DeskNaming>(
-    alloc: Global,
-    blank: Blank,
-    committee: &CommitteeView,
-    parts: Parts<MemoryDisk>,
-) -> Option<Closed<MemoryDisk>>
-    requires name { blank.name ≡ N.name }
-    requires ledger { (blank.parts ≡ N.parts) × (N.parts ≡ 1) }
-    requires committee { committee.now ≡ N.committee }
-    requires replica { 0 ≡ N.replica }
-    requires opening { parts.log.steps ≡ N.opening }
-{
-    let started = Desk::<N, MemoryDisk>::start(alloc, blank, committee, 0, parts, 1);
-    let (desk, sessions) = started.ok()?;
-    desk.close(alloc, sessions).ok()
-}
-
-// Whether parts that are handed back have all votes: a desk that is opened on them knows them, and closes.
-fn are_whole(alloc: Global, committee: &CommitteeView, parts: Parts<MemoryDisk>) -> bool {
-    match reopens::<Brand>(alloc, Blank::new(1), committee, parts) {
-        Some(closed) => closed.receipts.is_empty()
-            && closed.core.vote_view() == ALL_VOTES as u64
-            && closed.parts.log.count() == ALL_VOTES,
-        None => false,
-    }
+fn has_all_votes(parts: &Parts<MemoryDisk>) -> bool {
+    parts.log.count() == ALL_VOTES && parts.index.left() == INDICES_LEFT
 }
 
 fn has_all_receipts(closed: &Closed<MemoryDisk>) -> bool {
-    let numbers = closed.receipts.iter().map(|receipt| receipt.number);
     closed.receipts.len() == ALL_VOTES
-        && closed.parts.log.count() == ALL_VOTES
-        && numbers.enumerate().all(|(k, number)| k == number as usize)
+        && has_all_votes(&closed.parts)
+        && are_numbered(&closed.receipts)
 }
 
-fn judged(
-    alloc: Global,
-    committee: &CommitteeView,
-    answer: Answered,
-    handed_in: HandedIn,
-) -> Outcome {
-    let is_all = handed_in == HandedIn::All;
-    match answer {
-        Ok(closed) => Outcome::ample_if(is_all && has_all_receipts(&closed)),
-        Err((DeskError::Memory, parts)) => Outcome::Memory.if_so(are_whole(
-            alloc, committee, parts,
-        )),
-        Err((DeskError::ReceiptMismatch, parts)) => {
-            Outcome::ample_if(!is_all && parts.log.count() == ALL_VOTES)
+fn judged(answer: &Answered, handed_in: HandedIn) -> Outcome {
+    match (answer, handed_in) {
+        (Ok(closed), HandedIn::All) => Outcome::ample_if(has_all_receipts(closed)),
+        (Err((DeskError::Memory, parts)), _) => Outcome::Memory.if_so(has_all_votes(parts)),
+        (Err((DeskError::ReceiptMismatch, parts)), HandedIn::AllButOne) => {
+            Outcome::ample_if(has_all_votes(parts))
         }
-        Err(_) => Outcome::Wrong,
+        _ => Outcome::Wrong,
     }
 }
 
-/// `close` of a desk with receipts in three sessions. Where it answers that memory was refused, the parts that it hands back
-/// are opened again.
+/// `close` of a desk with receipts in three sessions. Where it is refused, the parts that it hands back have all votes.
 pub(crate) fn close_desk<R: Wait + Threads + Sync + AllocGlobal, W: Sink>(
     rt: &R,
     handed_in: HandedIn,
@@ -170,5 +137,5 @@ pub(crate) fn close_desk<R: Wait + Threads + Sync + AllocGlobal, W: Sink>(
     let Some(answer) = closes::<Brand, R, W>(rt, blank, &committee, parts, handed_in, stage) else {
         return Outcome::NotSetUp;
     };
-    judged(rt.alloc(), &committee, answer, handed_in)
+    judged(&answer, handed_in)
 }

@@ -5,7 +5,8 @@ ghost use Rattle.std.specs.Prelude.{◌≡◌};
 
 use crate::outcome::Outcome;
 use crate::replica::{
-    Block, are_of_the_run, checked, committee, has_digest, new_parts, recovered_log, restarted,
+    Block, are_numbered, are_of_the_run, checked, committee, has_digest, new_parts, recovered_log,
+    restarted,
 };
 use crate::stage::announce;
 use blocks::CommitteeView;
@@ -25,7 +26,7 @@ const LOG: &[u8; 32] =
 const INDICES_LEFT: u32 = 1_021;
 
 /// What is done where a call answered that memory was refused.
-#[derive(Clone, Copy, PartialEq, Eq)]
+#[derive(Clone, Copy)]
 pub(crate) enum After {
     /// The same call is made again, since memory is there again, and the run goes on.
     Again,
@@ -115,11 +116,12 @@ fn take_twice<N: DeskNaming, R: Wait + AllocGlobal>(
 ) -> Outcome
     requires { committee.now ≡ N.committee }
 {
-    let outcome = take(rt, desk, session, committee, step);
-    if outcome != Outcome::Memory || after == After::Leave {
-        return outcome;
+    match (take(rt, desk, session, committee, step), after) {
+        (Outcome::Memory, After::Again) => {
+            Outcome::Memory.if_so(take(rt, desk, session, committee, step) == Outcome::Ample)
+        }
+        (outcome, _) => outcome,
     }
-    outcome.if_so(take(rt, desk, session, committee, step) == Outcome::Ample)
 }
 
 // How many steps were taken, and what came of them and of one more.
@@ -143,9 +145,9 @@ fn take_all<N: DeskNaming, R: Wait + AllocGlobal>(
     for (k, (_, step)) in steps.iter().enumerate() {
         let next = take_twice(rt, desk, session, committee, *step, after);
         outcome = outcome.and(next);
-        let goes_on = next == Outcome::Ample || next == Outcome::Memory && after == After::Again;
-        if !goes_on {
-            return Taken { steps: k, outcome };
+        match (next, after) {
+            (Outcome::Ample, _) | (Outcome::Memory, After::Again) => {}
+            _ => return Taken { steps: k, outcome },
         }
     }
     Taken {
@@ -231,7 +233,7 @@ fn stay_once<R: Wait + AllocGlobal>(
         Err(NoStay::Ended(outcome)) => return Err(outcome),
         Err(NoStay::NotOpened(parts)) => parts,
     };
-    if after == After::Leave {
+    if matches!(after, After::Leave) {
         return Err(Outcome::Memory.if_so(parts.log.count() == 0));
     }
     match stay(rt, parts, steps, after) {
@@ -245,10 +247,8 @@ fn stay_once<R: Wait + AllocGlobal>(
 
 // Whether core, log and receipts are as in this state.
 fn is_left(closed: &Closed<MemoryDisk>, state: State) -> bool {
-    let numbers = closed.receipts.iter().map(|receipt| receipt.number);
-    let is_rising = numbers.enumerate().all(|(k, number)| k == number as usize);
     let State(entries, receipts, vote_view, lock_view) = state;
-    is_rising
+    are_numbered(&closed.receipts)
         && closed.parts.log.count() == entries
         && closed.receipts.len() == receipts
         && closed.core.vote_view() == vote_view
@@ -262,8 +262,8 @@ fn is_found<R: AllocGlobal>(rt: &R, parts: Parts<MemoryDisk>, entries: usize) ->
         recovered_log(rt.alloc(), parts.log.into_disk()),
     ) {
         (Some(committee), Some((log, Outcome::Ample))) => {
-            let more = log.count().checked_sub(entries);
-            more.is_some_and(|more| more <= 1) && are_of_the_run(&committee, log.steps())
+            matches!(log.count().checked_sub(entries), Some(0 | 1))
+                && are_of_the_run(&committee, log.steps())
         }
         _ => false,
     }
@@ -281,7 +281,10 @@ fn cut_short<R: AllocGlobal>(rt: &R, left: Left, steps: &[(State, Step)], after:
     };
     let is_device = taken.outcome == Outcome::Device;
     let holds = is_left(&closed, *before) && stopped == is_device;
-    let is_found = !is_device || after == After::Leave || is_found(rt, closed.parts, before.0);
+    let is_found = match after {
+        After::Again if is_device => is_found(rt, closed.parts, before.0),
+        _ => true,
+    };
     taken.outcome.if_so(holds && is_found)
 }
 
@@ -307,47 +310,68 @@ fn whole_stay<R: Wait + AllocGlobal>(
     Ok((parts, taken.outcome.if_so(holds)))
 }
 
-// Both stays. A delivery that is refused memory may use up an index: then the votes behind it have other signatures.
-fn both_stays<R: Wait + AllocGlobal>(rt: &R, parts: Parts<MemoryDisk>) -> Result<Outcome, Outcome> {
-    let (parts, first) = whole_stay(rt, parts, &FIRST_STAY, AFTER_FIRST_STAY, After::Again)?;
-    let indices = parts.index.left();
-    let (parts, found) = restarted(rt.alloc(), parts).ok_or(Outcome::Wrong)?;
-    let (parts, second) = whole_stay(rt, parts, &SECOND_STAY, AFTER_SECOND_STAY, After::Again)?;
-    let committee = committee().ok_or(Outcome::Wrong)?;
-    let is_the_run = are_of_the_run(&committee, parts.log.steps());
-    let is_stored = has_digest(parts.log.into_disk().bytes(), LOG);
-    let holds = match INDICES_LEFT.checked_sub(indices) {
-        Some(0) => is_stored,
-        Some(1) => first == Outcome::Memory,
-        _ => false,
+// What came of both stays, and what they left. A delivery that is refused memory may use up an index: then the votes behind it
+// have other signatures.
+fn are_stored(parts: Parts<MemoryDisk>, indices: u32, first: Outcome) -> bool {
+    let Some(committee) = committee() else {
+        return false;
     };
-    Ok(first.and(found).and(second).if_so(is_the_run && holds))
+    are_of_the_run(&committee, parts.log.steps())
+        && match INDICES_LEFT.checked_sub(indices) {
+            Some(0) => has_digest(parts.log.into_disk().bytes(), LOG),
+            Some(1) => first == Outcome::Memory,
+            _ => false,
+        }
 }
 
-/// The worked run. Each call that is refused memory is made again; a desk whose disk fails is closed, and its log recovered.
-pub(crate) fn run_twice<R: Wait + Threads + Sync + AllocGlobal, W: Sink>(
+// The second stay, behind a restart, after a first one that came to this.
+fn second_stay<R: Wait + AllocGlobal>(
     rt: &R,
-    stage: &mut W,
-) -> Outcome {
-    let Some(parts) = new_parts(rt) else {
-        return Outcome::NotSetUp;
+    parts: Parts<MemoryDisk>,
+    first: Outcome,
+) -> Result<Outcome, Outcome> {
+    let indices = parts.index.left();
+    let Some((parts, found)) = restarted(rt.alloc(), parts) else {
+        return Err(Outcome::Wrong);
     };
-    announce(stage);
-    match both_stays(rt, parts) {
-        Ok(outcome) | Err(outcome) => outcome,
+    let (parts, second) = whole_stay(rt, parts, &SECOND_STAY, AFTER_SECOND_STAY, After::Again)?;
+    Ok(
+        first
+            .and(found)
+            .and(second)
+            .if_so(are_stored(parts, indices, first)),
+    )
+}
+
+fn both_stays<R: Wait + AllocGlobal>(rt: &R, parts: Parts<MemoryDisk>) -> Outcome {
+    match whole_stay(rt, parts, &FIRST_STAY, AFTER_FIRST_STAY, After::Again) {
+        Ok((parts, first)) => match second_stay(rt, parts, first) {
+            Ok(outcome) | Err(outcome) => outcome,
+        },
+        Err(outcome) => outcome,
     }
 }
 
-/// The first stay of the worked run, which is left at the first call that is refused memory.
-pub(crate) fn run_and_leave<R: Wait + Threads + Sync + AllocGlobal, W: Sink>(
+// The first stay alone, which is left at the first call that is refused memory.
+fn one_stay<R: Wait + AllocGlobal>(rt: &R, parts: Parts<MemoryDisk>) -> Outcome {
+    match whole_stay(rt, parts, &FIRST_STAY, AFTER_FIRST_STAY, After::Leave) {
+        Ok((_, outcome)) | Err(outcome) => outcome,
+    }
+}
+
+/// The worked run. Where each call that is refused memory is made again, a desk whose disk fails is closed, and its log
+/// recovered; else it is the first stay alone.
+pub(crate) fn run_stays<R: Wait + Threads + Sync + AllocGlobal, W: Sink>(
     rt: &R,
+    after: After,
     stage: &mut W,
 ) -> Outcome {
     let Some(parts) = new_parts(rt) else {
         return Outcome::NotSetUp;
     };
     announce(stage);
-    match whole_stay(rt, parts, &FIRST_STAY, AFTER_FIRST_STAY, After::Leave) {
-        Ok((_, outcome)) | Err(outcome) => outcome,
+    match after {
+        After::Again => both_stays(rt, parts),
+        After::Leave => one_stay(rt, parts),
     }
 }

@@ -43,9 +43,12 @@ fn cut_source(alloc: Global) -> Result<MemoryConnector, AllocError> {
 
 fn are_stored(frames: &[Payload]) -> bool {
     let stored = nine_entries().get(MAGIC..).unwrap_or(b"");
+    for (came, frame) in frames.iter().zip(stored.chunks_exact(FRAME)) {
+        if Some(came.as_bytes()) != frame.get(LENGTH..) {
+            return false;
+        }
+    }
     frames.len() == FRAMES
-        && frames.iter().zip(stored.chunks_exact(FRAME)).all(|(came, frame)| Some(came.as_bytes())
-            == frame.get(LENGTH..))
 }
 
 fn is_whole(came: &Fetched) -> bool {

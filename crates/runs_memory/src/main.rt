@@ -3,7 +3,6 @@
 //! scenario once.
 #![tactic(auto)]
 
-mod audit;
 mod closing;
 mod delivering;
 mod fetching;

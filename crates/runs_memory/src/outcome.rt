@@ -1,7 +1,7 @@
 //! What comes of a scenario.
 
 /// What came of a scenario.
-#[derive(Clone, Copy, Debug, PartialEq, Eq)]
+#[derive(Clone, Copy, PartialEq, Eq)]
 pub(crate) enum Outcome {
     /// What ample memory answers.
     Ample,
@@ -9,8 +9,6 @@ pub(crate) enum Outcome {
     Memory,
     /// A disk was refused memory and failed, and all that must hold then holds.
     Device,
-    /// The sink was refused memory and failed, behind a first part of the text.
-    Sink,
     /// The scenario was refused memory before its first call.
     NotSetUp,
     /// Anything else.
@@ -24,7 +22,6 @@ impl Outcome {
             Outcome::Ample => b"ample\n",
             Outcome::Memory => b"memory\n",
             Outcome::Device => b"device\n",
-            Outcome::Sink => b"sink\n",
             Outcome::NotSetUp => b"not set up\n",
             Outcome::Wrong => b"WRONG\n",
         }

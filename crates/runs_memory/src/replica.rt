@@ -14,7 +14,7 @@ use sha2::{Digest, Sha256};
 use stable_log::MemoryDisk;
 use std::alloc::Global;
 use std::thread::Threads;
-use vote_desk::Parts;
+use vote_desk::{Parts, Receipt};
 use vote_log::{LogError, VoteLog};
 
 /// A block that the replica is shown.
@@ -152,10 +152,22 @@ pub(crate) fn restarted(
 /// Whether the steps are the first of those that the run stores: votes for A1, A2 and A3, and the lock that X6 raises.
 pub(crate) fn are_of_the_run(committee: &CommitteeView, steps: &[Stored]) -> bool {
     let run = [Block::A1, Block::A2, Block::A3, Block::X6];
+    for ((step, block), number) in steps.iter().zip(&run).zip(0u8..) {
+        if Some(step.block) != header_of(committee, *block) || step.voted != (number < 3) {
+            return false;
+        }
+    }
     steps.len() <= run.len()
-        && steps.iter().zip(&run).enumerate().all(|(k, (step, block))| {
-            Some(step.block) == header_of(committee, *block) && step.voted == (k < 3)
-        })
+}
+
+/// Whether the receipts are of the first entries, in order.
+pub(crate) fn are_numbered(receipts: &[Receipt]) -> bool {
+    for (number, receipt) in (0u32..).zip(receipts) {
+        if receipt.number != number {
+            return false;
+        }
+    }
+    true
 }
 
 /// Whether the bytes have this digest.

@@ -1,8 +1,7 @@
 //! The scenarios, by their names.
 
-use crate::audit::audit_fork;
 use crate::closing::{HandedIn, close_desk};
-use crate::delivering::{run_and_leave, run_twice};
+use crate::delivering::{After, run_stays};
 use crate::fetching::fetch_in_two;
 use crate::outcome::Outcome;
 use std::sync::Wait;
@@ -10,10 +9,8 @@ use std::thread::Threads;
 use streams::Sink;
 
 /// What is run.
-#[derive(Clone, Copy, Debug, PartialEq, Eq)]
+#[derive(Clone, Copy)]
 pub(crate) enum Scenario {
-    /// An audit of the stored fork by `audit_run`.
-    Audit,
     /// The worked run by `deliver`, where each call that is refused memory is made again.
     Deliver,
     /// The same, where the desk is closed at the first call that is refused memory.
@@ -27,8 +24,7 @@ pub(crate) enum Scenario {
 }
 
 /// All scenarios.
-pub(crate) const SCENARIOS: [Scenario; 6] = [
-    Scenario::Audit,
+pub(crate) const SCENARIOS: [Scenario; 5] = [
     Scenario::Deliver,
     Scenario::Leave,
     Scenario::Fetch,
@@ -40,7 +36,6 @@ impl Scenario {
     /// The word that names it.
     pub fn name(self) -> &'static str {
         match self {
-            Scenario::Audit => "audit",
             Scenario::Deliver => "deliver",
             Scenario::Leave => "leave",
             Scenario::Fetch => "fetch",
@@ -51,9 +46,12 @@ impl Scenario {
 
     /// The scenario that a word names.
     pub fn named(word: &str) -> Option<Scenario> {
-        SCENARIOS
-            .into_iter()
-            .find(|scenario| scenario.name() == word)
+        for scenario in SCENARIOS {
+            if scenario.name() == word {
+                return Some(scenario);
+            }
+        }
+        None
     }
 }
 
@@ -64,9 +62,8 @@ pub(crate) fn run<R: Threads + Wait + Sync + AllocGlobal, W: Sink>(
     stage: &mut W,
 ) -> Outcome {
     match scenario {
-        Scenario::Audit => audit_fork(rt, stage),
-        Scenario::Deliver => run_twice(rt, stage),
-        Scenario::Leave => run_and_leave(rt, stage),
+        Scenario::Deliver => run_stays(rt, After::Again, stage),
+        Scenario::Leave => run_stays(rt, After::Leave, stage),
         Scenario::Fetch => fetch_in_two(rt, stage),
         Scenario::Close => close_desk(rt, HandedIn::All, stage),
         Scenario::Withhold => close_desk(rt, HandedIn::AllButOne, stage),

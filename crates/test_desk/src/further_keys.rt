@@ -10,11 +10,11 @@ use std::alloc::{AllocError, Global};
 use std::process::Abort;
 use vote_desk::{Parts, Receipt};
 
-/// The bytes of a public key.
-pub(crate) type KeyBytes = [u8; PUBLIC_KEY_LEN];
+// The bytes of a public key.
+type KeyBytes = [u8; PUBLIC_KEY_LEN];
 
-/// The public keys of these trees.
-pub(crate) fn keys_of(alloc: Global, trees: &[SigningTree]) -> Result<Vec<KeyBytes>, AllocError> {
+// The public keys of these trees.
+fn keys_of(alloc: Global, trees: &[SigningTree]) -> Result<Vec<KeyBytes>, AllocError> {
     let mut keys = Vec::new(alloc);
     for tree in trees {
         keys.push(tree.public_key().to_bytes())?;
@@ -22,11 +22,10 @@ pub(crate) fn keys_of(alloc: Global, trees: &[SigningTree]) -> Result<Vec<KeyByt
     Ok(keys)
 }
 
-// The replicas of the stored committee, but that this one has these keys.
+// The replicas of the stored committee, but that replica 0 has these keys.
 fn members(
     alloc: Global,
     stored: &CommitteeView,
-    own: u16,
     keys: &[KeyBytes],
 ) -> Result<Vec<Member>, AllocError> {
     let mut members = Vec::new(alloc);
@@ -34,7 +33,7 @@ fn members(
         // For the proof: each replica has a key.
         let _count = stored.keys(replica);
         let first = [stored.key(replica, 0).to_bytes()];
-        let of_one = if replica == own { keys } else { &first };
+        let of_one = if replica == 0 { keys } else { &first };
         members.push(Member {
             weight: 1,
             keys: of_one.to_vec(alloc)?,
@@ -51,18 +50,14 @@ fn text_of(alloc: Global, members: &[Member]) -> Option<Vec<u8>> {
     write_multikey_committee(alloc, members).ok()
 }
 
-/// The bytes of the stored committee, but that this replica has these keys, one to four.
-pub(crate) fn committee_with<R: Abort + AllocGlobal>(
-    rt: &R,
-    own: u16,
-    keys: &[KeyBytes],
-) -> Vec<u8> {
-    let members = members(rt.alloc(), &committee(rt), own, keys).expect(rt, "memory");
+// The bytes of the stored committee, but that replica 0 has these keys, one to four.
+fn committee_with<R: Abort + AllocGlobal>(rt: &R, keys: &[KeyBytes]) -> Vec<u8> {
+    let members = members(rt.alloc(), &committee(rt), keys).expect(rt, "memory");
     text_of(rt.alloc(), &members).expect(rt, "a committee's bytes")
 }
 
-/// The committee that these bytes spell.
-pub(crate) fn parsed<'a, R: Abort>(rt: &R, bytes: &'a [u8]) -> CommitteeView<'a> {
+// The committee that these bytes spell.
+fn parsed<'a, R: Abort>(rt: &R, bytes: &'a [u8]) -> CommitteeView<'a> {
     CommitteeView::parse(bytes).ok().expect(rt, "a committee")
 }
 
@@ -115,9 +110,9 @@ fn go_on_under_key_1(committee: &CommitteeView, receipts: &[Receipt]) -> bool {
 
 #[test]
 fn votes_go_on_under_the_next_key(rt: HostRuntime) {
-    let trees = trees_of(&rt, 0, 2);
+    let trees = trees_of(&rt, 2);
     let keys = keys_of(rt.alloc(), &trees).expect(&rt, "memory");
-    let bytes = committee_with(&rt, 0, &keys);
+    let bytes = committee_with(&rt, &keys);
     let committee = parsed(&rt, &bytes);
     let log = new_log_of(&rt, &committee, new_disk(&rt));
     let index = store_at_1008(&rt);

@@ -3,12 +3,11 @@
 
 ghost use Rattle.std.specs.Prelude.{◌≡◌};
 
-use crate::replicas::{Block, checked_by, committee, header_of, new_parts, restarted};
-use blocks::{CommitteeView, Header};
+use crate::replicas::{Block, checked_by, committee, new_parts, restarted};
+use blocks::CommitteeView;
 use certificates::{LmsVerifier, Verifier};
 use lms_tree::{PublicKey, verify};
 use stable_log::MemoryDisk;
-use std::alloc::{AllocError, Global};
 use std::marker::Brand;
 use std::process::Abort;
 use std::sync::Wait;
@@ -17,7 +16,6 @@ use std::sync::ledger::Blank;
 use std::thread;
 use std::thread::Threads;
 use vote_desk::{Answer, Desk, DeskNaming, Parts, Receipt, Reply, Session};
-use vote_log::Entry;
 
 const LOG_OF_X8_AND_X9: &[u8; 32] =
     b"\x4a\xc9\xe3\x02\x5a\x0a\x65\x83\x1b\x48\x7e\x70\xb0\x1b\x63\x34\x2f\xe5\xd7\xb9\x66\x29\x2b\x59\xfe\xa4\xb8\x12\x91\x38\x40\x97";
@@ -230,69 +228,10 @@ fn is_overtaken(replies: &Replies) -> bool {
     !replies.gave_up && is_held(&replies.first) && is_vote(&replies.second, 1)
 }
 
-// The entry of a receipt's vote for this block, where that is what the receipt is of, and the block names this parent.
-fn entry_of(
-    alloc: Global,
-    committee: &CommitteeView,
-    receipt: &Receipt,
-    block: Block,
-    parent: &Header,
-) -> Option<Entry> {
-    let block = checked_by(alloc, &LmsVerifier, committee, block)?;
-    let vote = receipt.vote;
-    if vote.view != block.header().view || vote.id != *block.named().id() {
-        return None;
-    }
-    if !block.header().names(parent) {
-        return None;
-    }
-    Some(Entry::of(block, *parent, Some(vote)))
-}
-
-// Adds an entry behind its gate, as a journal has it.
-fn push_entry(alloc: Global, bytes: &mut Vec<u8>, entry: &Entry) -> Result<(), AllocError> {
-    let text = entry.write(alloc)?;
-    let length = u32::try_from(text.len()).unwrap_or(0);
-    bytes.push(1)?;
-    bytes.extend_from_slice(&length.to_be_bytes())?;
-    bytes.extend_from_slice(&text)
-}
-
-// The journal whose entry at each receipt's number is that of its block, with the receipt's vote. The first block stands
-// on genesis, the others on A1.
-fn log_of(
-    alloc: Global,
-    committee: &CommitteeView,
-    receipts: &[Receipt],
-    blocks: &[Block],
-) -> Option<Vec<u8>> {
-    let mut bytes = b"HSJ1\x00\x00\x00\x00".to_vec(alloc).ok()?;
-    let mut parent = committee.genesis();
-    for ((number, receipt), block) in (0u32..).zip(receipts).zip(blocks) {
-        if receipt.number != number {
-            return None;
-        }
-        let entry = entry_of(alloc, committee, receipt, *block, &parent)?;
-        push_entry(alloc, &mut bytes, &entry).ok()?;
-        parent = header_of(committee, Block::A1)?;
-    }
-    bytes.push(0).ok()?;
-    Some(bytes)
-}
-
-// There is a receipt for each of these blocks, whose entries the log's disk holds byte for byte, and the disk's bytes
-// have this digest.
-fn has_stored<R: Abort + AllocGlobal>(rt: &R, done: Outcomes, blocks: &[Block], digest: &[u8; 32]) {
-    let Outcomes {
-        replies: _,
-        receipts,
-        parts,
-    } = done;
-    assert!(rt; receipts.len() == blocks.len());
-    let log = log_of(rt.alloc(), &committee(rt), &receipts, blocks);
-    let log = log.expect(rt, "entries of these blocks");
-    let parts = restarted(rt, parts, digest);
-    assert!(rt; parts.log.into_disk().bytes() == log.as_slice());
+// There are so many receipts, and the log's disk holds the bytes of this digest.
+fn has_stored<R: Abort + AllocGlobal>(rt: &R, done: Outcomes, count: usize, digest: &[u8; 32]) {
+    assert!(rt; done.receipts.len() == count);
+    restarted(rt, done.parts, digest);
 }
 
 // The call of the higher view is answered last: both are voted for.
@@ -300,8 +239,7 @@ fn has_stored<R: Abort + AllocGlobal>(rt: &R, done: Outcomes, blocks: &[Block], 
 fn parallel_calls_overlap(rt: HostRuntime) {
     let done = overlapped(&rt, (Block::X9, Block::X8));
     assert!(rt; are_votes(&done.replies));
-    let blocks = [Block::A1, Block::X8, Block::X9];
-    has_stored(&rt, done, &blocks, LOG_OF_X8_AND_X9);
+    has_stored(&rt, done, 3, LOG_OF_X8_AND_X9);
 }
 
 // The call of the higher view is answered first: the other block is held.
@@ -309,5 +247,5 @@ fn parallel_calls_overlap(rt: HostRuntime) {
 fn later_call_overtakes(rt: HostRuntime) {
     let done = overlapped(&rt, (Block::X8, Block::X9));
     assert!(rt; is_overtaken(&done.replies));
-    has_stored(&rt, done, &[Block::A1, Block::X9], LOG_OF_X9);
+    has_stored(&rt, done, 2, LOG_OF_X9);
 }

@@ -157,7 +157,8 @@ fn x_on_a1(view: u8) -> Option<Header>
 }
 
 /// The header of a block, if its bytes are one.
-pub(crate) fn header_of(committee: &CommitteeView, block: Block) -> Option<Header> {
+// The header of a block, if its bytes are one.
+fn header_of(committee: &CommitteeView, block: Block) -> Option<Header> {
     match block {
         Block::X8 => x_on_a1(8),
         Block::X9 => x_on_a1(9),
@@ -185,9 +186,9 @@ pub(crate) fn new_disk<R: Abort + AllocGlobal>(rt: &R) -> MemoryDisk {
     MemoryDisk::new(rt.alloc(), Vec::new(rt.alloc())).expect(rt, "memory")
 }
 
-// A key of a replica. The first ones are those of the stored committee.
-fn tree_of<R: Abort + AllocGlobal>(rt: &R, replica: u8, number: u8) -> SigningTree {
-    let name = number.wrapping_mul(4).wrapping_add(replica);
+// A key of replica 0. The first is that of the stored committee.
+fn tree_of<R: Abort + AllocGlobal>(rt: &R, number: u8) -> SigningTree {
+    let name = number.wrapping_mul(4);
     let secret = PrivateSeed {
         key_id: [name; 16],
         seed: [name.wrapping_add(16); 32],
@@ -195,11 +196,11 @@ fn tree_of<R: Abort + AllocGlobal>(rt: &R, replica: u8, number: u8) -> SigningTr
     SigningTree::generate(rt.alloc(), secret).expect(rt, "memory")
 }
 
-/// So many keys of a replica.
-pub(crate) fn trees_of<R: Abort + AllocGlobal>(rt: &R, replica: u8, count: u8) -> Vec<SigningTree> {
+/// So many keys of replica 0.
+pub(crate) fn trees_of<R: Abort + AllocGlobal>(rt: &R, count: u8) -> Vec<SigningTree> {
     let mut trees = Vec::new(rt.alloc());
     for number in 0..count {
-        let pushed = trees.push(tree_of(rt, replica, number)).ok();
+        let pushed = trees.push(tree_of(rt, number)).ok();
         pushed.expect(rt, "memory");
     }
     trees
@@ -207,7 +208,7 @@ pub(crate) fn trees_of<R: Abort + AllocGlobal>(rt: &R, replica: u8, count: u8) -
 
 /// The key of replica 0.
 pub(crate) fn new_keys<R: Abort + AllocGlobal>(rt: &R) -> Vec<SigningTree> {
-    trees_of(rt, 0, 1)
+    trees_of(rt, 1)
 }
 
 /// The log of a committee's chain that has no entries.

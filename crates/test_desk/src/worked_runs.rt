@@ -2,8 +2,10 @@
 //! of an independent program that made them from the formats of docs/FORMATS.md and the seeds that `fixtures::keys` names.
 
 use crate::replicas::{Block, Step, new_parts, restarted, stay};
+use replica_core::CoreRefusal;
 use std::process::Abort;
 use std::sync::Wait;
+use vote_desk::DeskError;
 
 const LOG_WITH_A_RAISED_LOCK: &[u8; 32] =
     b"\x3a\x05\xcc\xe8\x10\x2f\x89\xff\x37\x91\x88\x95\xc1\x9b\x5b\xad\x57\x71\xd4\x67\x59\x4f\xb6\xf4\xb8\x89\x03\x74\x03\xf7\x4a\x93";
@@ -49,12 +51,15 @@ const RAISED_LOCK: [Stay; 2] = [
         log: LOG_WITH_A_RAISED_LOCK,
     },
     Stay {
-        steps: &[Step::Holds(Block::W4)],
+        steps: &[
+            Step::Refuses(Block::X6, DeskError::Core(CoreRefusal::UnknownParent)),
+            Step::Holds(Block::W4),
+        ],
         log: LOG_WITH_A_RAISED_LOCK,
     },
 ];
 
-// A lock that a block raised without a vote holds after a restart.
+// A lock that a block raised without a vote holds after a restart, and a block whose parent was not stored is dropped.
 #[test]
 fn raised_lock_survives_restart(rt: HostRuntime) {
     lives(&rt, &RAISED_LOCK);

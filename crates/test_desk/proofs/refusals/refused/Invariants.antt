@@ -1,4 +1,4 @@
-use Rattle.test_desk.proofs.refusals.refused_in.Given as goal
+use Rattle.test_desk.proofs.refusals.refused.Given as goal
 
 abbrev pub ghosts-starts-N-DeskNaming : goal.ghosts-starts-N-DeskNaming
 ghosts-starts-N-DeskNaming g a = record { committee = a.committee.now; replica = a.replica; opening = a.parts.log.steps }

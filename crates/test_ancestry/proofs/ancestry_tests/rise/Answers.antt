@@ -2,8 +2,8 @@ use Rattle.std.proofs.Common.{◌-◌, get_or, ◌∙◌, subst, arith}
 use Rattle.std.proofs.lemmas.List.{get_or_default}
 use Rattle.blocks.specs.Headers.{Header}
 use Rattle.blocks.specs.Headers.{HasLowerId}
-use Rattle.test_replica.proofs.Rising.{rises_more}
-use Rattle.test_replica.proofs.ancestry_tests.rise.Goals as goal
+use Rattle.test_ancestry.proofs.Rising.{rises_more}
+use Rattle.test_ancestry.proofs.ancestry_tests.rise.Goals as goal
 
 pub loop-k-preserved : goal.loop-k-preserved
 loop-k-preserved c =

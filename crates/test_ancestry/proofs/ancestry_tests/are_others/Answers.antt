@@ -4,8 +4,8 @@ use Rattle.std.proofs.lemmas.List.{take_all}
 use Rattle.std.specs.List.{All}
 use Rattle.blocks.specs.Headers.{Header, header_id}
 use Rattle.ancestry.proofs.Ids.{headers_decide}
-use Rattle.test_replica.proofs.Rising.{alone_from, others_more}
-use Rattle.test_replica.proofs.ancestry_tests.are_others.Goals as goal
+use Rattle.test_ancestry.proofs.Rising.{alone_from, others_more}
+use Rattle.test_ancestry.proofs.ancestry_tests.are_others.Goals as goal
 
 pub loop-h-preserved : goal.loop-h-preserved
 loop-h-preserved c =

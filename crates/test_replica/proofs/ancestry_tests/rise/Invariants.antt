@@ -1,5 +1,0 @@
-use Rattle.test_replica.proofs.Rising.{RisesBelow}
-use Rattle.test_replica.proofs.ancestry_tests.rise.Given as goal
-
-abbrev pub invariant-loop-k : goal.invariant-loop-k
-invariant-loop-k l = RisesBelow l.headers l.k
