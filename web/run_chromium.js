@@ -132,6 +132,8 @@ async function main() {
     // Dropped, several at once, and the chain id that one was told: until it is entered whole no answer has a colour.
     await browser.tell(EMPTY);
     await browser.drop("#committee-drop", [`${top}/examples/committee.hsc`]);
+    // What is shown of it moves the place for verdicts.
+    await browser.until(`committee !== null`);
     await browser.drop("#verdicts-drop", [`${top}/examples/double_vote.hsx`, `${top}/examples/lock_violation.hsx`, `${top}/examples/weighted/double_vote.hsx`]);
     await browser.until(`verdicts.length === 3`);
     const chain = await browser.tell(`committee.shown.chain`);
