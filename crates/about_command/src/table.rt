@@ -115,15 +115,15 @@ hs_signer | refused header 3 ViewOrder | The parent's view is not below the bloc
 hs_tool replica | refused header N | The first 84 bytes are no header: 1 Length, 2 Magic, 3 ViewOrder. | Build the header as FORMATS.md says.\n\
 hs_tool replica | refused certificate N | The rest is no certificate: 1 Memory, 2 Length, 3 Order, 4 Count. | Build the certificate as FORMATS.md says.\n\
 hs_signer | refused certificate 1 Memory | Memory was refused. | Send the block again.\n\
-hs_signer | refused certificate 2 Length | The rest has not as many bytes as its votes ask for. | Build the certificate as FORMATS.md says.\n\
+hs_signer | refused certificate 2 Length | What stands behind the header, or is posted to /certificate, has not as many bytes as its votes ask for. | Build the certificate as FORMATS.md says.\n\
 hs_signer | refused certificate 3 Order | The numbers of the replicas do not rise. | Put the votes in the order of their replicas.\n\
 hs_signer | refused certificate 4 Count | It has more than 31 votes, or none with a view above 0, or some with view 0. | Build the certificate as FORMATS.md says.\n\
 hs_tool replica | refused block N | The certificate does not fit the block, or is not good: 1 WrongBlock, 2 Count, 3 UnknownReplica, 4 Signature, 5 UnknownKey. | Drop the block: its leader is faulty, or is of another committee.\n\
-hs_signer | refused block 1 WrongBlock | The certificate is not on the parent's id and view that the header names. | Drop the block.\n\
-hs_signer | refused block 2 Count | The votes are no quorum, or are more than there are replicas. | Drop the block.\n\
-hs_signer | refused block 3 UnknownReplica | A vote is of a replica that the committee lacks. | Drop the block.\n\
-hs_signer | refused block 4 Signature | A vote does not verify. | Drop the block, and look which vote it is.\n\
-hs_signer | refused block 5 UnknownKey | A vote names a key that its replica has not. | Drop the block.\n\
+hs_signer | refused block 1 WrongBlock | The certificate is not on the parent's id and view that the header names; to POST /certificate: it is of view 2^64 - 1, on which no block can be. | Drop the block, or the certificate that was posted alone.\n\
+hs_signer | refused block 2 Count | The votes are no quorum, or are more than there are replicas. | Drop the block, or the certificate that was posted alone.\n\
+hs_signer | refused block 3 UnknownReplica | A vote is of a replica that the committee lacks. | Drop the block, or the certificate that was posted alone.\n\
+hs_signer | refused block 4 Signature | A vote does not verify. | Drop the block, or the certificate that was posted alone, and look which vote it is.\n\
+hs_signer | refused block 5 UnknownKey | A vote names a key that its replica has not. | Drop the block, or the certificate that was posted alone.\n\
 hs_tool replica | refused core N | The replica can't take the block: 1 Memory, 2 UnknownParent, 3 ParentView, 4 TreeFull, 5 SameId. | With 2 deliver the parent first, and then the block again.\n\
 hs_signer | refused core 1 Memory | Memory for one more header was refused. | Send the block again.\n\
 hs_signer | refused core 2 UnknownParent | No block of the parent's id is held. | Deliver the parent first, and then the block again.\n\
@@ -133,7 +133,7 @@ hs_signer | refused core 5 SameId | Another header has this id: SHA-256 is broke
 hs_signer | refused vote 1 UnknownReplica | The committee has no such replica. | Drop the vote.\n\
 hs_signer | refused vote 2 Signature | The vote does not verify under the key that it names. | Drop the vote.\n\
 hs_signer | refused vote 3 UnknownKey | The replica has no key of that number. | Drop the vote.\n\
-hs_signer | good | The vote verifies under the replica's key. | Count it.\n\
+hs_signer | good | The vote verifies under the replica's key; to POST /certificate: a quorum's votes are in the certificate, and each verifies, or it is that of genesis. | Count the vote, or take the certificate over.\n\
 hs_signer | ok | The process answers; at /health also that log, keys, disks and places for headers allow a vote. | Nothing.\n\
 hs_tool replica | desk 1 | Memory was refused; nothing was stored. | Send the block again.\n\
 hs_tool replica | desk 3 | The replica's keys are spent. | A new committee, of new keys, is due.\n\

@@ -13,7 +13,7 @@ use Rattle.certificates.specs.declared.vote.TheConstants.{VOTE_LEN}
 use Rattle.replica_answers.specs.Requests.{IsOfBlock}
 use Rattle.replica_answers.specs.declared.request.Request.{Request as Asked}
 use Rattle.replica_answers.specs.declared.request.Request.TheVariants as asks
-use Rattle.signer_calls.specs.Asking.{ARequestHasOneReading, HasContentType, HasGoodTarget, HasNoOrigin, HasRightMethod, IsAdmitted, IsAnother, IsAskedAt, IsAskedOf, IsHeldTo, IsRefusedAt, IsThere, IsWell, NamesHost, PassesDoor, TimeoutAsked, VoteAsked, query_in}
+use Rattle.signer_calls.specs.Asking.{ARequestHasOneReading, HasContentType, HasGoodTarget, HasNoOrigin, HasRightMethod, IsAdmitted, IsAskedAt, IsAskedOf, IsHeldTo, IsRefusedAt, IsThere, NamesHost, PassesDoor, TimeoutAsked, VoteAsked, query_in}
 use Rattle.signer_calls.specs.Places.{HasNoArgument, HasNoName, IsIdOf, IsNamedPlace, IsNumberOf, IsPlace, methods_of}
 use Rattle.signer_calls.specs.Queries.{IsQuery, no_query}
 use Rattle.signer_calls.specs.SpelledVotes.{IsVote, SpellsVote}
@@ -35,6 +35,7 @@ abbrev named : List ℕ → Place
 named path =
     if bytes_eq path (codes "/block") then place.Block
     else if bytes_eq path (codes "/vote") then place.Vote
+    else if bytes_eq path (codes "/certificate") then place.Certificate
     else if bytes_eq path (codes "/log") then place.Log
     else if bytes_eq path (codes "/status") then place.Status
     else if bytes_eq path (codes "/live") then place.Live
@@ -48,6 +49,7 @@ IsNamed path p = ((named path ≡ p) × (HasNoName path → ⊥)) ⊎ ((p ≡ pl
 is_named : (path : List ℕ) (p : Place) → IsNamedPlace path p → IsNamed path p
 is_named path place.Block is = inl (ap named is, λ none. none.block is)
 is_named path place.Vote is = inl (ap named is, λ none. none.vote is)
+is_named path place.Certificate is = inl (ap named is, λ none. none.certificate is)
 is_named path place.Log is = inl (ap named is, λ none. none.log is)
 is_named path place.Status is = inl (ap named is, λ none. none.status is)
 is_named path place.Live is = inl (ap named is, λ none. none.live is)
@@ -93,6 +95,7 @@ names path (place.VoteIn view) (digits, at, is) = inr (inl (view, digits, refl, 
 names path (place.Header id) (digits, at, is) = inr (inr (inl (id, digits, refl, at, is)))
 names path place.Block is = without path place.Block is
 names path place.Vote is = without path place.Vote is
+names path place.Certificate is = without path place.Certificate is
 names path place.Log is = without path place.Log is
 names path place.Status is = without path place.Status is
 names path place.Live is = without path place.Live is
@@ -209,6 +212,7 @@ VoteCase body a = ((v : SignedVote) × (a ≡ call.Judge v) × SpellsVote body v
 vote_case : (body : List ℕ) (a : Call) → VoteAsked body a → VoteCase body a
 vote_case body (call.Judge v) is = inl (v, refl, is)
 vote_case body (call.Replica x) is = inr is
+vote_case body (call.Certificate x) is = inr is
 vote_case body (call.VoteIn x) is = inr is
 vote_case body (call.Header x) is = inr is
 vote_case body (call.Log x) is = inr is
@@ -247,6 +251,7 @@ one_asked r place.Block q a b (x, is, of) (y, is', of') = is ∙ ap (λ (z : Ask
 one_asked r (place.Timeout (Some view)) q a b of of' = one_timeout view (body_of r) a b of of'
 one_asked r (place.Timeout None) q a b is is' = is ∙ sym is'
 one_asked r place.Vote q a b of of' = one_vote_call (body_of r) a b (vote_case (body_of r) a of) (vote_case (body_of r) b of')
+one_asked r place.Certificate q a b is is' = is ∙ sym is'
 one_asked r (place.VoteIn (Some view)) q a b is is' = is ∙ sym is'
 one_asked r (place.VoteIn None) q a b is is' = is ∙ sym is'
 one_asked r (place.Header (Some id)) q a b is is' = is ∙ sym is'

@@ -1,6 +1,7 @@
 -- What a request asks for: one call, or the first thing that is wrong with it.
 use Rattle.std.specs.Prelude.{◌≡◌, ◌≢◌, ◌⊎◌, ℕ, true, false, List, [], Option, Some, None, codes, length}
 use Rattle.blocks.specs.Genesis.{chain_id_of}
+use Rattle.certificates.specs.CertificateReading.{certificate_in}
 use Rattle.certificates.specs.declared.vote.TheConstants.{VOTE_LEN}
 use Rattle.http.specs.declared.request.Request.{Request}
 use Rattle.http.specs.Request.{body_of, head_of}
@@ -101,11 +102,16 @@ abbrev pub VoteAsked : List ℕ → Call → Type 0
 VoteAsked body (call.Judge vote) = SpellsVote body vote
 VoteAsked body asked = (asked ≡ call.Refused refused.Length) × (length body ≢ VOTE_LEN)
 
+-- what bytes are read as a certificate, or why they are none
+abbrev pub CertificateAsked : List ℕ → Call → Type 0
+CertificateAsked body asked = asked ≡ call.Certificate (certificate_in body)
+
 -- what is asked of a place by a request that is admitted, and whose query names this
 abbrev pub IsAskedAt : Request (List ℕ) → Place → Query → Call → Type 0
 IsAskedAt r place.Block query asked = (block : Asked) × (asked ≡ call.Replica block) × IsOfBlock (body_of r) block
 IsAskedAt r (place.Timeout (Some view)) query asked = TimeoutAsked view (body_of r) asked
 IsAskedAt r place.Vote query asked = VoteAsked (body_of r) asked
+IsAskedAt r place.Certificate query asked = CertificateAsked (body_of r) asked
 IsAskedAt r (place.VoteIn (Some view)) query asked = asked ≡ call.VoteIn view
 IsAskedAt r (place.Header (Some id)) query asked = asked ≡ call.Header id
 IsAskedAt r place.Log query asked = asked ≡ call.Log (part_of query)

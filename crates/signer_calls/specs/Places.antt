@@ -2,7 +2,7 @@
 use Rattle.std.specs.Prelude.{◌≡◌, ◌≢◌, ◌<◌, ◌^◌, ◌++◌, ℕ, Bool, true, false, List, Option, Some, None, codes, decimal, length}
 use Rattle.hex.specs.Hex.{IsBytes, encode_lower}
 use Rattle.signer_calls.specs.declared.place.Place.{Place}
-use Rattle.signer_calls.specs.declared.place.Place.TheVariants.{Block, Timeout, Vote, VoteIn, Header, Log, Status, Live, Health, Metrics, Nowhere}
+use Rattle.signer_calls.specs.declared.place.Place.TheVariants.{Block, Timeout, Vote, Certificate, VoteIn, Header, Log, Status, Live, Health, Metrics, Nowhere}
 use Rattle.signer_calls.specs.declared.place.Methods.{Methods}
 use Rattle.signer_calls.specs.declared.place.Methods.TheVariants.{Post, Get}
 use Rattle.signer_calls.specs.declared.place.Queries.{Queries}
@@ -26,6 +26,7 @@ IsIdOf digits None = (id : List ℕ) → IsId id → digits ≡ encode_lower id 
 pub record HasNoName (path : List ℕ) : Type 0 where
   pub block : path ≢ codes "/block"
   pub vote : path ≢ codes "/vote"
+  pub certificate : path ≢ codes "/certificate"
   pub log : path ≢ codes "/log"
   pub status : path ≢ codes "/status"
   pub live : path ≢ codes "/live"
@@ -36,6 +37,7 @@ pub record HasNoName (path : List ℕ) : Type 0 where
 abbrev pub IsNamedPlace : List ℕ → Place → Type 0
 IsNamedPlace path Block = path ≡ codes "/block"
 IsNamedPlace path Vote = path ≡ codes "/vote"
+IsNamedPlace path Certificate = path ≡ codes "/certificate"
 IsNamedPlace path Log = path ≡ codes "/log"
 IsNamedPlace path Status = path ≡ codes "/status"
 IsNamedPlace path Live = path ≡ codes "/live"
@@ -62,6 +64,7 @@ abbrev pub methods_of : Place → Methods
 methods_of Block = Post
 methods_of (Timeout view) = Post
 methods_of Vote = Post
+methods_of Certificate = Post
 methods_of _ = Get
 
 abbrev pub is_posted : Methods → Bool
@@ -74,6 +77,7 @@ queries_of Log = Part
 queries_of Block = Chain
 queries_of (Timeout view) = Chain
 queries_of Vote = Chain
+queries_of Certificate = Chain
 queries_of (VoteIn view) = Chain
 queries_of (Header id) = Chain
 queries_of _ = Nothing

@@ -2,7 +2,7 @@
 
 ghost use Rattle.std.specs.Prelude.{◌≡◌, ◌↔◌, IfOk, IsTrue, MatchOption, option_copied};
 ghost use Rattle.http.specs.Request.{head_of};
-ghost use Rattle.signer_calls.specs.Asking.{AsksFor, HasContentType, HasGoodTarget, HasNoOrigin, HasRightMethod, IsAdmitted, IsAnother, IsAskedAt, IsAskedOf, IsHeldTo, IsRefusedAt, IsThere, IsWell, NamesHost, PassesDoor, VoteAsked};
+ghost use Rattle.signer_calls.specs.Asking.{AsksFor, CertificateAsked, HasContentType, HasGoodTarget, HasNoOrigin, HasRightMethod, IsAdmitted, IsAnother, IsAskedAt, IsAskedOf, IsHeldTo, IsRefusedAt, IsThere, IsWell, NamesHost, PassesDoor, VoteAsked};
 ghost use Rattle.signer_calls.specs.Places.{queries_of};
 ghost use Rattle.signer_calls.specs.Queries.{HasGoodQuery, IsChainAlone};
 
@@ -15,6 +15,7 @@ use crate::rules::Rules;
 use crate::vote_reading::vote_in;
 use blocks::{CommitteeView, Id};
 use bytes::Bytes;
+use certificates::{Certificate, CertificateRefusal};
 use host_rule::has_good_host;
 use http::Request;
 use replica_answers::{Request as Asked, block_in};
@@ -109,6 +110,7 @@ fn asked_at(
         Place::Timeout(Some(view)) if body.is_empty() => Ok(Call::Replica(Asked::Timeout(view))),
         Place::Timeout(Some(_)) => Ok(Call::Refused(CallRefusal::Length)),
         Place::Vote => Ok(vote_asked(body)),
+        Place::Certificate => certificate_asked(alloc, body),
         Place::VoteIn(Some(view)) => Ok(Call::VoteIn(view)),
         Place::Header(Some(id)) => Ok(Call::Header(id)),
         Place::Log => Ok(Call::Log(part_of(query))),
@@ -126,6 +128,15 @@ fn vote_asked(body: &[u8]) -> Call
     match vote_in(body) {
         Some(vote) => Call::Judge(vote),
         None => Call::Refused(CallRefusal::Length),
+    }
+}
+
+fn certificate_asked(alloc: Global, body: &[u8]) -> Result<Call, AllocError>
+    ensures { IfOk result (CertificateAsked body.now) }
+{
+    match Certificate::read(alloc, body) {
+        Err(CertificateRefusal::Memory) => Err(AllocError),
+        read => Ok(Call::Certificate(read)),
     }
 }
 

@@ -6,7 +6,7 @@ ghost use Rattle.signer_calls.specs.CallRefusals.{call_refusal_name, call_refusa
 use crate::log_part::LogPart;
 use crate::place::Methods;
 use blocks::Id;
-use certificates::SignedVote;
+use certificates::{Certificate, CertificateRefusal, SignedVote};
 use http::StatusCode;
 use replica_answers::Request;
 
@@ -17,6 +17,8 @@ pub enum Call {
     Replica(Request),
     /// Whether a vote is good: `POST /vote`.
     Judge(SignedVote),
+    /// Whether a certificate is good, or why its bytes are none, which is not for want of memory: `POST /certificate`.
+    Certificate(Result<Certificate, CertificateRefusal>),
     /// The log's vote in this view: `GET /vote/V`.
     VoteIn(u64),
     /// Whether the header of this id is held: `GET /block/ID`.

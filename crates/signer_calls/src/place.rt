@@ -15,6 +15,8 @@ pub enum Place {
     Timeout(Option<u64>),
     /// `/vote`
     Vote,
+    /// `/certificate`
+    Certificate,
     /// `/vote/V`, if V is a number of 64 bits as it is printed.
     VoteIn(Option<u64>),
     /// `/block/ID`, if ID is 64 hex digits in lower case.
@@ -58,7 +60,7 @@ impl Place {
         ensures { result ≡ methods_of self }
     {
         match self {
-            Place::Block | Place::Timeout(_) | Place::Vote => Methods::Post,
+            Place::Block | Place::Timeout(_) | Place::Vote | Place::Certificate => Methods::Post,
             _ => Methods::Get,
         }
     }
@@ -78,8 +80,8 @@ impl Place {
     {
         match self {
             Place::Log => Queries::Part,
-            Place::Block | Place::Timeout(_) | Place::Vote | Place::VoteIn(_) | Place::Header(_) =>
-                Queries::Chain,
+            Place::Block | Place::Timeout(_) | Place::Vote | Place::Certificate => Queries::Chain,
+            Place::VoteIn(_) | Place::Header(_) => Queries::Chain,
             _ => Queries::Nothing,
         }
     }
@@ -129,6 +131,9 @@ fn named_place(path: &[u8]) -> Place
     }
     if is_same(path, b"/vote") {
         return Place::Vote;
+    }
+    if is_same(path, b"/certificate") {
+        return Place::Certificate;
     }
     if is_same(path, b"/log") {
         return Place::Log;

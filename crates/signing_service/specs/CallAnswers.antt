@@ -39,7 +39,7 @@ use Rattle.signer_answers.specs.declared.told.Told.TheVariants as tell
 use Rattle.signer_calls.specs.Asking.{AsksFor}
 use Rattle.signing_service.specs.Commits.{IsCommitOf}
 use Rattle.signing_service.specs.Healths.{IsHealthTold}
-use Rattle.signing_service.specs.Judging.{IsJudgementTold}
+use Rattle.signing_service.specs.Judging.{IsCertificateTold, IsJudgementTold}
 use Rattle.signing_service.specs.Metrics.{IsMetricsTold}
 use Rattle.signing_service.specs.Refusals.{IsRefusalTold}
 use Rattle.signing_service.specs.Responses.{IsLine, IsPassing, fields_of_kind}
@@ -256,6 +256,7 @@ module _ {D : Type 0} (disk : Ghosts D) (committee : List ℕ) (replica : ℕ) (
   IsCallTold rules asks tells receipts shown (call.Replica asked) told response =
       IsOutcomeOf rules.furthest asks tells receipts asked told × IsOutcomeTold (block_asked asked) told response
   IsCallTold rules asks tells receipts shown (call.Judge vote) told response = (told ≡ None) × IsVoteJudged asks shown vote response
+  IsCallTold rules asks tells receipts shown (call.Certificate read) told response = (told ≡ None) × IsCertificateTold committee read response
   IsCallTold rules asks tells receipts shown (call.VoteIn view) told response = (told ≡ None) × IsVoteTold view response
   IsCallTold rules asks tells receipts shown (call.Header id) told response = (told ≡ None) × IsHeaderTold id response
   IsCallTold rules asks tells receipts shown (call.Log part) told response = (told ≡ None) × IsPartTold part response

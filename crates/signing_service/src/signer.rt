@@ -4,13 +4,14 @@ ghost use Rattle.std.specs.Prelude.{◌≡◌, ◌<◌, ◌≤◌, ◌+◌, IfOk
 ghost use Rattle.http_server.specs.Response.{IsBlank};
 ghost use Rattle.signer_answers.specs.Guards.{WasPutBack};
 ghost use Rattle.signing_service.specs.CallAnswers.{IsCallServed, IsDeskHealthTold, IsDeskMetricsTold, IsDeskStatusTold, IsFar, IsHalted, IsHeaderTold, IsMeasured, IsNear, IsOutcomeOf, IsPartTold, IsServed, IsShut, IsStopTo, IsVoteJudged, IsVoteTold, SomeOne, committed_by, from_export, parent_view_of, receipts_told};
+ghost use Rattle.signing_service.specs.Judging.{IsCertificateTold};
 ghost use Rattle.signing_service.specs.Refusals.{IsRefusalTold, refusal_fields};
 ghost use Rattle.signing_service.specs.Responses.{IsLine, IsReady};
 ghost use Rattle.signing_service.specs.ToldLines.{block_asked};
 
 use crate::halt::{Halt, tell_halt, tell_unhealthy};
 use crate::health::tell_health;
-use crate::judging::tell_judgement;
+use crate::judging::{tell_certificate, tell_judgement};
 use crate::metrics::{METRICS_ROOM, Measured, tell_metrics};
 use crate::reception::Reception;
 use crate::refusing::{refuse, tell_refused};
@@ -20,7 +21,7 @@ use crate::witness::{Witness, seen_of};
 use crate::writing::{Kind, fill, make_ready, make_room, make_to_retry, settle};
 use blocks::{Ballot, Id};
 use bytes::Bytes;
-use certificates::SignedVote;
+use certificates::{Certificate, CertificateRefusal, SignedVote};
 use good_votes::{Checker, Known};
 use http::Request;
 use http_server::{Response, Service};
@@ -352,6 +353,24 @@ impl<
         tell_judgement(self.office.committee, self.verifier, vote, response)
     }
 
+    // Tells whether a certificate is good: of the desk nothing is asked.
+    fn judge_certificate(
+        &self,
+        read: Result<Certificate, CertificateRefusal>,
+        response: &mut Response,
+    ) -> Result<(), AllocError>
+        requires { IsBlank response.old }
+        ensures { OnOk result (IsCertificateTold N.committee read response.new) }
+    {
+        tell_certificate(
+            self.alloc,
+            self.office.committee,
+            self.verifier,
+            read,
+            response,
+        )
+    }
+
     // Tells what the desk is at.
     fn tell_desk_status(&self, response: &mut Response) -> Result<(), AllocError>
         requires { IsBlank response.old }
@@ -415,6 +434,7 @@ impl<
         match call {
             Call::Replica(asked) => return self.ask(asked, response),
             Call::Judge(vote) => self.judge(&vote, response)?,
+            Call::Certificate(read) => self.judge_certificate(read, response)?,
             Call::VoteIn(view) => self.tell_vote(view, response)?,
             Call::Header(id) => self.tell_header(&id, response)?,
             Call::Log(part) => self.hand_out(part, response)?,

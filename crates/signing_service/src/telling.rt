@@ -63,10 +63,18 @@ fn tell_came(response: &mut Response, block: &Option<Ballot>, outcome: &Outcome)
         Outcome::RefusedByDesk(refusal) => tell_desk(response, *refusal),
         _ => {
             settle(response);
-            response.status = outcome_status(outcome);
-            put_outcome(&mut response.body, block, outcome);
+            tell_outcome(response, block, outcome);
         }
     }
+}
+
+// Tells an outcome by its line.
+pub(crate) fn tell_outcome(response: &mut Response, block: &Option<Ballot>, outcome: &Outcome)
+    requires { IsReady (fields_of_kind Kind.Text) response.old }
+    ensures { IsLine (outcome_status outcome.now) (told_line block.now outcome.now) response.new }
+{
+    response.status = outcome_status(outcome);
+    put_outcome(&mut response.body, block, outcome);
 }
 
 // Tells that the log was put back.
