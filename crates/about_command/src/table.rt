@@ -50,7 +50,7 @@ hs_signer | asking source I OtherChain | What source I of --ask, counted from 0,
 hs_signer | asking source I Unnamed | The server of source I of --ask, counted from 0, closed without a byte when it was asked for the log of this chain, as versions before this one do, and was asked again without the chain's name. | Have whoever runs that server take this version.\n\
 hs_signer | asking source I OwnLog | Source I of --ask, counted from 0, has a vote of this replica, and in its view the replica's own log can't be read, or has a vote on that block that is not good. It is read again. | Ask GET /vote/V for the views of that source, and see to the disk of the replica's folder.\n\
 hs_signer | asking source I Memory | Memory was refused while source I of --ask, counted from 0, was read. It is read again. | Free memory.\n\
-hs_signer | successor not read | A block that hands over came, and the file of --successor can't be opened or read, or memory was refused. It is as if it were not there, and the block got no vote. | See to the file's mode: it is read anew at the next such block.\n\
+hs_signer | successor not read | A block that hands over came, or GET /successor, and the file of --successor can't be opened or read, or memory was refused. It is as if it were not there, and such a block got no vote. | See to the file's mode: it is read anew at the next such block or call.\n\
 hs_signer | successor 1 Length | The file of --successor has not as many bytes as its replicas ask for. The file is as if it were not there. | Lay the right file down by renaming it into its place; no restart is needed.\n\
 hs_signer | successor 2 Magic | The file of --successor does not begin as a committee. The file is as if it were not there. | Lay the right file down by renaming it into its place; no restart is needed.\n\
 hs_signer | successor 3 Size | The file of --successor has a number of replicas that is not allowed. The file is as if it were not there. | Lay the right file down by renaming it into its place; no restart is needed.\n\
@@ -156,6 +156,8 @@ hs_tool replica | serve fault 3 | The client went away, took nothing for 30 seco
 hs_tool replica | serve fault 4 | No connection could be had, or no request came in time. | Let the auditor ask again; look at the limit of open files.\n\
 hs_tool replica | serve fault 5 | What came is no request, or names another chain. | See who connects there.\n\
 hs_tool replica | serve fault 6 | A disk failed before, and nothing was sent. | See to the disk.\n\
+hs_signer | approved | FILE of --successor, as it is now, is the committee that a block with this payload hands over to: such a block may be voted for. | Nothing.\n\
+hs_signer | not approved | FILE of --successor, as it is now, is another committee's or as if it were not there, or there is no --successor: a block that hands over with this payload gets no vote. | Lay the right file down by renaming it into its place, if the ledger is to be handed over to that committee; standard error says why a file is not taken.\n\
 hs_signer | refused call 1 NoSuchCall | There is no call of this path. | See the table of calls in hs_signer(1).\n\
 hs_signer | refused call 2 Method | The path has other methods, which allow names. | Use one of these.\n\
 hs_signer | refused call 3 Number | A number is not in its one spelling or out of range, or a parameter is not known or there twice, or the chain of a part of the log is no id. | Write it without sign and leading zeros, and an id in 64 digits.\n\
@@ -164,7 +166,7 @@ hs_signer | refused call 5 Origin | Over TCP: a page in a browser called. | Call
 hs_signer | refused call 6 ContentType | Over TCP: what is posted is not application/octet-stream. | Send that header.\n\
 hs_signer | refused call 7 Far | The view lies further above the vote view than is allowed; nothing was delivered. | Deliver the blocks between, or start with a greater --furthest once you know why.\n\
 hs_signer | refused call 8 NoVote | The log has no vote in this view. | Nothing: the replica did not vote there.\n\
-hs_signer | refused call 9 Target | The target is not a path, or has a query that the call does not take, or an id that is not 64 digits in lower case. | Put it right.\n\
+hs_signer | refused call 9 Target | The target is not a path, or has a query that the call does not take, or an id or a payload that is not 64 digits in lower case. | Put it right.\n\
 hs_signer | refused call 10 NotHeld | No block of this id is held. | Deliver it, its parents first.\n\
 hs_signer | refused call 11 Length | A vote has not 1,495 bytes, or a timeout has a body. | Put it right.\n\
 hs_signer | refused call 12 Chain | The call names another chain than that of the signer's committee; nothing was done. | Drop it if that chain ended; else ask the signer of that chain.\n\

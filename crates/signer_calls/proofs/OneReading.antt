@@ -13,9 +13,8 @@ use Rattle.certificates.specs.declared.vote.TheConstants.{VOTE_LEN}
 use Rattle.replica_answers.specs.Requests.{IsOfBlock}
 use Rattle.replica_answers.specs.declared.request.Request.{Request as Asked}
 use Rattle.replica_answers.specs.declared.request.Request.TheVariants as asks
-use Rattle.signer_calls.specs.Asking.{ARequestHasOneReading, HasContentType, HasGoodTarget, HasNoOrigin, HasRightMethod, IsAdmitted, IsAskedAt, IsAskedOf, IsHeldTo, IsRefusedAt, IsThere, NamesHost, PassesDoor, TimeoutAsked, VoteAsked, query_in}
+use Rattle.signer_calls.specs.Asking.{ARequestHasOneReading, HasContentType, HasGoodTarget, HasNoOrigin, HasRightMethod, IsAdmitted, IsAskedAt, IsAskedOf, IsHeldTo, IsRefusedAt, IsThere, NamesHost, PartAsked, PassesDoor, SuccessorAsked, TimeoutAsked, VoteAsked, query_in}
 use Rattle.signer_calls.specs.Places.{HasNoArgument, HasNoName, IsIdOf, IsNamedPlace, IsNumberOf, IsPlace, methods_of}
-use Rattle.signer_calls.specs.Queries.{IsQuery, no_query}
 use Rattle.signer_calls.specs.SpelledVotes.{IsVote, SpellsVote}
 use Rattle.signer_calls.specs.declared.call.Call.{Call}
 use Rattle.signer_calls.specs.declared.call.Call.TheVariants as call
@@ -26,7 +25,7 @@ use Rattle.signer_calls.specs.declared.place.Place.TheVariants as place
 use Rattle.signer_calls.specs.declared.query.Query.{Query}
 use Rattle.signer_calls.specs.declared.rules.Rules.{Rules}
 use Rattle.signer_calls.proofs.Ids.{one_spelled}
-use Rattle.signer_calls.proofs.Parameters.{one_of_three}
+use Rattle.signer_calls.proofs.Parameters.{one_query}
 
 -- ---- a path names one place
 
@@ -36,6 +35,7 @@ named path =
     if bytes_eq path (codes "/block") then place.Block
     else if bytes_eq path (codes "/vote") then place.Vote
     else if bytes_eq path (codes "/certificate") then place.Certificate
+    else if bytes_eq path (codes "/successor") then place.Successor
     else if bytes_eq path (codes "/log") then place.Log
     else if bytes_eq path (codes "/status") then place.Status
     else if bytes_eq path (codes "/live") then place.Live
@@ -50,6 +50,7 @@ is_named : (path : List ℕ) (p : Place) → IsNamedPlace path p → IsNamed pat
 is_named path place.Block is = inl (ap named is, λ none. none.block is)
 is_named path place.Vote is = inl (ap named is, λ none. none.vote is)
 is_named path place.Certificate is = inl (ap named is, λ none. none.certificate is)
+is_named path place.Successor is = inl (ap named is, λ none. none.successor is)
 is_named path place.Log is = inl (ap named is, λ none. none.log is)
 is_named path place.Status is = inl (ap named is, λ none. none.status is)
 is_named path place.Live is = inl (ap named is, λ none. none.live is)
@@ -96,6 +97,7 @@ names path (place.Header id) (digits, at, is) = inr (inr (inl (id, digits, refl,
 names path place.Block is = without path place.Block is
 names path place.Vote is = without path place.Vote is
 names path place.Certificate is = without path place.Certificate is
+names path place.Successor is = without path place.Successor is
 names path place.Log is = without path place.Log is
 names path place.Status is = without path place.Status is
 names path place.Live is = without path place.Live is
@@ -215,6 +217,7 @@ vote_case body (call.Replica x) is = inr is
 vote_case body (call.Certificate x) is = inr is
 vote_case body (call.VoteIn x) is = inr is
 vote_case body (call.Header x) is = inr is
+vote_case body (call.Successor x) is = inr is
 vote_case body (call.Log x) is = inr is
 vote_case body call.Status is = inr is
 vote_case body call.Live is = inr is
@@ -232,12 +235,6 @@ one_vote_call body a b (inl (v, is, spells)) (inr (is', short)) = absurd (short 
 one_vote_call body a b (inr (is, short)) (inl (w, is', spells')) = absurd (short (long_vote body w spells'))
 one_vote_call body a b (inr (is, short)) (inr (is', short')) = is ∙ sym is'
 
--- ---- a query names one thing
-
-one_query : (text : Option (List ℕ)) (q r : Query) → IsQuery text q → IsQuery text r → q ≡ r
-one_query None q r is is' = is ∙ sym is'
-one_query (Some text) q r is is' = one_of_three text no_query q r is is'
-
 -- ---- one thing is asked of a place
 
 one_timeout : (view : ℕ) (body : List ℕ) (a b : Call) → TimeoutAsked view body a → TimeoutAsked view body b → a ≡ b
@@ -245,6 +242,16 @@ one_timeout view body a b (inl (empty, is)) (inl (empty', is')) = is ∙ sym is'
 one_timeout view body a b (inl (empty, is)) (inr (some, is')) = absurd (some empty)
 one_timeout view body a b (inr (some, is)) (inl (empty, is')) = absurd (some empty)
 one_timeout view body a b (inr (some, is)) (inr (some', is')) = is ∙ sym is'
+
+one_part : (q : Query) (a b : Call) → PartAsked q a → PartAsked q b → a ≡ b
+one_part q a b (inl (none, is)) (inl (none', is')) = is ∙ sym is'
+one_part q a b (inl (none, is)) (inr (some, is')) = absurd (some none)
+one_part q a b (inr (some, is)) (inl (none, is')) = absurd (some none)
+one_part q a b (inr (some, is)) (inr (some', is')) = is ∙ sym is'
+
+one_successor : (payload : Option (List ℕ)) (a b : Call) → SuccessorAsked payload a → SuccessorAsked payload b → a ≡ b
+one_successor (Some payload) a b is is' = is ∙ sym is'
+one_successor None a b is is' = is ∙ sym is'
 
 one_asked : (r : Request (List ℕ)) (p : Place) (q : Query) (a b : Call) → IsAskedAt r p q a → IsAskedAt r p q b → a ≡ b
 one_asked r place.Block q a b (x, is, of) (y, is', of') = is ∙ ap (λ (z : Asked). call.Replica z) (one_block (body_of r) x y of of') ∙ sym is'
@@ -256,7 +263,8 @@ one_asked r (place.VoteIn (Some view)) q a b is is' = is ∙ sym is'
 one_asked r (place.VoteIn None) q a b is is' = is ∙ sym is'
 one_asked r (place.Header (Some id)) q a b is is' = is ∙ sym is'
 one_asked r (place.Header None) q a b is is' = is ∙ sym is'
-one_asked r place.Log q a b is is' = is ∙ sym is'
+one_asked r place.Log q a b of of' = one_part q a b of of'
+one_asked r place.Successor q a b of of' = one_successor q.payload a b of of'
 one_asked r place.Status q a b is is' = is ∙ sym is'
 one_asked r place.Live q a b is is' = is ∙ sym is'
 one_asked r place.Health q a b is is' = is ∙ sym is'

@@ -7,9 +7,9 @@ use Rattle.std.proofs.lemmas.List.{append_cancel_left}
 use Rattle.std.proofs.lemmas.List.Elements.{Contains-append_right}
 use Rattle.hex.specs.Hex.{encode_lower}
 use Rattle.signer_calls.proofs.Ids.{one_spelled}
-use Rattle.signer_calls.specs.Queries.{IsCut, IsOneMore, IsParameter, with_parameter}
+use Rattle.signer_calls.specs.Queries.{IsCut, IsOfPayload, IsOneMore, IsParameter, IsQuery, no_query, with_parameter}
 use Rattle.signer_calls.specs.declared.query.Parameter.{Parameter}
-use Rattle.signer_calls.specs.declared.query.Parameter.TheVariants.{Chain, First, Most}
+use Rattle.signer_calls.specs.declared.query.Parameter.TheVariants.{Chain, First, Most, Payload}
 use Rattle.signer_calls.specs.declared.query.Query.{Query}
 
 -- ---- a number is printed in one way
@@ -31,6 +31,14 @@ one_parameter text (First m) (First n) h k =
 one_parameter text (Most m) (Most n) h k =
     let same = decimal_injective m n (omega (arith, h.0)) (omega (arith, k.0)) (append_cancel_left (codes "most=") (decimal m) (decimal n) (sym h.1 ∙ k.1)) in
     cc same
+one_parameter text (Payload i) (Payload j) h k =
+    ap (λ (id : List ℕ). Payload id) (one_spelled i j h.0 k.0 (append_cancel_left (codes "payload=") (encode_lower i) (encode_lower j) (sym h.1 ∙ k.1)))
+one_parameter text (Chain i) (Payload n) h k = let first = head_of (sym h.1 ∙ k.1) in absurd (omega (arith, first.0))
+one_parameter text (First i) (Payload n) h k = let first = head_of (sym h.1 ∙ k.1) in absurd (omega (arith, first.0))
+one_parameter text (Most i) (Payload n) h k = let first = head_of (sym h.1 ∙ k.1) in absurd (omega (arith, first.0))
+one_parameter text (Payload i) (Chain n) h k = let first = head_of (sym h.1 ∙ k.1) in absurd (omega (arith, first.0))
+one_parameter text (Payload i) (First n) h k = let first = head_of (sym h.1 ∙ k.1) in absurd (omega (arith, first.0))
+one_parameter text (Payload i) (Most n) h k = let first = head_of (sym h.1 ∙ k.1) in absurd (omega (arith, first.0))
 one_parameter text (Chain i) (First n) h k = let first = head_of (sym h.1 ∙ k.1) in absurd (omega (arith, first.0))
 one_parameter text (Chain i) (Most n) h k = let first = head_of (sym h.1 ∙ k.1) in absurd (omega (arith, first.0))
 one_parameter text (First m) (Chain j) h k = let first = head_of (sym h.1 ∙ k.1) in absurd (omega (arith, first.0))
@@ -122,3 +130,11 @@ module _ (More : Query → List ℕ → Query → Type 0) where
 -- a query names one thing
 pub one_of_three : (text : List ℕ) (before q r : Query) → IsCut (IsCut IsOneMore) before text q → IsCut (IsCut IsOneMore) before text r → q ≡ r
 one_of_three = one_of_cut (IsCut IsOneMore) (one_of_cut IsOneMore one_more)
+
+pub one_query : (text : Option (List ℕ)) (q r : Query) → IsQuery text q → IsQuery text r → q ≡ r
+one_query None q r is is' = is ∙ sym is'
+one_query (Some text) q r is is' = one_of_three text no_query q r is is'
+
+-- .. so what is so of one that it names, is so of each
+pub of_payload : (text : Option (List ℕ)) (q : Query) → IsQuery text q → ((named : Query) × IsQuery text named × IsOfPayload named) → IsOfPayload q
+of_payload text q is (named, is', of) = subst (λ (x : Query). IsOfPayload x) (one_query text named q is' is) of

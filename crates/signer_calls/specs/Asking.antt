@@ -102,6 +102,16 @@ abbrev pub VoteAsked : List ℕ → Call → Type 0
 VoteAsked body (call.Judge vote) = SpellsVote body vote
 VoteAsked body asked = (asked ≡ call.Refused refused.Length) × (length body ≢ VOTE_LEN)
 
+-- a part of the log, unless a payload is named
+abbrev pub PartAsked : Query → Call → Type 0
+PartAsked query asked =
+    ((query.payload ≡ None) × (asked ≡ call.Log (part_of query))) ⊎ ((query.payload ≢ None) × (asked ≡ call.Refused refused.Number))
+
+-- the payload that is named: where none is, the target was refused before
+abbrev pub SuccessorAsked : Option (List ℕ) → Call → Type 0
+SuccessorAsked (Some payload) asked = asked ≡ call.Successor payload
+SuccessorAsked None asked = asked ≡ call.Refused refused.Number
+
 -- what bytes are read as a certificate, or why they are none
 abbrev pub CertificateAsked : List ℕ → Call → Type 0
 CertificateAsked body asked = asked ≡ call.Certificate (certificate_in body)
@@ -114,7 +124,8 @@ IsAskedAt r place.Vote query asked = VoteAsked (body_of r) asked
 IsAskedAt r place.Certificate query asked = CertificateAsked (body_of r) asked
 IsAskedAt r (place.VoteIn (Some view)) query asked = asked ≡ call.VoteIn view
 IsAskedAt r (place.Header (Some id)) query asked = asked ≡ call.Header id
-IsAskedAt r place.Log query asked = asked ≡ call.Log (part_of query)
+IsAskedAt r place.Log query asked = PartAsked query asked
+IsAskedAt r place.Successor query asked = SuccessorAsked query.payload asked
 IsAskedAt r place.Status query asked = asked ≡ call.Status
 IsAskedAt r place.Live query asked = asked ≡ call.Live
 IsAskedAt r place.Health query asked = asked ≡ call.Health

@@ -2,11 +2,11 @@
 use Rattle.std.specs.Prelude.{◌≡◌, ◌≢◌, ◌<◌, ◌^◌, ◌++◌, ℕ, Bool, true, false, List, Option, Some, None, codes, decimal, length}
 use Rattle.hex.specs.Hex.{IsBytes, encode_lower}
 use Rattle.signer_calls.specs.declared.place.Place.{Place}
-use Rattle.signer_calls.specs.declared.place.Place.TheVariants.{Block, Timeout, Vote, Certificate, VoteIn, Header, Log, Status, Live, Health, Metrics, Nowhere}
+use Rattle.signer_calls.specs.declared.place.Place.TheVariants.{Block, Timeout, Vote, Certificate, VoteIn, Header, Successor, Log, Status, Live, Health, Metrics, Nowhere}
 use Rattle.signer_calls.specs.declared.place.Methods.{Methods}
 use Rattle.signer_calls.specs.declared.place.Methods.TheVariants.{Post, Get}
 use Rattle.signer_calls.specs.declared.place.Queries.{Queries}
-use Rattle.signer_calls.specs.declared.place.Queries.TheVariants.{Nothing, Chain, Part}
+use Rattle.signer_calls.specs.declared.place.Queries.TheVariants.{Nothing, Chain, Payload, Part}
 
 -- the digits print this number of 64 bits, or none
 abbrev pub IsNumberOf : List ℕ → Option ℕ → Type 0
@@ -27,6 +27,7 @@ pub record HasNoName (path : List ℕ) : Type 0 where
   pub block : path ≢ codes "/block"
   pub vote : path ≢ codes "/vote"
   pub certificate : path ≢ codes "/certificate"
+  pub successor : path ≢ codes "/successor"
   pub log : path ≢ codes "/log"
   pub status : path ≢ codes "/status"
   pub live : path ≢ codes "/live"
@@ -38,6 +39,7 @@ abbrev pub IsNamedPlace : List ℕ → Place → Type 0
 IsNamedPlace path Block = path ≡ codes "/block"
 IsNamedPlace path Vote = path ≡ codes "/vote"
 IsNamedPlace path Certificate = path ≡ codes "/certificate"
+IsNamedPlace path Successor = path ≡ codes "/successor"
 IsNamedPlace path Log = path ≡ codes "/log"
 IsNamedPlace path Status = path ≡ codes "/status"
 IsNamedPlace path Live = path ≡ codes "/live"
@@ -74,6 +76,7 @@ is_posted Get = false
 -- what a query may name there: what tells which chain it is of takes none
 abbrev pub queries_of : Place → Queries
 queries_of Log = Part
+queries_of Successor = Payload
 queries_of Block = Chain
 queries_of (Timeout view) = Chain
 queries_of Vote = Chain

@@ -2,7 +2,7 @@
 
 ghost use Rattle.std.specs.Prelude.{◌≡◌, ◌↔◌, IfOk, IsTrue, MatchOption, option_copied};
 ghost use Rattle.http.specs.Request.{head_of};
-ghost use Rattle.signer_calls.specs.Asking.{AsksFor, CertificateAsked, HasContentType, HasGoodTarget, HasNoOrigin, HasRightMethod, IsAdmitted, IsAnother, IsAskedAt, IsAskedOf, IsHeldTo, IsRefusedAt, IsThere, IsWell, NamesHost, PassesDoor, VoteAsked};
+ghost use Rattle.signer_calls.specs.Asking.{AsksFor, CertificateAsked, HasContentType, HasGoodTarget, HasNoOrigin, HasRightMethod, IsAdmitted, IsAnother, IsAskedAt, IsAskedOf, IsHeldTo, IsRefusedAt, IsThere, IsWell, NamesHost, PartAsked, PassesDoor, SuccessorAsked, VoteAsked};
 ghost use Rattle.signer_calls.specs.Places.{queries_of};
 ghost use Rattle.signer_calls.specs.Queries.{HasGoodQuery, IsChainAlone};
 
@@ -10,7 +10,7 @@ use crate::call::{Call, CallRefusal};
 use crate::door::has_bytes_type;
 use crate::log_part::part_of;
 use crate::place::{Methods, Place, Queries, behind, id_in, is_same, place_of};
-use crate::query::{Query, named_in};
+use crate::query::{Query, named_in, names_payload};
 use crate::rules::Rules;
 use crate::vote_reading::vote_in;
 use blocks::{CommitteeView, Id};
@@ -113,7 +113,8 @@ fn asked_at(
         Place::Certificate => certificate_asked(alloc, body),
         Place::VoteIn(Some(view)) => Ok(Call::VoteIn(view)),
         Place::Header(Some(id)) => Ok(Call::Header(id)),
-        Place::Log => Ok(Call::Log(part_of(query))),
+        Place::Successor => Ok(successor_asked(query)),
+        Place::Log => Ok(part_asked(query)),
         Place::Status => Ok(Call::Status),
         Place::Live => Ok(Call::Live),
         Place::Health => Ok(Call::Health),
@@ -128,6 +129,25 @@ fn vote_asked(body: &[u8]) -> Call
     match vote_in(body) {
         Some(vote) => Call::Judge(vote),
         None => Call::Refused(CallRefusal::Length),
+    }
+}
+
+// A part of the log, of which a payload says nothing.
+fn part_asked(query: &Query) -> Call
+    ensures { PartAsked query.now result }
+{
+    match query.payload {
+        Some(_) => Call::Refused(CallRefusal::Number),
+        None => Call::Log(part_of(query)),
+    }
+}
+
+fn successor_asked(query: &Query) -> Call
+    ensures { SuccessorAsked query.now.payload result }
+{
+    match query.payload {
+        Some(payload) => Call::Successor(payload),
+        None => Call::Refused(CallRefusal::Number),
     }
 }
 
@@ -189,6 +209,7 @@ fn has_good_query(place: Place, query: Option<&str>) -> bool
 {
     match place.queries() {
         Queries::Part => true,
+        Queries::Payload => names_payload(query),
         Queries::Chain => has_chain_at_most(query),
         Queries::Nothing => query.is_none(),
     }

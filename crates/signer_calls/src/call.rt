@@ -23,6 +23,8 @@ pub enum Call {
     VoteIn(u64),
     /// Whether the header of this id is held: `GET /block/ID`.
     Header(Id),
+    /// Whether a block with this payload may be voted for where it hands over: `GET /successor?payload=HEX`.
+    Successor([u8; 32]),
     /// A part of the log: `GET /log?first=F&most=M`.
     Log(LogPart),
     /// What the desk is at: `GET /status`.
@@ -56,7 +58,7 @@ pub enum CallRefusal {
     Far,
     /// 8: the log has no vote in this view.
     NoVote,
-    /// 9: the target is not in origin form (what stands behind a `#` is not looked at), has another query than is named, or an id that is not 64 digits in lower case.
+    /// 9: the target is not in origin form (what stands behind a `#` is not looked at), has another query than is named, or an id or a payload that is not 64 digits in lower case.
     Target,
     /// 10: no header of this id is held.
     NotHeld,

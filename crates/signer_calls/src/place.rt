@@ -21,6 +21,8 @@ pub enum Place {
     VoteIn(Option<u64>),
     /// `/block/ID`, if ID is 64 hex digits in lower case.
     Header(Option<Id>),
+    /// `/successor`
+    Successor,
     /// `/log`
     Log,
     /// `/status`
@@ -51,6 +53,8 @@ pub(crate) enum Queries {
     Nothing,
     /// The chain.
     Chain,
+    /// A payload, which is there, and the chain.
+    Payload,
     /// The chain, and a part of the log.
     Part,
 }
@@ -80,6 +84,7 @@ impl Place {
     {
         match self {
             Place::Log => Queries::Part,
+            Place::Successor => Queries::Payload,
             Place::Block | Place::Timeout(_) | Place::Vote | Place::Certificate => Queries::Chain,
             Place::VoteIn(_) | Place::Header(_) => Queries::Chain,
             _ => Queries::Nothing,
@@ -134,6 +139,9 @@ fn named_place(path: &[u8]) -> Place
     }
     if is_same(path, b"/certificate") {
         return Place::Certificate;
+    }
+    if is_same(path, b"/successor") {
+        return Place::Successor;
     }
     if is_same(path, b"/log") {
         return Place::Log;

@@ -1,10 +1,10 @@
 //! What the query of a call names.
 
-ghost use Rattle.std.specs.Prelude.{◌≡◌, ◌++◌, ◌∷◌, ◌<◌, ◌^◌, ℕ, IfNone, IfSome, MatchOption, Some, decimal, option_copied};
+ghost use Rattle.std.specs.Prelude.{◌≡◌, ◌↔◌, ◌++◌, ◌∷◌, ◌<◌, ◌^◌, ℕ, IfNone, IfSome, IsTrue, MatchOption, Some, decimal, option_copied};
 ghost use Rattle.std.specs.List.{Contains};
-ghost use Rattle.signer_calls.specs.Queries.{AreThreeMore, AreTwoMore, IsOneMore, IsParameter, IsQuery, no_query, with_parameter};
+ghost use Rattle.signer_calls.specs.Queries.{AreThreeMore, AreTwoMore, HasGoodQuery, IsOfPayload, IsOneMore, IsParameter, IsQuery, no_query, with_parameter};
 
-use crate::place::{behind, id_in};
+use crate::place::{Queries, behind, id_in};
 use blocks::Id;
 use printed_lines::number_in;
 
@@ -14,6 +14,7 @@ pub(crate) struct Query {
     pub chain: Option<Id>,
     pub first: Option<u32>,
     pub most: Option<u32>,
+    pub payload: Option<[u8; 32]>,
 }
 
 /// What a parameter of a query says.
@@ -22,6 +23,7 @@ pub(crate) enum Parameter {
     Chain(Id),
     First(u32),
     Most(u32),
+    Payload([u8; 32]),
 }
 
 impl Query {
@@ -33,6 +35,7 @@ impl Query {
             chain: None,
             first: None,
             most: None,
+            payload: None,
         }
     }
 
@@ -44,6 +47,7 @@ impl Query {
             Parameter::Chain(chain) => self.with_chain(chain),
             Parameter::First(first) => self.with_first(first),
             Parameter::Most(most) => self.with_most(most),
+            Parameter::Payload(payload) => self.with_payload(payload),
         }
     }
 
@@ -56,6 +60,7 @@ impl Query {
                 chain: Some(chain),
                 first: self.first,
                 most: self.most,
+                payload: self.payload,
             }),
         }
     }
@@ -69,6 +74,7 @@ impl Query {
                 chain: self.chain,
                 first: Some(first),
                 most: self.most,
+                payload: self.payload,
             }),
         }
     }
@@ -82,8 +88,30 @@ impl Query {
                 chain: self.chain,
                 first: self.first,
                 most: Some(most),
+                payload: self.payload,
             }),
         }
+    }
+
+    fn with_payload(self, payload: [u8; 32]) -> Option<Query>
+        ensures { result ≡ with_parameter self (Parameter.Payload payload) }
+    {
+        match self.payload {
+            Some(_) => None,
+            None => Some(Query {
+                chain: self.chain,
+                first: self.first,
+                most: self.most,
+                payload: Some(payload),
+            }),
+        }
+    }
+
+    // Whether it names a payload, and beside it the chain at most.
+    fn is_of_payload(&self) -> bool
+        ensures { IsTrue result ↔ IsOfPayload self.now }
+    {
+        self.payload.is_some() && self.first.is_none() && self.most.is_none()
     }
 }
 
@@ -96,6 +124,16 @@ pub(crate) fn named_in(query: Option<&str>) -> Option<Query>
         return Some(Query::new());
     };
     three_in(query.as_bytes(), Query::new())
+}
+
+// Whether a query names a payload, and beside it the chain at most.
+pub(crate) fn names_payload(query: Option<&str>) -> bool
+    ensures { IsTrue result ↔ HasGoodQuery Queries.Payload (option_copied query.entry) }
+{
+    match named_in(query) {
+        Some(named) => named.is_of_payload(),
+        None => false,
+    }
 }
 
 fn three_in(text: &[u8], before: Query) -> Option<Query>
@@ -138,8 +176,11 @@ fn parameter_in(text: &[u8]) -> Option<Parameter>
     if let Some(digits) = behind(text, b"first=") {
         return Some(Parameter::First(small_number_in(digits)?));
     }
-    let digits = behind(text, b"most=")?;
-    Some(Parameter::Most(small_number_in(digits)?))
+    if let Some(digits) = behind(text, b"most=") {
+        return Some(Parameter::Most(small_number_in(digits)?));
+    }
+    let digits = behind(text, b"payload=")?;
+    Some(Parameter::Payload(id_in(digits)?))
 }
 
 // The number of 32 bits that is printed so.

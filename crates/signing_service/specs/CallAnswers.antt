@@ -44,6 +44,7 @@ use Rattle.signing_service.specs.Metrics.{IsMetricsTold}
 use Rattle.signing_service.specs.Refusals.{IsRefusalTold}
 use Rattle.signing_service.specs.Responses.{IsLine, IsPassing, fields_of_kind}
 use Rattle.signing_service.specs.Statuses.{IsStatusTold}
+use Rattle.signing_service.specs.Successors.{IsSuccessorTold}
 use Rattle.signing_service.specs.ToldLines.{asking_line, block_asked, desk_status, named_desk_line, outcome_status, put_back_line, reply_line, told_line, unread_line}
 use Rattle.signer_calls.specs.declared.call.Call.{Call}
 use Rattle.signer_calls.specs.declared.call.Call.TheVariants as call
@@ -259,6 +260,7 @@ module _ {D : Type 0} (disk : Ghosts D) (committee : List ℕ) (replica : ℕ) (
   IsCallTold rules asks tells receipts shown (call.Certificate read) told response = (told ≡ None) × IsCertificateTold committee read response
   IsCallTold rules asks tells receipts shown (call.VoteIn view) told response = (told ≡ None) × IsVoteTold view response
   IsCallTold rules asks tells receipts shown (call.Header id) told response = (told ≡ None) × IsHeaderTold id response
+  IsCallTold rules asks tells receipts shown (call.Successor payload) told response = (told ≡ None) × IsSuccessorTold tells payload response
   IsCallTold rules asks tells receipts shown (call.Log part) told response = (told ≡ None) × IsPartTold part response
   IsCallTold rules asks tells receipts shown call.Status told response = (told ≡ None) × IsDeskStatusTold asks shown response
   IsCallTold rules asks tells receipts shown call.Live told response = (told ≡ None) × IsLine 200 (codes "ok\n") response

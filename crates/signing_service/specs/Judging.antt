@@ -12,9 +12,9 @@ use Rattle.certificates.specs.declared.checked_block.BlockRefusal.TheVariants.{W
 use Rattle.certificates.specs.declared.vote.SignedVote.{SignedVote}
 use Rattle.certificates.specs.declared.vote.VoteRefusal.{VoteRefusal}
 use Rattle.http_server.specs.declared.response.Response.{Response}
-use Rattle.signing_service.specs.Names.{vote_refusal_name}
 use Rattle.replica_answers.specs.declared.outcome.Outcome.{Outcome}
 use Rattle.replica_answers.specs.declared.outcome.Outcome.TheVariants as came
+use Rattle.signing_service.specs.Names.{vote_refusal_name}
 use Rattle.signing_service.specs.Responses.{IsLine, named_line}
 use Rattle.signing_service.specs.ToldLines.{outcome_status, told_line}
 
@@ -30,7 +30,7 @@ IsJudgementTold committee vote response =
 
 -- ---- a certificate
 
--- a block can be on what the certificate is on: some view is above its view
+-- a block can be on it: its view is not the last
 abbrev pub HasNext : Certificate → Type 0
 HasNext c = c.view + 1 < 2 ^ 64
 

@@ -4,6 +4,7 @@ pub mod Refusals
 pub mod ToldLines
 pub mod Healths
 pub mod Judging
+pub mod Successors
 pub mod Commits
 pub mod Statuses
 pub mod Tallies

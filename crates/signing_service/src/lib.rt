@@ -2,6 +2,7 @@
 //! that says so. Calls may wait for the desk's lock; no sockets or threads of its own.
 #![tactic(auto)]
 
+mod approving;
 mod commits;
 mod halt;
 mod health;

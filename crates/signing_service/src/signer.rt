@@ -9,6 +9,7 @@ ghost use Rattle.signing_service.specs.Refusals.{IsRefusalTold, refusal_fields};
 ghost use Rattle.signing_service.specs.Responses.{IsLine, IsReady};
 ghost use Rattle.signing_service.specs.ToldLines.{block_asked};
 
+use crate::approving::tell_successor;
 use crate::halt::{Halt, tell_halt, tell_unhealthy};
 use crate::health::tell_health;
 use crate::judging::{tell_certificate, tell_judgement};
@@ -437,6 +438,9 @@ impl<
             Call::Certificate(read) => self.judge_certificate(read, response)?,
             Call::VoteIn(view) => self.tell_vote(view, response)?,
             Call::Header(id) => self.tell_header(&id, response)?,
+            Call::Successor(payload) => {
+                tell_successor(self.office.keeper, &payload, response)?;
+            }
             Call::Log(part) => self.hand_out(part, response)?,
             Call::Status => self.tell_desk_status(response)?,
             Call::Live => tell_live(response)?,
