@@ -69,8 +69,11 @@ const ON_GENESIS: &[u8] = b"POST /block HTTP/1.1\r\nhost: a\r\ncontent-length: 1
 
 const ON_A_BLOCK: &[u8] = b"POST /block HTTP/1.1\r\nhost: a\r\ncontent-length: 4491\r\n\r\n";
 
+const OF_A_CERTIFICATE: &[u8] =
+    b"POST /certificate HTTP/1.1\r\nhost: a\r\ncontent-length: 4407\r\n\r\n";
+
 // The calls that deliver A1 to A4, of views 1 to 4, each on the one before; A4 commits A1, and comes twice. Behind them Z4, of view 4
-// on genesis.
+// on genesis, and the certificate of A3, to be judged.
 fn block_calls(alloc: Global) -> Result<Vec<u8>, AllocError> {
     let mut calls = Vec::new(alloc);
     for piece in [
@@ -92,6 +95,8 @@ fn block_calls(alloc: Global) -> Result<Vec<u8>, AllocError> {
         ON_GENESIS,
         core_blocks::z4(),
         texts::of_genesis(),
+        OF_A_CERTIFICATE,
+        core_blocks::certificate_of_a3(),
     ] {
         calls.extend_from_slice(piece)?;
     }
@@ -278,15 +283,17 @@ fn are_answers(alloc: Global, sent: &[u8], wanted: &[u8], texts: &[&[u8]]) -> bo
 }
 
 const STATUSES: &[u8] =
-    b"200 200 200 200 200 200 200 400 409 200 404 200 400 200 200 200 405 404 400 400 200 ";
+    b"200 200 200 200 200 200 200 200 400 409 200 404 200 400 200 200 200 200 405 404 400 400 200 ";
 
 // What is told of the calls, of A1 as the last commit, and by the metrics of the calls before.
-const TOLD: [&[u8]; 27] = [
+const TOLD: [&[u8]; 29] = [
     b"\r\nwezhgula-api: 1\r\n",
     b"\r\n\r\nvoted 0 0000",
     b" committed 5b526f8ffa3d66249b11ba8431f9d960b08aad60e33b288aeef2d11f58c1c938\nHTTP/1.1 200",
     b"\r\n\r\nheld 4 7f8590adac467f490aab9dc8c593bf9f063cfe5c2ffb8dbb5ddf51458b07225a\n",
+    b"\r\n\r\ngood\n",
     b"timeout 5\n",
+    b"\r\n\r\nnot approved\n",
     b"refused call 7 Far\n",
     b"allow: GET, HEAD\r\n",
     b"\"vote_view\":\"5\",\"stored_vote_view\":\"4\"",
@@ -338,6 +345,7 @@ GET /vote/1 HTTP/1.1\r\nhost: a\r\n\r\n\
 GET /vote/5 HTTP/1.1\r\nhost: a\r\n\r\n\
 GET /log?most=1&first=0 HTTP/1.1\r\nhost: a\r\n\r\n\
 GET /log?first=0&first=1 HTTP/1.1\r\nhost: a\r\n\r\n\
+GET /successor?payload=0000000000000000000000000000000000000000000000000000000000000000 HTTP/1.1\r\nhost: a\r\n\r\n\
 GET /status HTTP/1.1\r\nhost: a\r\n\r\n\
 GET /health HTTP/1.1\r\nhost: a\r\n\r\n\
 HEAD /live HTTP/1.1\r\nhost: a\r\n\r\n\
@@ -401,7 +409,7 @@ fn a_replica_answers_calls(rt: HostRuntime) {
     let keys = RandomState::new(&rt).ok().expect(&rt, "keys");
     let (sent, counted) = told(&rt, alloc, keys, 0, &input);
     let sent = sent.expect(&rt, "answers");
-    assert!(rt; counted == [21, 13, 0]);
+    assert!(rt; counted == [23, 15, 0]);
     assert!(rt; are_answers(alloc, &sent, STATUSES, &TOLD));
     assert!(rt; is_told_twice(&sent, b"voted 3 0000"));
 }
