@@ -1,0 +1,2 @@
+pub mod NextKeysLaws
+pub mod EndorsementLaws

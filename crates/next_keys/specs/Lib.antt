@@ -1,0 +1,5 @@
+pub mod BoundIds
+pub mod NextKeys
+pub mod NextKeysReading
+pub mod Endorsements
+pub mod EndorsementChecks
