@@ -1,0 +1,4 @@
+pub mod SlotLaws
+pub mod RenewalTexts
+pub mod Refused
+pub mod Kept

@@ -1,0 +1,15 @@
+//! Laws on renewals: each function's contract is the law, which holds where the function is called. Nothing is computed.
+
+ghost use Rattle.renewals.specs.RenewalLaws.{ASlotIsKeptOrSignedFor, AQuorumIsTheSame, EachSetWeighsTheSame};
+
+/// Where a committee renews another, each of its slots has the keys that it has there, or those that a good endorsement under the
+/// other committee states.
+pub fn each_slot_is_kept_or_signed_for()
+    ensures { ASlotIsKeptOrSignedFor }
+{}
+
+/// Where a committee renews another, each set of replicas weighs the same in both, and so does a quorum.
+pub fn a_renewal_keeps_the_weight()
+    ensures sets { EachSetWeighsTheSame }
+    ensures quorum { AQuorumIsTheSame }
+{}

@@ -1,0 +1,14 @@
+//! When a committee renews another: its slots are the other's, or new ones that the other's keys signed for. Needs no threads,
+//! files or network.
+#![tactic(auto)]
+
+mod format;
+mod laws;
+mod slot_statement;
+mod slots;
+mod testing;
+
+pub use format::{RENEWAL_HEAD_LEN, Renewal, RenewalFormRefusal};
+pub use laws::{a_renewal_keeps_the_weight, each_slot_is_kept_or_signed_for};
+pub use slots::{Slots, is_kept};
+pub use testing::{RenewalRefusal, renews};
