@@ -1,2 +1,3 @@
 pub mod NextKeysLaws
 pub mod EndorsementLaws
+pub mod Places

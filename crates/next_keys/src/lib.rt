@@ -11,5 +11,5 @@ mod statement;
 pub use binding::{KeyId, bound_id};
 pub use checking::{EndorsementRefusal, check_endorsement};
 pub use endorsement::{EndorsementView, SEAL_LEN, write_endorsement};
-pub use laws::{next_keys_have_one_spelling, no_statement_is_a_vote};
+pub use laws::{an_id_is_bound_to_one_place, next_keys_have_one_spelling, no_statement_is_a_vote};
 pub use statement::{NEXT_KEYS_HEAD_LEN, NextKeysRefusal, NextKeysView, write_next_keys};
