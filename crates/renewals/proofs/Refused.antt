@@ -5,8 +5,8 @@ use Rattle.certificates.specs.declared.certificate.Endorsement.{Endorsement}
 use Rattle.renewals.specs.Renewals.{Renewal}
 use Rattle.renewals.specs.Renewing.{AllSlots, IsGoodFor, IsSigned, Renews, signature_of}
 use Rattle.renewals.specs.RenewalRefusals.{IsFirstUnsigned, IsLeast, IsRenewalRefusal, IsUnsignedBy}
-use Rattle.renewals.specs.declared.testing.RenewalRefusal.{RenewalRefusal}
-use Rattle.renewals.specs.declared.testing.RenewalRefusal.TheVariants.{Chain, File, Format, Size, Weight, KeyCount, KeyId, Unsigned, KeyNumber, Signature, TooFew}
+use Rattle.renewals.specs.declared.judging.RenewalRefusal.{RenewalRefusal}
+use Rattle.renewals.specs.declared.judging.RenewalRefusal.TheVariants.{Chain, File, Format, Size, Weight, KeyCount, KeyId, Unsigned, KeyNumber, Signature, TooFew}
 
 -- the least slot that fails a test is one of the slots
 least_fails : (old : List ℕ) (P : ℕ → Type 0) (s : ℕ) → IsLeast old P s → AllSlots old P → ⊥

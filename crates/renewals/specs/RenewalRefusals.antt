@@ -1,5 +1,5 @@
 -- Why a committee does not renew another: the first test that is not passed.
-use Rattle.std.specs.Prelude.{◌≡◌, ◌≢◌, ◌<◌, ◌≤◌, ℕ, false, List, None, IsSomeAnd}
+use Rattle.std.specs.Prelude.{◌≡◌, ◌≢◌, ◌<◌, ◌≤◌, ℕ, false, List, codes, Option, Some, None, IsSomeAnd}
 use Rattle.sha2.specs.Sha256.{sha256}
 use Rattle.blocks.specs.Committees.{n_of, keys_of}
 use Rattle.blocks.specs.Genesis.{chain_id_of}
@@ -7,8 +7,8 @@ use Rattle.blocks.specs.Weights.{quorum_of}
 use Rattle.renewals.specs.Renewals.{Renewal}
 use Rattle.renewals.specs.Slots.{is_kept, new_weight}
 use Rattle.renewals.specs.Renewing.{AllSlots, HasCount, HasIds, HasWeight, HaveGoodSlots, HaveOneFormat, HaveOneShape, HaveOneSize, IsBetween, IsSigned, VerifiesUnder, signature_of}
-use Rattle.renewals.specs.declared.testing.RenewalRefusal.{RenewalRefusal}
-use Rattle.renewals.specs.declared.testing.RenewalRefusal.TheVariants.{Chain, File, Format, Size, Weight, KeyCount, KeyId, Unsigned, KeyNumber, Signature, TooFew}
+use Rattle.renewals.specs.declared.judging.RenewalRefusal.{RenewalRefusal}
+use Rattle.renewals.specs.declared.judging.RenewalRefusal.TheVariants.{Chain, File, Format, Size, Weight, KeyCount, KeyId, Unsigned, KeyNumber, Signature, TooFew}
 
 -- the least slot of a committee that does not pass a test
 pub record IsLeast (committee : List ℕ) (P : ℕ → Type 0) (s : ℕ) : Type 0 where
@@ -56,3 +56,31 @@ renewal_refusal_number (Unsigned s) = 8
 renewal_refusal_number (KeyNumber s) = 9
 renewal_refusal_number (Signature s) = 10
 renewal_refusal_number TooFew = 11
+
+-- its name, as it is printed
+abbrev pub renewal_refusal_name : RenewalRefusal → List ℕ
+renewal_refusal_name Chain = codes "Chain"
+renewal_refusal_name File = codes "File"
+renewal_refusal_name Format = codes "Format"
+renewal_refusal_name Size = codes "Size"
+renewal_refusal_name (Weight s) = codes "Weight"
+renewal_refusal_name (KeyCount s) = codes "KeyCount"
+renewal_refusal_name (KeyId s) = codes "KeyId"
+renewal_refusal_name (Unsigned s) = codes "Unsigned"
+renewal_refusal_name (KeyNumber s) = codes "KeyNumber"
+renewal_refusal_name (Signature s) = codes "Signature"
+renewal_refusal_name TooFew = codes "TooFew"
+
+-- the slot that is refused, if it is one
+abbrev pub slot_refused : RenewalRefusal → Option ℕ
+slot_refused Chain = None
+slot_refused File = None
+slot_refused Format = None
+slot_refused Size = None
+slot_refused (Weight s) = Some s
+slot_refused (KeyCount s) = Some s
+slot_refused (KeyId s) = Some s
+slot_refused (Unsigned s) = Some s
+slot_refused (KeyNumber s) = Some s
+slot_refused (Signature s) = Some s
+slot_refused TooFew = None

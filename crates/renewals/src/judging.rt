@@ -3,7 +3,7 @@
 ghost use Rattle.std.specs.Prelude.{◌≡◌, ◌<◌, ◌↔◌, ◌≤◌, IfErr, IfNone, IfOk, IfSome, IsOk, IsTrue, OnOk, option_map, take};
 ghost use Rattle.blocks.specs.Committees.{n_of, keys_of};
 ghost use Rattle.certificates.specs.Certificates.{vote_of};
-ghost use Rattle.renewals.specs.RenewalRefusals.{IsFirstUnsigned, IsLeast, IsRenewalRefusal, IsUnsignedBy, renewal_refusal_number};
+ghost use Rattle.renewals.specs.RenewalRefusals.{IsFirstUnsigned, IsLeast, IsRenewalRefusal, IsUnsignedBy, renewal_refusal_name, renewal_refusal_number, slot_refused};
 ghost use Rattle.renewals.specs.Renewing.{AllSlots, AreBound, HasCount, HasIds, HasWeight, HaveGoodSlots, HaveOneFormat, HaveOneSize, IsSigned, Renews, VerifiesUnder, signature_of};
 ghost use Rattle.renewals.specs.Slots.{AreSlotsOf};
 
@@ -60,6 +60,40 @@ impl RenewalRefusal {
             RenewalRefusal::KeyNumber(_) => 9,
             RenewalRefusal::Signature(_) => 10,
             RenewalRefusal::TooFew => 11,
+        }
+    }
+
+    /// Its name, as it is printed.
+    pub fn name(self) -> &'static str
+        ensures { result.now ≡ renewal_refusal_name self }
+    {
+        match self {
+            RenewalRefusal::Chain => "Chain",
+            RenewalRefusal::File => "File",
+            RenewalRefusal::Format => "Format",
+            RenewalRefusal::Size => "Size",
+            RenewalRefusal::Weight(_) => "Weight",
+            RenewalRefusal::KeyCount(_) => "KeyCount",
+            RenewalRefusal::KeyId(_) => "KeyId",
+            RenewalRefusal::Unsigned(_) => "Unsigned",
+            RenewalRefusal::KeyNumber(_) => "KeyNumber",
+            RenewalRefusal::Signature(_) => "Signature",
+            RenewalRefusal::TooFew => "TooFew",
+        }
+    }
+
+    /// The slot that is refused, if it is one.
+    pub fn slot(self) -> Option<u16>
+        ensures { result ≡ slot_refused self }
+    {
+        match self {
+            RenewalRefusal::Weight(s)
+            | RenewalRefusal::KeyCount(s)
+            | RenewalRefusal::KeyId(s)
+            | RenewalRefusal::Unsigned(s)
+            | RenewalRefusal::KeyNumber(s)
+            | RenewalRefusal::Signature(s) => Some(s),
+            _ => None,
         }
     }
 }

@@ -3,12 +3,12 @@
 #![tactic(auto)]
 
 mod format;
+mod judging;
 mod laws;
 mod slot_statement;
 mod slots;
-mod testing;
 
 pub use format::{RENEWAL_HEAD_LEN, Renewal, RenewalFormRefusal};
+pub use judging::{RenewalRefusal, renews};
 pub use laws::{a_renewal_keeps_the_weight, each_slot_is_kept_or_signed_for};
 pub use slots::{Slots, is_kept};
-pub use testing::{RenewalRefusal, renews};

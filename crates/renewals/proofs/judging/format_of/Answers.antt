@@ -1,6 +1,6 @@
 use Rattle.std.proofs.Common.{ℕ, List, ap, length, arith}
 use Rattle.blocks.proofs.CommitteeLaws.{size_of}
-use Rattle.renewals.proofs.testing.format_of.Goals as goal
+use Rattle.renewals.proofs.judging.format_of.Goals as goal
 
 pub array_at-requires : goal.array_at-requires
 array_at-requires c =

@@ -1,6 +1,6 @@
 use Rattle.std.proofs.Common.{◌<◌, length, arith}
 use Rattle.renewals.proofs.SlotLaws.{found_vote, passed_vote}
-use Rattle.renewals.proofs.testing.signature_of.Goals as goal
+use Rattle.renewals.proofs.judging.signature_of.Goals as goal
 
 pub returns-then-vote-s : goal.returns-then-vote-s
 returns-then-vote-s c =
