@@ -1,4 +1,4 @@
-//! Tests of certificates, blocks and verdicts against stored ones of another program.
+//! Tests of certificates, blocks, verdicts, endorsements and renewals against stored ones of another program.
 #![tactic(auto)]
 
 #[cfg(test)]
@@ -7,6 +7,12 @@ mod block_tests;
 mod certificate_tests;
 #[cfg(test)]
 mod key_tests;
+#[cfg(test)]
+mod next_key_tests;
+#[cfg(test)]
+mod renewal_tests;
+#[cfg(test)]
+mod renewed;
 #[cfg(test)]
 mod several_keys;
 #[cfg(test)]
