@@ -14,17 +14,18 @@ use Rattle.lms_tree.specs.Keys.{IsPublicKey}
 use Rattle.certificates.specs.declared.certificate.Endorsement.{Endorsement}
 use Rattle.blocks.specs.Genesis.{chain_id_of}
 use Rattle.blocks.specs.Headers.{header_id}
-use Rattle.blocks.specs.Committees.{IsCommittee, key_at, keys_of, n_of, weight_at}
+use Rattle.blocks.specs.Committees.{IsCommittee, key_at, key_id_at, keys_of, n_of, weight_at}
 use Rattle.blocks.specs.Weights.{is_any, weight_of}
 use Rattle.blocks.proofs.CommitteeLaws.{count_here, key_here, room_below, size_of}
-use Rattle.next_keys.specs.BoundIds.{bound_id}
+use Rattle.next_keys.specs.BoundIds.{IsPlace, bound_id}
 use Rattle.next_keys.specs.Endorsements.{HasBoundIds, IsEndorsementOf, IsGoodEndorsement, IsSigned, endorsement_text, signature_in, signing_key_in, statement_in}
 use Rattle.next_keys.specs.NextKeys.{AreNextKeys, NextKeys, chain_in, count_in, key_in, next_keys_text, replica_in}
 use Rattle.next_keys.specs.NextKeysReading.{IsStatement}
 use Rattle.next_keys.proofs.EndorsementLaws.{endorsement_again}
+use Rattle.next_keys.proofs.Places.{one_place}
 use Rattle.next_keys.proofs.NextKeysLaws.{again, key_of_count, length-keys_from}
 use Rattle.renewals.specs.Renewals.{Renewal}
-use Rattle.renewals.specs.RenewalLaws.{AQuorumIsTheSame, ASlotIsKeptOrSignedFor, EachSetWeighsTheSame, IsSignedFor}
+use Rattle.renewals.specs.RenewalLaws.{AQuorumIsTheSame, ASlotIsKeptOrSignedFor, EachSetWeighsTheSame, IsSignedFor, NewKeysHaveOnePlace}
 use Rattle.renewals.specs.Renewing.{IsGoodFor, Renews, signature_of}
 use Rattle.renewals.specs.Slots.{is_kept, keys_upto, same_keys, slot_statement}
 use Rattle.renewals.proofs.SlotLaws.{length-keys_upto}
@@ -177,6 +178,14 @@ signed_for old new r s (Some e) was is renews below other good =
       signature = e.signature;
       good = good_from old (endorsement_text text e.key e.signature) text e.key e.signature (endorsement_again (endorsement_text text e.key e.signature) text e.key e.signature written) parts;
     }
+
+pub new_keys : NewKeysHaveOnePlace
+new_keys old new r was renews s k inside other has chain replica key place apart is =
+    let bound = (renews.slots.ids s inside).bound other k has in
+    let most = (size_of old was).most in
+    let few = count_here old s was inside in
+    let here : IsPlace (chain_id_of old) s k = record { long = chain_long old; two_bytes = omega arith; one_byte = omega (arith, few.1, room_below old) } in
+    one_place (key_id_at new s k) (chain_id_of old) chain s replica k key here place apart bound is
 
 pub each_slot : ASlotIsKeptOrSignedFor
 each_slot old new r was is renews s below =

@@ -1,13 +1,14 @@
 -- What holds of committees of which one renews the other.
-use Rattle.std.specs.Prelude.{◌≡◌, ◌⊎◌, ◌<◌, ℕ, Bool, List}
-use Rattle.blocks.specs.Committees.{IsCommittee, n_of, weight_at}
+use Rattle.std.specs.Prelude.{◌≡◌, ◌⊎◌, ◌<◌, ℕ, Bool, false, List}
+use Rattle.blocks.specs.Committees.{IsCommittee, n_of, keys_of, key_id_at, weight_at}
 use Rattle.blocks.specs.Weights.{quorum_of, weight_of}
+use Rattle.next_keys.specs.BoundIds.{AreApart, IsPlace, bound_id}
 use Rattle.next_keys.specs.Endorsements.{IsGoodEndorsement, endorsement_text}
 use Rattle.next_keys.specs.NextKeys.{next_keys_text}
 use Rattle.blocks.specs.Genesis.{chain_id_of}
 use Rattle.renewals.specs.Renewals.{Renewal}
 use Rattle.renewals.specs.Renewing.{Renews}
-use Rattle.renewals.specs.Slots.{slot_keys, slot_statement}
+use Rattle.renewals.specs.Slots.{is_kept, slot_keys, slot_statement}
 
 -- a key and a signature by which a replica endorsed just the keys of its slot
 pub record IsSignedFor (old new : List ℕ) (s : ℕ) : Type 0 where
@@ -20,6 +21,15 @@ abbrev pub ASlotIsKeptOrSignedFor : Type 0
 ASlotIsKeptOrSignedFor =
     (old new : List ℕ) (r : Renewal) → IsCommittee old → IsCommittee new → Renews old new r
     → (s : ℕ) → s < n_of new → (slot_keys new s ≡ slot_keys old s) ⊎ IsSignedFor old new s
+
+-- the id of a key of a new slot is bound to its place behind the old committee, and to no other, if no two texts of places at hand have
+-- digests with the same first 16 bytes
+abbrev pub NewKeysHaveOnePlace : Type 0
+NewKeysHaveOnePlace =
+    (old new : List ℕ) (r : Renewal) → IsCommittee old → Renews old new r
+    → (s k : ℕ) → s < n_of old → is_kept old new s ≡ false → k < keys_of old s
+    → (chain : List ℕ) (replica key : ℕ) → IsPlace chain replica key → AreApart (chain_id_of old) s k chain replica key
+    → key_id_at new s k ≡ bound_id chain replica key → (chain_id_of old ≡ chain) × (s ≡ replica) × (k ≡ key)
 
 -- each set of replicas weighs the same
 abbrev pub EachSetWeighsTheSame : Type 0

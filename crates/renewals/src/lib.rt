@@ -10,5 +10,7 @@ mod slots;
 
 pub use format::{RENEWAL_HEAD_LEN, Renewal, RenewalFormRefusal};
 pub use judging::{RenewalRefusal, renews};
-pub use laws::{a_renewal_keeps_the_weight, each_slot_is_kept_or_signed_for};
+pub use laws::{
+    a_renewal_keeps_the_weight, each_slot_is_kept_or_signed_for, new_keys_have_one_place,
+};
 pub use slots::{Slots, is_kept};
