@@ -1,0 +1,2 @@
+pub mod KeySets
+pub mod Drawing

@@ -1,0 +1,145 @@
+//! A replica's next keys, made in its folder.
+
+ghost use Rattle.std.specs.Prelude.{◌≡◌, ◌≤◌, IfOk, length, map};
+ghost use Rattle.wire.specs.declared.limits.TheConstants.{MOST_KEYS};
+ghost use Rattle.key_sets.specs.Drawing.{AreNextKeys};
+ghost use Rattle.key_sets.specs.KeySets.{public_key};
+
+use crate::behind::Behind;
+use crate::drawing::draw_set;
+use crate::making::{Journals, make_key_set};
+use blocks::Id;
+use key_files::{DrawSeed, KeyFault, SystemFolder};
+use lmots::PrivateSeed;
+use lms_tree::PUBLIC_KEY_LEN;
+use safe_files::{is_nothing_at, sync_folder};
+use std::alloc::{AllocError, AllocFailed, Global};
+use std::fs::{File, Files};
+use std::io::ErrorKind;
+use std::thread::Threads;
+use std::{fs, io};
+
+/// What keys are made with.
+#[derive(Clone, Copy)]
+pub struct Host<'a, F, T> {
+    /// Files.
+    pub files: &'a F,
+    /// Threads.
+    pub rt: &'a T,
+    /// Memory.
+    pub alloc: Global,
+}
+
+/// Why a replica's next keys are not made.
+#[derive(Clone, Copy, Debug, PartialEq, Eq)]
+pub enum SetFault {
+    /// Memory was refused.
+    Memory,
+    /// The source of random bytes failed, or what is to be made in the folder is there already, in part or whole, or can't be made.
+    Folder,
+}
+
+impl From<AllocError> for SetFault {
+    ghost use Rattle.key_sets.specs.declared.next.SetFault.TheVariants.{Memory};
+
+    ghost from_gives = { λ _ fault. fault ≡ Memory };
+
+    fn from(_error: AllocError) -> SetFault {
+        SetFault::Memory
+    }
+}
+
+impl<T: Drop> From<AllocFailed<T>> for SetFault {
+    ghost use Rattle.key_sets.specs.declared.next.SetFault.TheVariants.{Memory};
+
+    ghost from_gives = { λ _ fault. fault ≡ Memory };
+
+    fn from(_refused: AllocFailed<T>) -> SetFault {
+        SetFault::Memory
+    }
+}
+
+impl From<KeyFault> for SetFault {
+    fn from(fault: KeyFault) -> SetFault {
+        match fault {
+            KeyFault::Memory => SetFault::Memory,
+            KeyFault::File(_) | KeyFault::Output => SetFault::Folder,
+        }
+    }
+}
+
+impl From<io::Error> for SetFault {
+    fn from(error: io::Error) -> SetFault {
+        match error.kind() {
+            ErrorKind::OutOfMemory => SetFault::Memory,
+            _ => SetFault::Folder,
+        }
+    }
+}
+
+/// Draws a replica's next keys, and makes their files in its folder, `DIR`. Where DIR has a log of the chain that they come behind, or
+/// one from before logs stood by chain, they get a folder of their own, `DIR/next-CHAIN`, with no log; it is made as `DIR/next-CHAIN.new`, synced, and then takes its
+/// name. Else they stand in DIR itself, with an empty log. Answers the public keys, 56 bytes each. After a fault `DIR/next-CHAIN.new`,
+/// or a first part of the files in DIR, may be left, of which nobody was told.
+pub fn make_next_keys<F: Files<File = File>, T: Threads + Sync, S: DrawSeed>(
+    host: &Host<'_, F, T>,
+    seeds: &S,
+    folder: &str,
+    behind: &Behind,
+) -> Result<Vec<[u8; PUBLIC_KEY_LEN]>, SetFault>
+    ensures { IfOk result (λ keys. AreNextKeys (S.draws seeds.now) behind.now keys.items) }
+{
+    let chain = hex::encode(host.alloc, &behind.chain[..])?;
+    let secrets = draw_set(host.alloc, seeds, behind)?;
+    if has_log(host, folder, &chain)? {
+        return make_beside(host, folder, &chain, &secrets);
+    }
+    make_in(host, folder, &secrets, Journals::IndicesAndLog)
+}
+
+// Whether the folder has a log of this chain, whose id is written in hex digits, or one from before logs stood by chain.
+fn has_log<F: Files<File = File>, T>(
+    host: &Host<'_, F, T>,
+    folder: &str,
+    chain: &str,
+) -> Result<bool, SetFault> {
+    let only = format!(in host.alloc; "{folder}/log.hsj")?;
+    let of_chain = format!(in host.alloc; "{folder}/chain-{chain}")?;
+    Ok(!is_nothing_at(host.files, &only)? || !is_nothing_at(host.files, &of_chain)?)
+}
+
+// Makes the keys in a folder of their own, which is new.
+fn make_beside<F: Files<File = File>, T: Threads + Sync>(
+    host: &Host<'_, F, T>,
+    folder: &str,
+    chain: &str,
+    secrets: &[PrivateSeed],
+) -> Result<Vec<[u8; PUBLIC_KEY_LEN]>, SetFault>
+    requires { length secrets.now ≤ MOST_KEYS }
+    ensures { IfOk result (λ keys. keys.items ≡ map public_key secrets.now) }
+{
+    let path = format!(in host.alloc; "{folder}/next-{chain}")?;
+    let beside = format!(in host.alloc; "{path}.new")?;
+    if !is_nothing_at(host.files, &path)? {
+        return Err(SetFault::Folder);
+    }
+    fs::create_dir(host.files, beside.as_str())?;
+    let keys = make_in(host, &beside, secrets, Journals::Indices)?;
+    fs::rename(host.files, beside.as_str(), path.as_str())?;
+    sync_folder(host.files, folder);
+    Ok(keys)
+}
+
+fn make_in<F: Files<File = File>, T: Threads + Sync>(
+    host: &Host<'_, F, T>,
+    folder: &str,
+    secrets: &[PrivateSeed],
+    journals: Journals,
+) -> Result<Vec<[u8; PUBLIC_KEY_LEN]>, SetFault>
+    requires { length secrets.now ≤ MOST_KEYS }
+    ensures { IfOk result (λ keys. keys.items ≡ map public_key secrets.now) }
+{
+    let mut made = SystemFolder::new(host.files, host.alloc, folder);
+    let keys = make_key_set(host.rt, host.alloc, &mut made, secrets, journals)?;
+    Ok(keys)
+}

@@ -1,0 +1,108 @@
+//! The folder of a chain: its log and its words, which are there whole or not at all.
+
+use crate::fault::LineageFault;
+use crate::folder::LineageFolder;
+use crate::names::{LOG, NEXT_FILE, WORDS};
+use blocks::Id;
+use safe_files::{replace_file, sync_folder};
+use stable_log::{FileDisk, Journal};
+use std::fs::{File, Files, OpenOptions};
+use std::io::ErrorKind;
+use std::os::unix::fs::OpenOptionsExt;
+use std::{fs, io};
+use told_words::{WordError, WordStore};
+
+/// The mode of a journal that is made: everyone may read it.
+const MODE: u32 = 0o644;
+
+impl<F: Files<File = File>> LineageFolder<'_, F> {
+    /// The words of a chain.
+    pub fn words_of(&self, chain: &Id) -> Result<WordStore<FileDisk>, LineageFault> {
+        let path = self.within(&self.chain_folder(chain)?, WORDS)?;
+        let mut how = OpenOptions::new();
+        how.read(true).write(true);
+        let file = match how.open(self.files, &path) {
+            Ok(file) => file,
+            Err(error) => return Err(LineageFault::of(&error, chain)),
+        };
+        match WordStore::recover(self.alloc, FileDisk::new(file)) {
+            Ok(words) => Ok(words),
+            Err((WordError::Memory, _)) => Err(LineageFault::Memory),
+            Err(_) => Err(LineageFault::Chain(*chain)),
+        }
+    }
+
+    /// Makes the folder of a chain, with an empty log and no word, if there is none. It is made under another name, synced, and then
+    /// takes its own. One that is there already is left as it is: the log's entries are looked at by who opens it.
+    pub fn make_chain(&self, chain: &Id) -> Result<(), LineageFault> {
+        let path = self.chain_folder(chain)?;
+        match self.try_make_chain(&path) {
+            Ok(()) => Ok(()),
+            Err(error) => Err(LineageFault::of(&error, chain)),
+        }
+    }
+
+    fn try_make_chain(&self, path: &str) -> io::Result<()> {
+        if self.is_there(path)? {
+            return Ok(());
+        }
+        let beside = self.begin_beside(path)?;
+        self.make_log(&self.within(&beside, LOG)?)?;
+        self.make_words(&self.within(&beside, WORDS)?)?;
+        self.take_name(&beside, path)
+    }
+
+    /// Stores the file of the committee that the signer goes over to from this chain, before it says so: whole, in place of one of which
+    /// it did not say so.
+    pub fn store_next(&self, chain: &Id, file: &[u8]) -> Result<(), LineageFault> {
+        let path = self.within(&self.chain_folder(chain)?, NEXT_FILE)?;
+        match replace_file(self.files, self.alloc, &path, file) {
+            Ok(()) => Ok(()),
+            Err(error) => Err(LineageFault::of(&error, chain)),
+        }
+    }
+
+    // A folder at `PATH.new`, made if it is not there.
+    pub(crate) fn begin_beside(&self, path: &str) -> io::Result<String> {
+        let beside = format!(in self.alloc; "{path}.new")?;
+        match fs::create_dir(self.files, beside.as_str()) {
+            Ok(()) => Ok(beside),
+            Err(error) if error.kind() == ErrorKind::AlreadyExists => Ok(beside),
+            Err(error) => Err(error),
+        }
+    }
+
+    // The folder takes its name, once what is in it is synced.
+    pub(crate) fn take_name(&self, beside: &str, path: &str) -> io::Result<()> {
+        sync_folder(self.files, beside);
+        fs::rename(self.files, beside, path)?;
+        sync_folder(self.files, self.path);
+        Ok(())
+    }
+
+    // A file that nobody knows of yet, in the place of what an earlier try left.
+    fn make_anew(&self, path: &str) -> io::Result<FileDisk> {
+        match fs::remove_file(self.files, path) {
+            Ok(()) => {}
+            Err(error) if error.kind() == ErrorKind::NotFound => {}
+            Err(error) => return Err(error),
+        }
+        let mut how = OpenOptions::new();
+        how.read(true).write(true).create_new(true).mode(MODE);
+        Ok(FileDisk::new(how.open(self.files, path)?))
+    }
+
+    fn make_log(&self, path: &str) -> io::Result<()> {
+        match Journal::create(self.alloc, self.make_anew(path)?) {
+            Ok(_) => Ok(()),
+            Err(_) => Err(io::Error::from(ErrorKind::Other)),
+        }
+    }
+
+    pub(crate) fn make_words(&self, path: &str) -> io::Result<()> {
+        match WordStore::create(self.alloc, self.make_anew(path)?) {
+            Ok(_) => Ok(()),
+            Err(_) => Err(io::Error::from(ErrorKind::Other)),
+        }
+    }
+}

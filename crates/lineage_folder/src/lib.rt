@@ -1,0 +1,15 @@
+//! The folder of a signer whose committees follow one another: where the logs and the words of its chains lie, and its key sets; which
+//! chain it stands in; and how the folder of the next chain is made before it goes over. Files alone; no threads or network.
+#![tactic(auto)]
+
+mod beginning;
+mod chains;
+mod fault;
+mod folder;
+mod names;
+mod standing;
+
+pub use fault::LineageFault;
+pub use folder::LineageFolder;
+pub use names::{LOG, NEXT_FILE, WORDS};
+pub use standing::{KeySet, Standing};
