@@ -76,7 +76,8 @@ fn an_endorsement_with_another_byte_is_refused(rt: HostRuntime) -> Result<(), Fa
         (1547, 0, EndorsementRefusal::Signature),
     ];
     for (at, byte, want) in cases {
-        assert_eq!(rt; refusal_with(rt.alloc(), at, byte)?, Some(want));
+        let refusal = refusal_with(rt.alloc(), at, byte)?;
+        assert_eq!(rt; refusal, Some(want));
     }
     Ok(())
 }

@@ -52,7 +52,8 @@ fn a_renewal_with_another_byte_is_unreadable(rt: HostRuntime) -> Result<(), Fail
     ];
     for (at, byte, want) in cases {
         let bytes = with_byte(rt.alloc(), at, byte)?;
-        assert_eq!(rt; Renewal::read(rt.alloc(), &bytes).err(), Some(want));
+        let refusal = Renewal::read(rt.alloc(), &bytes).err();
+        assert_eq!(rt; refusal, Some(want));
     }
     Ok(())
 }
@@ -69,7 +70,8 @@ fn a_renewal_with_another_byte_is_refused(rt: HostRuntime) -> Result<(), Fail> {
     ];
     for (at, byte, want) in cases {
         let bytes = with_byte(rt.alloc(), at, byte)?;
-        assert_eq!(rt; answer(rt.alloc(), &bytes)?.err(), Some(want));
+        let refusal = answer(rt.alloc(), &bytes)?.err();
+        assert_eq!(rt; refusal, Some(want));
     }
     Ok(())
 }
