@@ -1,4 +1,6 @@
+pub mod Commanded
 pub mod Endings
 pub mod Filings
 pub mod Keepings
+pub mod Noted
 pub mod Openings

@@ -10,8 +10,8 @@ use Rattle.tool_words.specs.declared.command.Command.{Command}
 use Rattle.tool_words.specs.declared.command.Command.TheVariants.{Usage, Keygen, Committee, Weighted, Replica, Audit, Migrate, Export}
 use Rattle.tool_commands.specs.AuditFiles.{HasStored}
 use Rattle.tool_commands.specs.Audits.{AreCulpritsPrinted, IsEnoughPrinted, IsTooLittlePrinted}
-use Rattle.tool_commands.specs.HandedOver.{TellsHandover}
 use Rattle.tool_commands.specs.Lines.{IsChainPrinted, IsExportPrinted, IsKeyPrinted, IsMigrationPrinted, IsTextOfKeys, IsTextOfReplicas}
+use Rattle.tool_commands.specs.Notes.{TellsNotes}
 use Rattle.tool_commands.specs.Seeds.{IsSeedOf}
 use Rattle.tool_commands.specs.Stays.{AreReadOf, IsReplicaDone, IsStopPrinted}
 use Rattle.tool_commands.specs.StoredFiles.{StoredFile}
@@ -54,9 +54,9 @@ abbrev pub AreTooFewSound : {D S F : Type 0} → Lent D S F → Command → (bef
 AreTooFewSound lent (Audit committee folder sources tries wishes) before after = IsTooLittlePrinted lent.connector wishes.strictness sources.items tries.count before after (HasStored lent.stored folder.now sources.items wishes.json)
 AreTooFewSound lent command before after = ⊥
 
--- beside its report it tells reasons, for which it is asked, or a handover
+-- beside its report it tells reasons, for which it is asked, or a handover and what was heard of the servers of its sources
 abbrev pub TellsBeside : Command → (before after : Option (List ℕ)) → Type 0
-TellsBeside (Audit committee folder sources tries wishes) before after = (wishes.tells_why ≡ true) ⊎ TellsHandover before after
+TellsBeside (Audit committee folder sources tries wishes) before after = (wishes.tells_why ≡ true) ⊎ TellsNotes (length sources.items) before after
 TellsBeside command before after = ⊥
 
 -- .. of one that was stopped: it is a replica

@@ -1,7 +1,7 @@
 //! `hs_tool audit COMMITTEE OUTDIR SOURCE.. [--tries T] [--strict] [--strict-all] [--why] [--keep KEPT]
 //! [--json FILE] [--time N]`: what logs prove, and whom they accuse.
 
-ghost use Rattle.std.specs.Prelude.{◌≡◌, ◌≢◌, ◌⊎◌, ◌++◌, [], List, false, true, IfErr, IfOk, OnOk, map, string_bytes};
+ghost use Rattle.std.specs.Prelude.{◌≡◌, ◌≢◌, ◌⊎◌, ◌++◌, [], List, false, true, IfErr, IfOk, OnOk, length, map, string_bytes};
 ghost use Rattle.std.specs.List.{All};
 ghost use Rattle.parallel_verify.specs.Collections.{MayBeTried};
 ghost use Rattle.program_parts.specs.Writes.{CountsWrites};
@@ -10,6 +10,8 @@ ghost use Rattle.tool_commands.specs.AuditFiles.{AreReportsOn, AreTried, HasStor
 ghost use Rattle.tool_commands.specs.Audits.{AreCulpritsPrinted, Both, EndsAs, IsAuditPrinted, IsEndOf, IsEnoughPrinted, IsTooLittlePrinted, Of, status_of};
 ghost use Rattle.tool_commands.specs.HandedOver.{TellsHandover};
 ghost use Rattle.tool_commands.specs.Keeping.{AreKept};
+ghost use Rattle.tool_commands.specs.Notes.{TellsNotes};
+ghost use Rattle.tool_commands.specs.OpenedSources.{SpellSources};
 ghost use Rattle.tool_commands.specs.StoredFiles.{Stored, StoredFile};
 ghost use Rattle.tool_commands.specs.Strict.{AreFound, AreJudgedFor};
 ghost use Rattle.parallel_verify.specs.Readings.{MayBeTriedIn, sources_of};
@@ -21,18 +23,19 @@ use crate::host::Host;
 use crate::keep::{KeepOne, Keeper};
 use crate::progress::Progress;
 use crate::report_file::{clear_report, store_report};
-use crate::sources::{open_sources, read_source_words};
+use crate::sources::{open_sources, read_source_words, servers_of};
 use crate::stored::{Extras, StoreFault, StoreFiles};
 use crate::strict::falls_short;
 use crate::tool::{CULPRITS, DONE, TOO_FEW_SOUND};
 use crate::why::{tell_sound, tell_why};
 use blocks::CommitteeView;
 use certificates::Verifier;
+use chain_dialing::{ChainServer, ChainSource, tell_heard};
 use culprit_search::{Report, Verdict};
 use kept_logs::what_is_kept_is_the_log;
-use log_transfer::{Connector, SourceConnector};
+use log_transfer::{Connector, TcpDialer};
 use parallel_verify::{Judging, Observed, Source};
-use program_parts::{ProgramFault, parse_committee, read_committee};
+use program_parts::{ProgramFault, SourceWord, parse_committee, read_committee};
 use source_audit::{Findings, audit_judged};
 use std::alloc::{AllocError, Global};
 use std::fs;
@@ -70,9 +73,9 @@ impl AuditEnd {
 
 /// Audits the logs of the sources that the words name, under the committee of the file, as `source_audit::audit_judged` does, which
 /// prints the report. Then the verdict on each culprit is stored in `folder`, new or in place of what was there. If `folder` is no
-/// folder, no source is read and nothing printed. `extras.whys` is told of a handover. If it is asked for, the logs are kept as they are
-/// read, `extras.whys` is told why sources are not sound, and where the verdicts are, and last a report for programs is stored, of which
-/// an older one is removed first. Answers how it ended.
+/// folder, no source is read and nothing printed. `extras.whys` is told of a handover, and last, also after a fault, what was heard of the
+/// servers. If it is asked for, the logs are kept as they are read, `extras.whys` is told why sources are not sound, and where the verdicts
+/// are, and a report for programs is stored, of which an older one is removed first. Answers how it ended.
 pub(crate) fn audit_sources<
     'a,
     F: Files<File = File> + Sync,
@@ -93,16 +96,74 @@ pub(crate) fn audit_sources<
 where
     F::Dir: Send,
     ensures culprits { IfOk result (λ end. end ≡ AuditEnd.Culprits
-        → AreCulpritsPrinted ⟦<SourceConnector<'a, T, F> as Connector>⟧ words.now tries.count
+        → AreCulpritsPrinted ⟦<ChainSource<'a, T, F> as Connector>⟧ words.now tries.count
         (W.text out.old) (W.text out.new) (HasStored (Stored (D.stored extras.old.files)
         (D.stored extras.new.files)) folder.now words.now wishes.entry.json)) }
     ensures none { IfOk result (λ end. end ≡ AuditEnd.NoCulprit
-        → IsEnoughPrinted ⟦<SourceConnector<'a, T, F> as Connector>⟧ wishes.entry.strictness
+        → IsEnoughPrinted ⟦<ChainSource<'a, T, F> as Connector>⟧ wishes.entry.strictness
         words.now tries.count (W.text out.old) (W.text out.new)
         (HasStored (Stored (D.stored extras.old.files) (D.stored extras.new.files))
         folder.now words.now wishes.entry.json)) }
     ensures too_few { IfOk result (λ end. end ≡ AuditEnd.TooFewSound
-        → IsTooLittlePrinted ⟦<SourceConnector<'a, T, F> as Connector>⟧ wishes.entry.strictness
+        → IsTooLittlePrinted ⟦<ChainSource<'a, T, F> as Connector>⟧ wishes.entry.strictness
+        words.now tries.count (W.text out.old) (W.text out.new)
+        (HasStored (Stored (D.stored extras.old.files) (D.stored extras.new.files))
+        folder.now words.now wishes.entry.json)) }
+    ensures counted { CountsWrites result (W.failed out.old) (W.failed out.new) }
+    ensures reasons { (extras.new.whys ≡ extras.old.whys) ⊎ ((wishes.entry.tells_why ≡ true)
+        ⊎ TellsNotes (length words.now) (Y.text extras.old.whys) (Y.text extras.new.whys)) }
+{
+    if let Some(path) = wishes.json {
+        clear_report(host.files, host.alloc, path, committee, words)?;
+    }
+    let named = read_source_words(host.alloc, words)?;
+    let bytes = read_committee(host.files, host.alloc, committee)?;
+    let committee = parse_committee(&bytes)?;
+    see_folder(host.files, folder)?;
+    let servers = servers_of(host, committee.chain(), &named)?;
+    let end = audit_servers(
+        host, &committee, &named, &servers, words, folder, tries, wishes, out, extras,
+    );
+    tell_heard(host.alloc, &servers, &mut extras.whys);
+    end
+}
+
+// The same of sources with these servers, which the words name.
+fn audit_servers<
+    'a,
+    's,
+    F: Files<File = File> + Sync,
+    T: Threads + Wait + Clock + Net<Listener = TcpListener, Stream = TcpStream> + Sync,
+    W: Sink,
+    Y: Sink,
+    D: StoreFiles,
+>(
+    host: &Host<'a, F, T>,
+    committee: &CommitteeView,
+    named: &[SourceWord<'a>],
+    servers: &'s [ChainServer<TcpDialer<'a, T>>],
+    words: &[&'a str],
+    folder: &'a str,
+    tries: Tries,
+    wishes: AuditWishes<'a>,
+    out: &mut W,
+    extras: &mut Extras<Y, D>,
+) -> Result<AuditEnd, Fault<'a>>
+where
+    F::Dir: Send,
+    requires spelled { SpellSources words.now named.now }
+    requires each { length servers.now ≡ length named.now }
+    ensures culprits { IfOk result (λ end. end ≡ AuditEnd.Culprits
+        → AreCulpritsPrinted ⟦<ChainSource<'a, T, F> as Connector>⟧ words.now tries.count
+        (W.text out.old) (W.text out.new) (HasStored (Stored (D.stored extras.old.files)
+        (D.stored extras.new.files)) folder.now words.now wishes.entry.json)) }
+    ensures none { IfOk result (λ end. end ≡ AuditEnd.NoCulprit
+        → IsEnoughPrinted ⟦<ChainSource<'a, T, F> as Connector>⟧ wishes.entry.strictness
+        words.now tries.count (W.text out.old) (W.text out.new)
+        (HasStored (Stored (D.stored extras.old.files) (D.stored extras.new.files))
+        folder.now words.now wishes.entry.json)) }
+    ensures too_few { IfOk result (λ end. end ≡ AuditEnd.TooFewSound
+        → IsTooLittlePrinted ⟦<ChainSource<'a, T, F> as Connector>⟧ wishes.entry.strictness
         words.now tries.count (W.text out.old) (W.text out.new)
         (HasStored (Stored (D.stored extras.old.files) (D.stored extras.new.files))
         folder.now words.now wishes.entry.json)) }
@@ -110,18 +171,11 @@ where
     ensures reasons { (extras.new.whys ≡ extras.old.whys) ⊎ ((wishes.entry.tells_why ≡ true)
         ⊎ TellsHandover (Y.text extras.old.whys) (Y.text extras.new.whys)) }
 {
-    if let Some(path) = wishes.json {
-        clear_report(host.files, host.alloc, path, committee, words)?;
-    }
-    let sources = read_source_words(host.alloc, words)?;
-    let bytes = read_committee(host.files, host.alloc, committee)?;
-    let committee = parse_committee(&bytes)?;
-    see_folder(host.files, folder)?;
     let keeper = Keeper::begin(host.files, host.alloc, wishes.keep)?;
-    let progress = Progress::new(host.alloc, host.rt, host.console, sources.len())?;
-    let sources = open_sources(host, &sources, tries, &progress)?;
+    let progress = Progress::new(host.alloc, host.rt, host.console, named.len())?;
+    let sources = open_sources(host, named, servers, tries, &progress)?;
     audit_opened(
-        host, &committee, &progress, sources, words, folder, wishes, keeper, out, extras,
+        host, committee, &progress, sources, words, folder, wishes, keeper, out, extras,
     )
 }
 

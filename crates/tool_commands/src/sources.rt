@@ -1,15 +1,16 @@
 //! The words that name the sources of an audit.
 
-ghost use Rattle.std.specs.Prelude.{◌≡◌, ◌≢◌, IfErr, IfOk};
+ghost use Rattle.std.specs.Prelude.{◌≡◌, ◌≢◌, ◌++◌, ◌∷◌, [], IfErr, IfOk, OnOk, length};
 ghost use Rattle.std.specs.List.{All, AllZip};
 ghost use Rattle.tool_commands.specs.OpenedSources.{IsOpenedAs, SpellSources};
 ghost use Rattle.tool_commands.specs.SourceTries.{IsTriedAs};
 
 use crate::fault::{Fault, ToolFault};
 use crate::host::Host;
+use blocks::Id;
+use chain_dialing::{ChainDialer, ChainServer, ChainSource};
 use log_transfer::{
-    Connector, FileConnector, MOST_TRIES, PAUSE_SECONDS, SourceConnector, TcpConnector, Watch,
-    Watched,
+    Connector, FileConnector, MOST_TRIES, PAUSE_SECONDS, ServerConnector, TcpDialer, Watch, Watched,
 };
 use parallel_verify::Source;
 use program_parts::{Origin, ProgramFault, SourceFault, SourceWord};
@@ -40,9 +41,28 @@ pub(crate) fn read_source_words<'a>(
 // A server may have as many tries as words can ask for.
 const _: () = prove!(MOST_TRIES == 3);
 
+/// The servers of the sources, none of them asked yet, each to be asked for the log of this chain. That of a file is never asked.
+pub(crate) fn servers_of<'a, F: Files<File = File>, T: Net<Stream = TcpStream> + Clock>(
+    host: &Host<'a, F, T>,
+    chain: Id,
+    words: &[SourceWord<'a>],
+) -> Result<Vec<ChainServer<TcpDialer<'a, T>>>, AllocError>
+    ensures { IfOk result (λ servers. length servers.items ≡ length words.now) }
+{
+    let mut servers = Vec::with_capacity(host.alloc, words.len())?;
+    for word in words {
+        let address = match word.origin {
+            Origin::Tcp(address) => address,
+            Origin::File(path) => path,
+        };
+        servers.push(ChainServer::new(TcpDialer::new(host.rt, address), chain))?;
+    }
+    Ok(servers)
+}
+
 // A file has one try: it can't go on in its middle.
 fn tries_of<T: Net<Stream = TcpStream> + Clock, F: Files<File = File>>(
-    connector: &SourceConnector<T, F>,
+    connector: &ChainSource<T, F>,
     tries: Tries,
 ) -> u8
     ensures { IsTriedAs tries.count connector.now result }
@@ -50,24 +70,24 @@ fn tries_of<T: Net<Stream = TcpStream> + Clock, F: Files<File = File>>(
     tries.count().min(connector.most_tries())
 }
 
-// The source of a word, the one of this number.
-fn source_of<'a, 'p, F: Files<File = File>, T: Net<Stream = TcpStream> + Clock, P: Watch>(
+// The source of a word, the one of this number, with its server.
+fn source_of<'a, 's, 'p, F: Files<File = File>, T: Net<Stream = TcpStream> + Clock, P: Watch>(
     host: &Host<'a, F, T>,
     word: &SourceWord<'a>,
+    server: &'s ChainServer<TcpDialer<'a, T>>,
     tries: Tries,
     watch: &'p P,
     number: usize,
-) -> Source<Watched<'p, SourceConnector<'a, T, F>, P>>
+) -> Source<Watched<'p, ChainSource<'s, T, F>, P>>
     ensures tries { IsTriedAs tries.count result.connector.connector result.tries }
     ensures opened { IsOpenedAs word.now result.replica result.connector.connector }
 {
     let connector = match word.origin {
-        Origin::File(path) => SourceConnector::File(FileConnector::new(host.files, path)),
-        Origin::Tcp(address) => SourceConnector::Tcp(TcpConnector::new(
+        Origin::File(path) => ChainSource::File(FileConnector::new(host.files, path)),
+        Origin::Tcp(_) => ChainSource::Tcp(ServerConnector::over(
             host.rt,
-            address,
-            PAUSE_SECONDS,
-        )),
+            ChainDialer::of(server),
+        ).with_pause(PAUSE_SECONDS)),
     };
     Source {
         replica: word.replica,
@@ -76,9 +96,18 @@ fn source_of<'a, 'p, F: Files<File = File>, T: Net<Stream = TcpStream> + Clock, 
     }
 }
 
-/// The sources, each watched, and each with so many tries, but a file with one.
+// Lists one more source: in a loop over so big a value a push is dear to prove.
+fn list<S: Drop>(sources: &mut Vec<S>, source: S) -> Result<(), AllocError>
+    ensures { OnOk result (sources.new.items ≡ sources.old.items ++ source ∷ []) }
+{
+    sources.push(source)?;
+    Ok(())
+}
+
+/// The sources, each with its server and watched, and each with so many tries, but a file with one.
 pub(crate) fn open_sources<
     'a,
+    's,
     'p,
     F: Files<File = File>,
     T: Net<Stream = TcpStream> + Clock,
@@ -86,9 +115,11 @@ pub(crate) fn open_sources<
 >(
     host: &Host<'a, F, T>,
     words: &[SourceWord<'a>],
+    servers: &'s [ChainServer<TcpDialer<'a, T>>],
     tries: Tries,
     watch: &'p P,
-) -> Result<Vec<Source<Watched<'p, SourceConnector<'a, T, F>, P>>>, AllocError>
+) -> Result<Vec<Source<Watched<'p, ChainSource<'s, T, F>, P>>>, AllocError>
+    requires { length servers.now ≡ length words.now }
     ensures tries { IfOk result (λ sources.
         All (λ s. IsTriedAs tries.count s.connector.connector s.tries) sources.items) }
     ensures opened { IfOk result (λ sources.
@@ -97,7 +128,8 @@ pub(crate) fn open_sources<
 {
     let mut sources = Vec::with_capacity(host.alloc, words.len())?;
     for (i, word) in words.iter().enumerate() {
-        sources.push(source_of(host, word, tries, watch, i))?;
+        let source = source_of(host, word, &servers[i], tries, watch, i);
+        list(&mut sources, source)?;
     }
     Ok(sources)
 }

@@ -77,7 +77,7 @@ impl<F: Files<File = File>> StoreFiles for SystemFiles<'_, F> {
 /// What an audit gives besides its report.
 #[derive(Drop)]
 pub struct Extras<Y, D> {
-    /// Takes what is told of a handover, and what `--why` tells.
+    /// Takes what is told of a handover and of servers, and what `--why` tells.
     pub whys: Y,
     /// Takes the verdicts, and the report for programs.
     pub files: D,

@@ -17,8 +17,9 @@ use crate::keygen::keygen;
 use crate::migrate::migrate_log;
 use crate::replica::replica;
 use crate::stored::{Extras, StoreFiles};
+use chain_dialing::ChainSource;
 use key_files::DrawSeed;
-use log_transfer::{Connector, SourceConnector};
+use log_transfer::Connector;
 use program_parts::FAULT;
 use replica_command::Ending;
 use stable_log::{Disk, FileDisk};
@@ -49,7 +50,7 @@ hs_tool migrate OLD NEW COMMITTEE
 ";
 
 /// Does what the words ask for, and answers the exit status: `DONE`, `CULPRITS`, `TOO_FEW_SOUND` or `FAULT`. Facts go to `out`, what
-/// an audit tells of a handover, and with `--why`, and the files that it stores to `extras`, and with `FAULT` a fault's line to `faults`, which is else left
+/// an audit tells of a handover and of the servers of its sources, and with `--why`, and the files that it stores to `extras`, and with `FAULT` a fault's line to `faults`, which is else left
 /// alone: `fault output` exactly if a write of facts failed. If a disk failed under a replica, the facts say it, and there is no fault's
 /// line with `FAULT`. The words stand without the program's name; only `replica` and `keygen --stdin` read `lines`, and only
 /// `keygen --random` draws of `seeds`.
@@ -76,15 +77,15 @@ where
     F::Dir: Send,
     ensures status { (result ≡ 0) ⊎ (result ≡ 2) ⊎ (result ≡ 3) ⊎ (result ≡ 4) }
     ensures done { result ≡ 0 → (command : CommandValue) × IsAskedBy words.now command
-        × IsDone (lend ⟦<FileDisk as Disk>⟧ ⟦<SourceConnector<'a, T, F> as Connector>⟧
+        × IsDone (lend ⟦<FileDisk as Disk>⟧ ⟦<ChainSource<'a, T, F> as Connector>⟧
         (S.draws seeds.now) R.Feed lines.old lines.new
         (Stored (D.stored extras.old.files) (D.stored extras.new.files))) command (W.text out.old) (W.text out.new) }
     ensures culprits { result ≡ 3 → (command : CommandValue) × IsAskedBy words.now command
-        × AreCulpritsFound (lend ⟦<FileDisk as Disk>⟧ ⟦<SourceConnector<'a, T, F> as Connector>⟧
+        × AreCulpritsFound (lend ⟦<FileDisk as Disk>⟧ ⟦<ChainSource<'a, T, F> as Connector>⟧
         (S.draws seeds.now) R.Feed lines.old lines.new
         (Stored (D.stored extras.old.files) (D.stored extras.new.files))) command (W.text out.old) (W.text out.new) }
     ensures too_few { result ≡ 4 → (command : CommandValue) × IsAskedBy words.now command
-        × AreTooFewSound (lend ⟦<FileDisk as Disk>⟧ ⟦<SourceConnector<'a, T, F> as Connector>⟧
+        × AreTooFewSound (lend ⟦<FileDisk as Disk>⟧ ⟦<ChainSource<'a, T, F> as Connector>⟧
         (S.draws seeds.now) R.Feed lines.old lines.new
         (Stored (D.stored extras.old.files) (D.stored extras.new.files))) command (W.text out.old) (W.text out.new) }
     ensures quiet { result ≢ 2 → (faults.new ≡ faults.old) × (W.failed out.new ≡ W.failed out.old) }
@@ -93,7 +94,7 @@ where
         × TellsBeside command (Y.text extras.old.whys) (Y.text extras.new.whys)) }
     ensures told { result ≡ 2 → ((faults.new ≡ faults.old) × (W.failed out.new ≡ W.failed out.old)
         × (command : CommandValue) × IsAskedBy words.now command
-        × IsStopped (lend ⟦<FileDisk as Disk>⟧ ⟦<SourceConnector<'a, T, F> as Connector>⟧
+        × IsStopped (lend ⟦<FileDisk as Disk>⟧ ⟦<ChainSource<'a, T, F> as Connector>⟧
         (S.draws seeds.now) R.Feed lines.old lines.new
         (Stored (D.stored extras.old.files) (D.stored extras.new.files))) command (W.text out.old) (W.text out.new))
         ⊎ TellsFault (E.text faults.old) (E.text faults.new) (E.failed faults.old)
@@ -178,22 +179,22 @@ where
     F::Dir: Send,
     ensures done { IfOk result (λ ended. ended ≡ Ended.Done → (command : CommandValue)
         × IsAskedBy words.now command
-        × IsDone (lend ⟦<FileDisk as Disk>⟧ ⟦<SourceConnector<'a, T, F> as Connector>⟧
+        × IsDone (lend ⟦<FileDisk as Disk>⟧ ⟦<ChainSource<'a, T, F> as Connector>⟧
         (S.draws seeds.now) R.Feed lines.old lines.new
         (Stored (D.stored extras.old.files) (D.stored extras.new.files))) command (W.text out.old) (W.text out.new)) }
     ensures culprits { IfOk result (λ ended. ended ≡ Ended.Culprits → (command : CommandValue)
         × IsAskedBy words.now command
-        × AreCulpritsFound (lend ⟦<FileDisk as Disk>⟧ ⟦<SourceConnector<'a, T, F> as Connector>⟧
+        × AreCulpritsFound (lend ⟦<FileDisk as Disk>⟧ ⟦<ChainSource<'a, T, F> as Connector>⟧
         (S.draws seeds.now) R.Feed lines.old lines.new
         (Stored (D.stored extras.old.files) (D.stored extras.new.files))) command (W.text out.old) (W.text out.new)) }
     ensures too_few { IfOk result (λ ended. ended ≡ Ended.TooFewSound → (command : CommandValue)
         × IsAskedBy words.now command
-        × AreTooFewSound (lend ⟦<FileDisk as Disk>⟧ ⟦<SourceConnector<'a, T, F> as Connector>⟧
+        × AreTooFewSound (lend ⟦<FileDisk as Disk>⟧ ⟦<ChainSource<'a, T, F> as Connector>⟧
         (S.draws seeds.now) R.Feed lines.old lines.new
         (Stored (D.stored extras.old.files) (D.stored extras.new.files))) command (W.text out.old) (W.text out.new)) }
     ensures stopped { IfOk result (λ ended. ended ≡ Ended.Stopped → (command : CommandValue)
         × IsAskedBy words.now command
-        × IsStopped (lend ⟦<FileDisk as Disk>⟧ ⟦<SourceConnector<'a, T, F> as Connector>⟧
+        × IsStopped (lend ⟦<FileDisk as Disk>⟧ ⟦<ChainSource<'a, T, F> as Connector>⟧
         (S.draws seeds.now) R.Feed lines.old lines.new
         (Stored (D.stored extras.old.files) (D.stored extras.new.files))) command (W.text out.old) (W.text out.new)) }
     ensures reasons { (extras.new.whys ≡ extras.old.whys) ⊎ ((command : CommandValue)
@@ -228,22 +229,22 @@ fn done<
 where
     F::Dir: Send,
     ensures done { IfOk result (λ ended. ended ≡ Ended.Done
-        → IsDone (lend ⟦<FileDisk as Disk>⟧ ⟦<SourceConnector<'a, T, F> as Connector>⟧
+        → IsDone (lend ⟦<FileDisk as Disk>⟧ ⟦<ChainSource<'a, T, F> as Connector>⟧
         (S.draws seeds.now) R.Feed lines.old lines.new
         (Stored (D.stored extras.old.files) (D.stored extras.new.files)))
         command.now (W.text out.old) (W.text out.new)) }
     ensures culprits { IfOk result (λ ended. ended ≡ Ended.Culprits
-        → AreCulpritsFound (lend ⟦<FileDisk as Disk>⟧ ⟦<SourceConnector<'a, T, F> as Connector>⟧
+        → AreCulpritsFound (lend ⟦<FileDisk as Disk>⟧ ⟦<ChainSource<'a, T, F> as Connector>⟧
         (S.draws seeds.now) R.Feed lines.old lines.new
         (Stored (D.stored extras.old.files) (D.stored extras.new.files)))
         command.now (W.text out.old) (W.text out.new)) }
     ensures too_few { IfOk result (λ ended. ended ≡ Ended.TooFewSound
-        → AreTooFewSound (lend ⟦<FileDisk as Disk>⟧ ⟦<SourceConnector<'a, T, F> as Connector>⟧
+        → AreTooFewSound (lend ⟦<FileDisk as Disk>⟧ ⟦<ChainSource<'a, T, F> as Connector>⟧
         (S.draws seeds.now) R.Feed lines.old lines.new
         (Stored (D.stored extras.old.files) (D.stored extras.new.files)))
         command.now (W.text out.old) (W.text out.new)) }
     ensures stopped { IfOk result (λ ended. ended ≡ Ended.Stopped
-        → IsStopped (lend ⟦<FileDisk as Disk>⟧ ⟦<SourceConnector<'a, T, F> as Connector>⟧
+        → IsStopped (lend ⟦<FileDisk as Disk>⟧ ⟦<ChainSource<'a, T, F> as Connector>⟧
         (S.draws seeds.now) R.Feed lines.old lines.new
         (Stored (D.stored extras.old.files) (D.stored extras.new.files)))
         command.now (W.text out.old) (W.text out.new)) }
