@@ -159,7 +159,8 @@ class Trial:
         watch = self.field.watch
         lines = [line.split(" ", 3)[3] for _, line in watch.processes["watch"].lines if line.count(" ") > 2]
         for line in lines:
-            if line.split()[0] not in ("commit", "source"):
+            # "unnamed" may come of a tunnel whose signer is down: that closes without a byte, too.
+            if line.split()[0] not in ("commit", "source", "unnamed"):
                 self.note(f"the watch: {line}")
         if verdicts := [name for name in os.listdir(f"{watch.home}/verdicts") if name.endswith(".hsx")]:
             self.note(f"the watch has {verdicts}")
