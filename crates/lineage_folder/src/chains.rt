@@ -15,6 +15,9 @@ use told_words::{WordError, WordStore};
 /// The mode of a journal that is made: everyone may read it.
 const MODE: u32 = 0o644;
 
+/// The length in bytes of a journal with no entry.
+const EMPTY_JOURNAL_LEN: u64 = 9;
+
 impl<F: Files<File = File>> LineageFolder<'_, F> {
     /// The words of a chain.
     pub fn words_of(&self, chain: &Id) -> Result<WordStore<FileDisk>, LineageFault> {
@@ -80,12 +83,13 @@ impl<F: Files<File = File>> LineageFolder<'_, F> {
         Ok(())
     }
 
-    // A file that nobody knows of yet, in the place of what an earlier try left.
+    // A journal's file, in the place of what an earlier try left. One that may have an entry is never removed: that is a failure.
     fn make_anew(&self, path: &str) -> io::Result<FileDisk> {
-        match fs::remove_file(self.files, path) {
-            Ok(()) => {}
-            Err(error) if error.kind() == ErrorKind::NotFound => {}
-            Err(error) => return Err(error),
+        if self.is_there(path)? {
+            if fs::metadata(self.files, path)?.len() > EMPTY_JOURNAL_LEN {
+                return Err(io::Error::from(ErrorKind::AlreadyExists));
+            }
+            fs::remove_file(self.files, path)?;
         }
         let mut how = OpenOptions::new();
         how.read(true).write(true).create_new(true).mode(MODE);

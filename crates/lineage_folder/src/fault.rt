@@ -1,6 +1,7 @@
 //! Why a folder of chains is refused.
 
-ghost use Rattle.std.specs.Prelude.{◌≡◌};
+ghost use Rattle.std.specs.IoError.{error_kind};
+ghost use Rattle.std.specs.Prelude.{◌≡◌, ◌≢◌};
 
 use blocks::Id;
 use std::alloc::AllocError;
@@ -15,11 +16,18 @@ pub enum LineageFault {
     /// What lies in the folder of the chain of this id is not what the words say: something is missing, or can't be read, or is of
     /// another committee.
     Chain(Id),
+    /// More committees follow one another than are gone through.
+    Endless,
 }
 
 impl LineageFault {
     /// What a failed call on something in the folder of a chain is.
-    pub(crate) fn of(error: &io::Error, chain: &Id) -> LineageFault {
+    pub(crate) fn of(error: &io::Error, chain: &Id) -> LineageFault
+        ensures memory { error_kind error.now ≡ ErrorKind.OutOfMemory
+            → result ≡ LineageFault.Memory }
+        ensures other { error_kind error.now ≢ ErrorKind.OutOfMemory
+            → result ≡ LineageFault.Chain chain.now }
+    {
         match error.kind() {
             ErrorKind::OutOfMemory => LineageFault::Memory,
             _ => LineageFault::Chain(*chain),

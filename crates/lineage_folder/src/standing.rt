@@ -39,7 +39,7 @@ pub struct Standing {
 
 impl<F: Files<File = File>> LineageFolder<'_, F> {
     /// Where a signer stands whose folder began with this committee's file: in the first chain of which it did not say that it has
-    /// gone over. Refused as the first chain's whose folder, words or next committee's file is missing, can't be read, or is another one
+    /// gone over. Refused as `Endless` behind a million committees, else as the first chain's whose folder, words or next committee's file is missing, can't be read, or is another one
     /// than the words say.
     pub fn stand(&self, first: Vec<u8>, replica: u16) -> Result<Standing, LineageFault>
         requires { IsCommittee first.items }
@@ -56,7 +56,7 @@ impl<F: Files<File = File>> LineageFolder<'_, F> {
             };
             at = next;
         }
-        Ok(at)
+        Err(LineageFault::Endless)
     }
 
     // Where it stands once it has gone over, if it has.
