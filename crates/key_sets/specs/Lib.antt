@@ -1,2 +1,3 @@
 pub mod KeySets
 pub mod Drawing
+pub mod Faults

@@ -8,7 +8,6 @@ ghost use Rattle.key_sets.specs.KeySets.{public_key};
 use crate::behind::Behind;
 use crate::drawing::draw_set;
 use crate::making::{Journals, make_key_set};
-use blocks::Id;
 use key_files::{DrawSeed, KeyFault, SystemFolder};
 use lmots::PrivateSeed;
 use lms_tree::PUBLIC_KEY_LEN;
@@ -60,6 +59,10 @@ impl<T: Drop> From<AllocFailed<T>> for SetFault {
 }
 
 impl From<KeyFault> for SetFault {
+    ghost use Rattle.key_sets.specs.Faults.{of_files};
+
+    ghost from_gives = { λ fault r. r ≡ of_files fault };
+
     fn from(fault: KeyFault) -> SetFault {
         match fault {
             KeyFault::Memory => SetFault::Memory,
@@ -69,6 +72,11 @@ impl From<KeyFault> for SetFault {
 }
 
 impl From<io::Error> for SetFault {
+    ghost use Rattle.std.specs.IoError.{error_kind};
+    ghost use Rattle.key_sets.specs.Faults.{of_kind};
+
+    ghost from_gives = { λ error r. r ≡ of_kind (error_kind error) };
+
     fn from(error: io::Error) -> SetFault {
         match error.kind() {
             ErrorKind::OutOfMemory => SetFault::Memory,
