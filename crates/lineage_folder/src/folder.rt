@@ -1,5 +1,8 @@
 //! The folder.
 
+ghost use Rattle.std.specs.Prelude.{◌≡◌, IfOk, string_bytes};
+ghost use Rattle.lineage_folder.specs.Names.{chain_folder};
+
 use crate::names::chain_folder;
 use blocks::Id;
 use safe_files::is_nothing_at;
@@ -20,7 +23,9 @@ pub struct LineageFolder<'a, F> {
 
 impl<'a, F: Files<File = File>> LineageFolder<'a, F> {
     /// The folder of a chain. It need not be there.
-    pub fn chain_folder(&self, chain: &Id) -> Result<String, AllocError> {
+    pub fn chain_folder(&self, chain: &Id) -> Result<String, AllocError>
+        ensures { IfOk result (λ path. string_bytes path ≡ chain_folder self.now.path.now chain.now) }
+    {
         chain_folder(self.alloc, self.path, chain)
     }
 
