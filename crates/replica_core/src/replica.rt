@@ -417,6 +417,17 @@ impl Core {
         self.act(plan.act, plan.block.header(), &plan.parent);
     }
 
+    /// Holds the plan's block, whatever the act, and does no more. It cannot fail and takes no memory. The plan must be one of the state
+    /// that the core is in, as for `apply`.
+    pub fn hold_only(&mut self, plan: &Plan)
+        requires { IsPlan self.old plan.now }
+        ensures headers { HoldsAlso self.old.headers self.new.headers plan.now.block }
+        ensures genesis { self.new.genesis ≡ self.old.genesis }
+        ensures state { self.new.state ≡ self.old.state }
+    {
+        self.hold(&plan.block);
+    }
+
     /// Gives up on all views up to this one: the vote view rises to it where it is lower. A restart forgets
     /// it.
     pub fn timeout(&mut self, view: u64)
