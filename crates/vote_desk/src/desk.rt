@@ -1,12 +1,13 @@
 //! The desk behind its lock.
 
-ghost use Rattle.std.specs.Prelude.{List, ℕ, ◌≡◌, ◌≢◌, ◌≤◌, ◌+◌, ◌++◌, ◌<◌, ◌⊎◌, ◌↔◌, [], length, drop, map, min, vec_len, IfErr, IfOk, IfSome, IsTrue, OnErr, OnOk, Some};
+ghost use Rattle.std.specs.Prelude.{List, ℕ, ◌≡◌, ◌≢◌, ◌≤◌, ◌+◌, ◌++◌, ◌<◌, ◌⊎◌, ◌↔◌, [], length, drop, map, min, vec_len, IfErr, IfOk, IfSome, IsTrue, MatchOption, OnErr, OnOk, Some};
 ghost use Rattle.std.specs.List.{All, Contains};
 ghost use Rattle.std.specs.List.Sorted.{IsPermutation};
 ghost use Rattle.blocks.specs.Genesis.{genesis_of};
 ghost use Rattle.blocks.specs.Replay.{ballots_in};
 ghost use Rattle.wire.specs.declared.limits.TheConstants.{MOST_ENTRIES, MOST_KEYS};
 ghost use Rattle.key_index_store.specs.Indices.{limit_of};
+ghost use Rattle.replica_core.specs.Marks.{HasNoMarkedIn, IsFirstMarkedIn};
 ghost use Rattle.vote_desk.specs.Deliveries.{CommitsIn, IsGoodAnswer, IsGoodReply, act_of, released_by, with_receipt};
 ghost use Rattle.vote_desk.specs.DeskRefusals.{IsStartRefusal, IsStartable, IsStopped};
 ghost use Rattle.vote_desk.specs.Desks.{HoldsId, KeepsDesk, desk_of, left_of, status_of, vote_count};
@@ -28,7 +29,7 @@ use crate::session::Session;
 use crate::start_error::StartError;
 use crate::state::DeskState;
 use crate::votes::number_not_found;
-use blocks::{CommitteeView, Id};
+use blocks::{CommitteeView, Header, Id};
 use certificates::CheckedBlock;
 use replica_core::{Act, MARK_LEN};
 use stable_log::Disk;
@@ -429,6 +430,25 @@ impl<N: DeskNaming, D: Disk> Desk<N, D> {
         // For the proof: what each desk keeps.
         let _core = state.core();
         state.holds(id)
+    }
+
+    /// Takes the lock, which may wait, and looks for the lowest marked block in the chain of the held header of this id, that one among
+    /// them. None where none is marked, or no header of this id is held.
+    pub fn first_marked<R: Wait>(
+        &self,
+        rt: &R,
+        id: &Id,
+        mark: &[u8; MARK_LEN],
+    ) -> Option<Header>
+        ensures { SomeDesk (IsDeskOf D.Disk N.committee N.replica N.opening)
+            (λ d. MatchOption result (HasNoMarkedIn d.core mark.now id.now)
+            (IsFirstMarkedIn d.core mark.now id.now)) }
+    {
+        let state = self.state.lock(rt);
+        let state = &*state;
+        // For the proof: what each desk keeps.
+        let _core = state.core();
+        state.first_marked(id, mark)
     }
 
     /// Takes the lock, which may wait, and reads the log's vote in a view from its disk, with the number of its entry, if

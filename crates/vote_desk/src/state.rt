@@ -1,13 +1,14 @@
 //! What stands under a desk's lock.
 
 ghost use Rattle.stable_log.specs.Devices.{AtAnyMoment};
-ghost use Rattle.std.specs.Prelude.{◌≡◌, ◌≢◌, ◌<◌, ◌≤◌, ◌+◌, ◌⊎◌, ◌++◌, ◌∷◌, [], ℕ, List, true, false, length, None, Some, IfErr, IfOk, IfSome, IsErrOf, IsFalse, IsSome, IsTrue, ◌↔◌, OnErr, OnOk};
+ghost use Rattle.std.specs.Prelude.{◌≡◌, ◌≢◌, ◌<◌, ◌≤◌, ◌+◌, ◌⊎◌, ◌++◌, ◌∷◌, [], ℕ, List, true, false, length, None, Some, IfErr, IfOk, IfSome, IsErrOf, IsFalse, IsSome, IsTrue, MatchOption, ◌↔◌, OnErr, OnOk};
 ghost use Rattle.blocks.specs.Genesis.{chain_id_of, genesis_of};
 ghost use Rattle.blocks.specs.Replay.{IsLegal, replay};
 ghost use Rattle.blocks.specs.Replica.{timed_out};
 ghost use Rattle.certificates.specs.Votes.{IsGoodVote};
 ghost use Rattle.replica_core.specs.Admission.{IsAdmissible};
 ghost use Rattle.replica_core.specs.Cores.{IsSameCore, restarted_with};
+ghost use Rattle.replica_core.specs.Marks.{HasNoMarkedIn, IsFirstMarkedIn};
 ghost use Rattle.replica_core.specs.Plans.{HoldsAlso, IsPlan, TakesEvent};
 ghost use Rattle.stable_log.specs.Crash.{LeavesOnly};
 ghost use Rattle.log_format.specs.EntryText.{IsEntry};
@@ -162,6 +163,18 @@ impl<N: DeskNaming, D: Disk> DeskState<N, D> {
         ensures { IsTrue result ↔ HoldsId self.now id.now }
     {
         self.core.holds(id)
+    }
+
+    /// The lowest marked block in the chain of the held header of this id, that one among them; none where none is marked, or no header
+    /// of this id is held.
+    pub fn first_marked(&self, id: &Id, mark: &[u8; MARK_LEN]) -> Option<Header>
+        ensures { MatchOption result (HasNoMarkedIn self.now.core mark.now id.now)
+            (IsFirstMarkedIn self.now.core mark.now id.now) }
+    {
+        match self.core().first_in_chain(id, mark) {
+            Some(first) => Some(first),
+            None => None,
+        }
     }
 
     /// Whether the block is marked, and a block in the chain below it is.
