@@ -1,19 +1,38 @@
--- Which blocks that hand over to another committee may be voted for.
-use Rattle.std.specs.Prelude.{◌≢◌, ℕ, List, Option, Some}
+-- Which blocks that hand over to another committee, or begin a chain, may be voted for.
+use Rattle.std.specs.Prelude.{◌≡◌, ◌≢◌, ◌⊎◌, ℕ, List, Option, Some, IfSome}
 use Rattle.blocks.specs.Headers.{Header}
 use Rattle.handover.specs.Handovers.{IsHandover}
 
--- what may be told of the committee that comes next: the payload of the block that hands over to it, or that none is approved
-abbrev pub Telling : Type 1
-Telling = Option (List ℕ) → Type 0
+-- what may be told of the committee that comes next: the payload of the block that hands over to it, or that none is approved; the
+-- payload of the one first block, in a chain that was gone over to; and that it is gone over by this handover block to this file's
+-- committee, which alone `say` ensures
+pub record Telling : Type 1 where
+  pub approves : Option (List ℕ) → Type 0
+  pub begins : Option (List ℕ)
+  pub over : (handover file : List ℕ) → Type 0
 
--- a block that hands over has the payload that was told
-abbrev pub IsApproved : Telling → Header → Type 0
-IsApproved tells b = IsHandover b → tells (Some b.payload)
+-- where there is one first block, a block on genesis has its payload
+abbrev pub MayBegin : Option (List ℕ) → Header → Type 0
+MayBegin begins b = IfSome begins (λ payload. b.parent_view ≡ 0 → b.payload ≡ payload)
+
+-- a block that hands over has the payload that was told, and one on genesis may begin the chain
+pub record IsApproved (tells : Telling) (b : Header) : Type 0 where
+  pub told : IsHandover b → tells.approves (Some b.payload)
+  pub begins : MayBegin tells.begins b
 
 -- the block hands over, and another payload was told, or that no committee is approved
-pub record IsWithheld (tells : Telling) (b : Header) : Type 0 where
+pub record IsUnapproved (tells : Telling) (b : Header) : Type 0 where
   pub marked : IsHandover b
   pub told : Option (List ℕ)
-  pub may : tells told
+  pub may : tells.approves told
   pub other : told ≢ Some b.payload
+
+-- the block stands on genesis, and has another payload than the one first block
+pub record IsOtherFirst (begins : Option (List ℕ)) (b : Header) : Type 0 where
+  pub payload : List ℕ
+  pub first : begins ≡ Some payload
+  pub on_genesis : b.parent_view ≡ 0
+  pub other : b.payload ≢ payload
+
+abbrev pub IsWithheld : Telling → Header → Type 0
+IsWithheld tells b = IsUnapproved tells b ⊎ IsOtherFirst tells.begins b

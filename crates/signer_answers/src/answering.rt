@@ -1,8 +1,9 @@
 //! What comes of a request.
 
-ghost use Rattle.std.specs.Prelude.{◌≡◌, IfErr, IfOk, IsFalse, IsTrue, None};
+ghost use Rattle.std.specs.Prelude.{◌≡◌, IfErr, IfOk, IsFalse, IsTrue, None, Some};
+ghost use Rattle.handover.specs.Handovers.{IsHandover};
 ghost use Rattle.vote_desk.specs.Deliveries.{with_receipt};
-ghost use Rattle.signer_answers.specs.Approvals.{IsApproved, IsWithheld};
+ghost use Rattle.signer_answers.specs.Approvals.{IsApproved, IsOtherFirst, IsUnapproved, IsWithheld, MayBegin};
 ghost use Rattle.signer_answers.specs.BlockAnswers.{IsBlockTold, IsRefusalWithin, IsReplyWithin, IsSignerAnswer};
 ghost use Rattle.signer_answers.specs.Guards.{IsRemembered};
 ghost use Rattle.signer_answers.specs.Tellings.{IsShownBy, receipts_behind};
@@ -24,7 +25,8 @@ use vote_desk::{Answer, DeskError, DeskNaming, Reply, Session};
 
 /// What comes of a request. What asks for nothing of the desk is answered by what is wrong with it. Only a block may need
 /// memory: where it is refused, the desk's refusal says so. The keeper is asked of each block that hands over, once its
-/// certificate was found good: if another payload is approved, or none, the block is raised or held, and never voted for.
+/// certificate was found good: if another payload is approved, or none, the block is raised or held, and never voted for; and so is a
+/// block on genesis, where the keeper says another payload of the one that begins the chain.
 /// A good certificate that has a vote of this replica, other than the one in the log, stops the callers of the desk: the block
 /// is not delivered, and `PutBack` is answered, behind what the keeper does where it is the first. The caller then has what shows
 /// it, and must not ask any more. That callers which come later are stopped is up to who calls this. If the one in the log is
@@ -157,10 +159,28 @@ fn deliver<N: DeskNaming, T: Wait, D: Disk, K: Approver + Keeper>(
     }
 }
 
-// Whether the block hands over to a committee that is not approved.
+// Whether the block hands over to a committee that is not approved, or begins the chain and is not the one that may.
 fn is_withheld<K: Approver>(keeper: &K, block: &Header) -> bool
     ensures withheld { IsTrue result → IsWithheld (K.tells keeper.now) block.now }
     ensures approved { IsFalse result → IsApproved (K.tells keeper.now) block.now }
+{
+    is_other_first(keeper, block) || is_unapproved(keeper, block)
+}
+
+fn is_other_first<K: Approver>(keeper: &K, block: &Header) -> bool
+    ensures other { IsTrue result → IsOtherFirst (K.tells keeper.now).begins block.now }
+    ensures begins { IsFalse result → MayBegin (K.tells keeper.now).begins block.now }
+{
+    match keeper.begins() {
+        Some(payload) => block.parent_view == 0 && block.payload != payload,
+        None => false,
+    }
+}
+
+fn is_unapproved<K: Approver>(keeper: &K, block: &Header) -> bool
+    ensures unapproved { IsTrue result → IsUnapproved (K.tells keeper.now) block.now }
+    ensures told { IsFalse result → IsHandover block.now
+        → (K.tells keeper.now).approves (Some block.now.payload) }
 {
     if !is_handover(block) {
         return false;

@@ -22,7 +22,7 @@ mod shown;
 mod told;
 
 pub use answering::answer;
-pub use approver::{Approver, NoSuccessor};
+pub use approver::{Approver, NoSuccessor, OverFault};
 pub use caller::Caller;
 pub use gate::Gate;
 pub use heard::Heard;

@@ -41,3 +41,16 @@ returns-in-Ok-deliver_marked_once-clause-reply g c =
         subst (λ (x : CheckedBlock). SomeMove g.D.Disk n.committee n.replica n.opening (RepliesOnce g.D.Disk n.committee n.replica handover_mark x c.in-Ok-deliver_marked_once.reply)) same c.in-Ok-deliver_marked_once.ensures.event,
       );
     }
+
+pub returns-in-Err-clause-refused : goal.returns-in-Err-clause-refused
+returns-in-Err-clause-refused g c =
+    let b = c.args.block in
+    let tells = g.K.Approver.tells c.args.office.now.keeper.now in
+    record {
+      checked = subst (λ (committee : List ℕ). IsChecked committee b.header b.certificate) c.requires.committee c.header.ensures.is_checked;
+      remembered = c.requires.remembered;
+      refused = inr (
+        subst (λ (h : Header). IsWithheld tells h) c.header.ensures.value (c.if-is_withheld.ensures.withheld refl),
+        c.in-Err.ensures.refused,
+      );
+    }
