@@ -13,7 +13,7 @@ use Rattle.certificates.specs.declared.vote.TheConstants.{VOTE_LEN}
 use Rattle.replica_answers.specs.Requests.{IsOfBlock}
 use Rattle.replica_answers.specs.declared.request.Request.{Request as Asked}
 use Rattle.replica_answers.specs.declared.request.Request.TheVariants as asks
-use Rattle.signer_calls.specs.Asking.{ARequestHasOneReading, HasContentType, HasGoodTarget, HasNoOrigin, HasRightMethod, IsAdmitted, IsAskedAt, IsAskedOf, IsHeldTo, IsRefusedAt, IsThere, NamesHost, PartAsked, PassesDoor, SuccessorAsked, TimeoutAsked, VoteAsked, query_in}
+use Rattle.signer_calls.specs.Asking.{ARequestHasOneReading, HasContentType, HasGoodTarget, HasNoOrigin, HasRightMethod, IsAdmitted, IsAskedAt, IsAskedOf, IsHeldTo, IsRefusedAt, IsThere, NamesHost, OverAsked, OverFrom, PartAsked, PassesDoor, SuccessorAsked, TimeoutAsked, VoteAsked, no_renewal, query_in}
 use Rattle.signer_calls.specs.Places.{HasNoArgument, HasNoName, IsIdOf, IsNamedPlace, IsNumberOf, IsPlace, methods_of}
 use Rattle.signer_calls.specs.SpelledVotes.{IsVote, SpellsVote}
 use Rattle.signer_calls.specs.declared.call.Call.{Call}
@@ -35,6 +35,7 @@ named path =
     if bytes_eq path (codes "/block") then place.Block
     else if bytes_eq path (codes "/vote") then place.Vote
     else if bytes_eq path (codes "/certificate") then place.Certificate
+    else if bytes_eq path (codes "/over") then place.Over
     else if bytes_eq path (codes "/successor") then place.Successor
     else if bytes_eq path (codes "/log") then place.Log
     else if bytes_eq path (codes "/status") then place.Status
@@ -50,6 +51,7 @@ is_named : (path : List ℕ) (p : Place) → IsNamedPlace path p → IsNamed pat
 is_named path place.Block is = inl (ap named is, λ none. none.block is)
 is_named path place.Vote is = inl (ap named is, λ none. none.vote is)
 is_named path place.Certificate is = inl (ap named is, λ none. none.certificate is)
+is_named path place.Over is = inl (ap named is, λ none. none.over is)
 is_named path place.Successor is = inl (ap named is, λ none. none.successor is)
 is_named path place.Log is = inl (ap named is, λ none. none.log is)
 is_named path place.Status is = inl (ap named is, λ none. none.status is)
@@ -97,6 +99,7 @@ names path (place.Header id) (digits, at, is) = inr (inr (inl (id, digits, refl,
 names path place.Block is = without path place.Block is
 names path place.Vote is = without path place.Vote is
 names path place.Certificate is = without path place.Certificate is
+names path place.Over is = without path place.Over is
 names path place.Successor is = without path place.Successor is
 names path place.Log is = without path place.Log is
 names path place.Status is = without path place.Status is
@@ -215,6 +218,7 @@ vote_case : (body : List ℕ) (a : Call) → VoteAsked body a → VoteCase body 
 vote_case body (call.Judge v) is = inl (v, refl, is)
 vote_case body (call.Replica x) is = inr is
 vote_case body (call.Certificate x) is = inr is
+vote_case body (call.Over x) is = inr is
 vote_case body (call.VoteIn x) is = inr is
 vote_case body (call.Header x) is = inr is
 vote_case body (call.Successor x) is = inr is
@@ -253,12 +257,25 @@ one_successor : (payload : Option (List ℕ)) (a b : Call) → SuccessorAsked pa
 one_successor (Some payload) a b is is' = is ∙ sym is'
 one_successor None a b is is' = is ∙ sym is'
 
+one_over_from : (chain : Option (List ℕ)) (file : List ℕ) (a b : Call) → OverFrom chain file a → OverFrom chain file b → a ≡ b
+one_over_from (Some chain) file a b is is' = is ∙ sym is'
+one_over_from None file a b is is' = is ∙ sym is'
+
+one_over : (chain : Option (List ℕ)) (body : List ℕ) (a b : Call) → OverAsked chain body a → OverAsked chain body b → a ≡ b
+one_over chain body a b (inl (f, at, is)) (inl (g, at', is')) =
+    let same = append_cancel_left no_renewal f g (sym at ∙ at') in
+    one_over_from chain g a b (subst (λ (x : List ℕ). OverFrom chain x a) same is) is'
+one_over chain body a b (inl (f, at, is)) (inr (none, is')) = absurd (none f at)
+one_over chain body a b (inr (none, is)) (inl (f, at, is')) = absurd (none f at)
+one_over chain body a b (inr (none, is)) (inr (none', is')) = is ∙ sym is'
+
 one_asked : (r : Request (List ℕ)) (p : Place) (q : Query) (a b : Call) → IsAskedAt r p q a → IsAskedAt r p q b → a ≡ b
 one_asked r place.Block q a b (x, is, of) (y, is', of') = is ∙ ap (λ (z : Asked). call.Replica z) (one_block (body_of r) x y of of') ∙ sym is'
 one_asked r (place.Timeout (Some view)) q a b of of' = one_timeout view (body_of r) a b of of'
 one_asked r (place.Timeout None) q a b is is' = is ∙ sym is'
 one_asked r place.Vote q a b of of' = one_vote_call (body_of r) a b (vote_case (body_of r) a of) (vote_case (body_of r) b of')
 one_asked r place.Certificate q a b is is' = is ∙ sym is'
+one_asked r place.Over q a b of of' = one_over q.chain (body_of r) a b of of'
 one_asked r (place.VoteIn (Some view)) q a b is is' = is ∙ sym is'
 one_asked r (place.VoteIn None) q a b is is' = is ∙ sym is'
 one_asked r (place.Header (Some id)) q a b is is' = is ∙ sym is'
@@ -273,20 +290,20 @@ one_asked r place.Nowhere q a b is is' = is ∙ sym is'
 
 -- ---- a call is held to one chain
 
-one_held : (committee : List ℕ) (chain : Option (List ℕ)) (before a b : Call) → IsHeldTo committee chain before a → IsHeldTo committee chain before b → a ≡ b
-one_held committee chain before a b (inl (well, another, is)) (inl (well', another', is')) = is ∙ sym is'
-one_held committee chain before a b (inl (well, another, is)) (inr (not, is')) = absurd (not well another)
-one_held committee chain before a b (inr (not, is)) (inl (well, another, is')) = absurd (not well another)
-one_held committee chain before a b (inr (not, is)) (inr (not', is')) = is ∙ sym is'
+one_held : (rules : Rules) (committee : List ℕ) (chain : Option (List ℕ)) (before a b : Call) → IsHeldTo rules committee chain before a → IsHeldTo rules committee chain before b → a ≡ b
+one_held rules committee chain before a b (inl (well, another, is)) (inl (well', another', is')) = is ∙ sym is'
+one_held rules committee chain before a b (inl (well, another, is)) (inr (not, is')) = absurd (not well another)
+one_held rules committee chain before a b (inr (not, is)) (inl (well, another, is')) = absurd (not well another)
+one_held rules committee chain before a b (inr (not, is)) (inr (not', is')) = is ∙ sym is'
 
-one_asked_of : (committee : List ℕ) (r : Request (List ℕ)) (p : Place) (a b : Call) → IsAskedOf committee r p a → IsAskedOf committee r p b → a ≡ b
-one_asked_of committee r p a b (inl (q, x, named, asked, held)) (inl (q', y, named', asked', held')) =
+one_asked_of : (rules : Rules) (committee : List ℕ) (r : Request (List ℕ)) (p : Place) (a b : Call) → IsAskedOf rules committee r p a → IsAskedOf rules committee r p b → a ≡ b
+one_asked_of rules committee r p a b (inl (q, x, named, asked, held)) (inl (q', y, named', asked', held')) =
     let same = one_query (query_in r) q q' named named' in
     let calls = one_asked r p q' x y (subst (λ (z : Query). IsAskedAt r p z x) same asked) asked' in
-    one_held committee q'.chain y a b (subst (λ (z : Query). IsHeldTo committee z.chain y a) same (subst (λ (z : Call). IsHeldTo committee q.chain z a) calls held)) held'
-one_asked_of committee r p a b (inl (q, x, named, asked, held)) (inr (none, is)) = absurd (none q named)
-one_asked_of committee r p a b (inr (none, is)) (inl (q, x, named, asked, held)) = absurd (none q named)
-one_asked_of committee r p a b (inr (none, is)) (inr (none', is')) = is ∙ sym is'
+    one_held rules committee q'.chain y a b (subst (λ (z : Query). IsHeldTo rules committee z.chain y a) same (subst (λ (z : Call). IsHeldTo rules committee q.chain z a) calls held)) held'
+one_asked_of rules committee r p a b (inl (q, x, named, asked, held)) (inr (none, is)) = absurd (none q named)
+one_asked_of rules committee r p a b (inr (none, is)) (inl (q, x, named, asked, held)) = absurd (none q named)
+one_asked_of rules committee r p a b (inr (none, is)) (inr (none', is')) = is ∙ sym is'
 
 -- ---- one test fails first
 
@@ -369,10 +386,10 @@ module _ (rules : Rules) (r : Request (List ℕ)) (p : Place) where
 
 abbrev Reads : Rules → List ℕ → Request (List ℕ) → Place → Call → Type 0
 Reads rules committee r p a =
-    (IsAdmitted rules r p × IsAskedOf committee r p a) ⊎ ((refusal : CallRefusal) × (a ≡ call.Refused refusal) × IsRefusedAt rules r p refusal)
+    (IsAdmitted rules r p × IsAskedOf rules committee r p a) ⊎ ((refusal : CallRefusal) × (a ≡ call.Refused refusal) × IsRefusedAt rules r p refusal)
 
 one_of_place : (rules : Rules) (committee : List ℕ) (r : Request (List ℕ)) (p : Place) (a b : Call) → Reads rules committee r p a → Reads rules committee r p b → a ≡ b
-one_of_place rules committee r p a b (inl (admitted, asked)) (inl (admitted', asked')) = one_asked_of committee r p a b asked asked'
+one_of_place rules committee r p a b (inl (admitted, asked)) (inl (admitted', asked')) = one_asked_of rules committee r p a b asked asked'
 one_of_place rules committee r p a b (inl (admitted, asked)) (inr (x, is, at)) = absurd (not_both rules r p x admitted at)
 one_of_place rules committee r p a b (inr (x, is, at)) (inl (admitted, asked)) = absurd (not_both rules r p x admitted at)
 one_of_place rules committee r p a b (inr (x, is, at)) (inr (y, is', at')) =

@@ -1,5 +1,5 @@
 -- What a request asks for: one call, or the first thing that is wrong with it.
-use Rattle.std.specs.Prelude.{◌≡◌, ◌≢◌, ◌⊎◌, ℕ, true, false, List, [], Option, Some, None, codes, length}
+use Rattle.std.specs.Prelude.{◌≡◌, ◌≢◌, ◌⊎◌, ◌++◌, ◌∷◌, ℕ, true, false, List, [], Option, Some, None, codes, length}
 use Rattle.blocks.specs.Genesis.{chain_id_of}
 use Rattle.certificates.specs.CertificateReading.{certificate_in}
 use Rattle.certificates.specs.declared.vote.TheConstants.{VOTE_LEN}
@@ -13,7 +13,7 @@ use Rattle.replica_answers.specs.declared.request.Request.TheVariants as asks
 use Rattle.host_rule.specs.HostRules.{HasGoodHost}
 use Rattle.signer_calls.specs.Doors.{HasBytesType}
 use Rattle.signer_calls.specs.LogParts.{part_of}
-use Rattle.signer_calls.specs.Places.{IsPlace, has_no_id, is_nowhere, is_posted, methods_of, queries_of}
+use Rattle.signer_calls.specs.Places.{IsPlace, has_no_id, is_nowhere, is_over, is_posted, methods_of, queries_of}
 use Rattle.signer_calls.specs.Queries.{HasGoodQuery, IsQuery}
 use Rattle.signer_calls.specs.SpelledVotes.{SpellsVote}
 use Rattle.signer_calls.specs.declared.call.Call.{Call}
@@ -57,8 +57,10 @@ abbrev pub IsNotPosted : Request (List ℕ) → Place → Type 0
 IsNotPosted r p = (is_posted (methods_of p) ≡ false) × ((head_of r).method ≢ codes "POST")
 
 -- there is such a call here
-abbrev pub IsThere : Rules → Request (List ℕ) → Place → Type 0
-IsThere rules r p = (is_nowhere p ≡ false) × (rules.reads_only ≡ true → IsNotPosted r p)
+pub record IsThere (rules : Rules) (r : Request (List ℕ)) (p : Place) : Type 0 where
+  pub somewhere : is_nowhere p ≡ false
+  pub read : rules.reads_only ≡ true → IsNotPosted r p
+  pub renews : is_over p ≡ true → rules.renews ≡ true
 
 abbrev pub IsOneOf : Methods → List ℕ → Type 0
 IsOneOf Post method = method ≡ codes "POST"
@@ -116,12 +118,27 @@ SuccessorAsked None asked = asked ≡ call.Refused refused.Number
 abbrev pub CertificateAsked : List ℕ → Call → Type 0
 CertificateAsked body asked = asked ≡ call.Certificate (certificate_in body)
 
+-- a renewal of no bytes
+abbrev pub no_renewal : List ℕ
+no_renewal = 0 ∷ 0 ∷ 0 ∷ 0 ∷ []
+
+-- to go over to the committee of the file that stands behind it, from the chain that is named
+abbrev pub OverFrom : Option (List ℕ) → List ℕ → Call → Type 0
+OverFrom (Some chain) file asked = asked ≡ call.Over (record { chain = chain; file = file })
+OverFrom None file asked = asked ≡ call.Refused refused.Chain
+
+abbrev pub OverAsked : Option (List ℕ) → List ℕ → Call → Type 0
+OverAsked chain body asked =
+    ((file : List ℕ) × (body ≡ no_renewal ++ file) × OverFrom chain file asked)
+    ⊎ (((file : List ℕ) → body ≢ no_renewal ++ file) × (asked ≡ call.Refused refused.Length))
+
 -- what is asked of a place by a request that is admitted, and whose query names this
 abbrev pub IsAskedAt : Request (List ℕ) → Place → Query → Call → Type 0
 IsAskedAt r place.Block query asked = (block : Asked) × (asked ≡ call.Replica block) × IsOfBlock (body_of r) block
 IsAskedAt r (place.Timeout (Some view)) query asked = TimeoutAsked view (body_of r) asked
 IsAskedAt r place.Vote query asked = VoteAsked (body_of r) asked
 IsAskedAt r place.Certificate query asked = CertificateAsked (body_of r) asked
+IsAskedAt r place.Over query asked = OverAsked query.chain (body_of r) asked
 IsAskedAt r (place.VoteIn (Some view)) query asked = asked ≡ call.VoteIn view
 IsAskedAt r (place.Header (Some id)) query asked = asked ≡ call.Header id
 IsAskedAt r place.Log query asked = PartAsked query asked
@@ -134,26 +151,31 @@ IsAskedAt r _ query asked = asked ≡ call.Refused refused.Number
 
 -- ---- the chain
 
--- nothing is wrong with the call
-abbrev pub IsWell : Call → Type 0
-IsWell (call.Refused refusal) = ⊥
-IsWell asked = Unit {0}
+-- nothing is wrong with the call, and it is for one chain: what tells which one takes no name, and `/over` is held to it behind this
+abbrev pub IsOfChain : Call → Type 0
+IsOfChain (call.Refused refusal) = ⊥
+IsOfChain (call.Over over) = ⊥
+IsOfChain call.Status = ⊥
+IsOfChain call.Live = ⊥
+IsOfChain call.Health = ⊥
+IsOfChain call.Metrics = ⊥
+IsOfChain asked = Unit {0}
 
--- this is another chain than the committee's
-abbrev pub IsAnother : List ℕ → Option (List ℕ) → Type 0
-IsAnother committee (Some chain) = chain ≢ chain_id_of committee
-IsAnother committee None = ⊥
+-- this is another chain than the committee's, or none is named where each call must
+abbrev pub IsAnother : Rules → List ℕ → Option (List ℕ) → Type 0
+IsAnother rules committee (Some chain) = chain ≢ chain_id_of committee
+IsAnother rules committee None = rules.renews ≡ true
 
--- where nothing else is wrong with the call, and it names another chain, it is refused
-abbrev pub IsHeldTo : List ℕ → Option (List ℕ) → (before after : Call) → Type 0
-IsHeldTo committee chain before after =
-    (IsWell before × IsAnother committee chain × (after ≡ call.Refused refused.Chain))
-    ⊎ ((IsWell before → IsAnother committee chain → ⊥) × (after ≡ before))
+-- such a call that names another chain is refused
+abbrev pub IsHeldTo : Rules → List ℕ → Option (List ℕ) → (before after : Call) → Type 0
+IsHeldTo rules committee chain before after =
+    (IsOfChain before × IsAnother rules committee chain × (after ≡ call.Refused refused.Chain))
+    ⊎ ((IsOfChain before → IsAnother rules committee chain → ⊥) × (after ≡ before))
 
 -- .. so what a request that is admitted asks of the committee's signer at a place; or a parameter of its query is wrong
-abbrev pub IsAskedOf : List ℕ → Request (List ℕ) → Place → Call → Type 0
-IsAskedOf committee r p asked =
-    ((query : Query) × (before : Call) × IsQuery (query_in r) query × IsAskedAt r p query before × IsHeldTo committee query.chain before asked)
+abbrev pub IsAskedOf : Rules → List ℕ → Request (List ℕ) → Place → Call → Type 0
+IsAskedOf rules committee r p asked =
+    ((query : Query) × (before : Call) × IsQuery (query_in r) query × IsAskedAt r p query before × IsHeldTo rules committee query.chain before asked)
     ⊎ (((query : Query) → IsQuery (query_in r) query → ⊥) × (asked ≡ call.Refused refused.Number))
 
 -- ---- the whole
@@ -163,7 +185,7 @@ IsAskedOf committee r p asked =
 pub record AsksFor (rules : Rules) (committee : List ℕ) (r : Request (List ℕ)) (asked : Call) : Type 0 where
   pub place : Place
   pub named : IsPlace (uri_path (head_of r).uri) place
-  pub reads : (IsAdmitted rules r place × IsAskedOf committee r place asked)
+  pub reads : (IsAdmitted rules r place × IsAskedOf rules committee r place asked)
       ⊎ ((refusal : CallRefusal) × (asked ≡ call.Refused refusal) × IsRefusedAt rules r place refusal)
 
 -- a request asks for one thing

@@ -1,12 +1,12 @@
 //! What a request asks for.
 
-ghost use Rattle.std.specs.Prelude.{◌≡◌, ◌↔◌, IfOk, IsTrue, MatchOption, option_copied};
+ghost use Rattle.std.specs.Prelude.{◌≡◌, ◌↔◌, ◌++◌, ℕ, List, IfOk, IsTrue, MatchOption, option_copied};
 ghost use Rattle.http.specs.Request.{head_of};
-ghost use Rattle.signer_calls.specs.Asking.{AsksFor, CertificateAsked, HasContentType, HasGoodTarget, HasNoOrigin, HasRightMethod, IsAdmitted, IsAnother, IsAskedAt, IsAskedOf, IsHeldTo, IsRefusedAt, IsThere, IsWell, NamesHost, PartAsked, PassesDoor, SuccessorAsked, VoteAsked};
+ghost use Rattle.signer_calls.specs.Asking.{AsksFor, CertificateAsked, HasContentType, HasGoodTarget, HasNoOrigin, HasRightMethod, IsAdmitted, IsAnother, IsAskedAt, IsAskedOf, IsHeldTo, IsOfChain, IsRefusedAt, IsThere, NamesHost, OverAsked, PartAsked, PassesDoor, SuccessorAsked, VoteAsked, no_renewal};
 ghost use Rattle.signer_calls.specs.Places.{queries_of};
 ghost use Rattle.signer_calls.specs.Queries.{HasGoodQuery, IsChainAlone};
 
-use crate::call::{Call, CallRefusal};
+use crate::call::{Call, CallRefusal, Over};
 use crate::door::has_bytes_type;
 use crate::log_part::part_of;
 use crate::place::{Methods, Place, Queries, behind, id_in, is_same, place_of};
@@ -21,6 +21,9 @@ use http::Request;
 use replica_answers::{Request as Asked, block_in};
 use std::alloc::{AllocError, Global};
 
+/// How a body to go over begins: the length of a renewal, of which there is none.
+const NO_RENEWAL: [u8; 4] = [0; 4];
+
 /// What a request asks of this committee's signer, or the first thing that is wrong with it: `AllocError` where memory was refused.
 pub fn call_of(
     alloc: Global,
@@ -34,7 +37,8 @@ pub fn call_of(
     if let Some(refusal) = refused_at(rules, request, place)? {
         return Ok(Call::Refused(refusal));
     }
-    asked_of(alloc, rules, committee, request, place)
+    let call = asked_of(alloc, rules, committee, request, place)?;
+    Ok(call)
 }
 
 // The first thing that is wrong with a request, before its arguments are read.
@@ -84,13 +88,13 @@ fn asked_of(
     place: Place,
 ) -> Result<Call, AllocError>
     requires { IsAdmitted rules.now request.now place }
-    ensures { IfOk result (IsAskedOf committee.now request.now place) }
+    ensures { IfOk result (IsAskedOf rules.now committee.now request.now place) }
 {
     let Some(query) = named_in(request.uri().query()) else {
         return Ok(Call::Refused(CallRefusal::Number));
     };
     let call = asked_at(alloc, rules, request, place, &query)?;
-    Ok(held_to(committee, &query.chain, call))
+    Ok(held_to(rules, committee, &query.chain, call))
 }
 
 // What it asks of a place.
@@ -111,6 +115,7 @@ fn asked_at(
         Place::Timeout(Some(_)) => Ok(Call::Refused(CallRefusal::Length)),
         Place::Vote => Ok(vote_asked(body)),
         Place::Certificate => certificate_asked(alloc, body),
+        Place::Over => over_asked(&query.chain, request.body()),
         Place::VoteIn(Some(view)) => Ok(Call::VoteIn(view)),
         Place::Header(Some(id)) => Ok(Call::Header(id)),
         Place::Successor => Ok(successor_asked(query)),
@@ -160,31 +165,52 @@ fn certificate_asked(alloc: Global, body: &[u8]) -> Result<Call, AllocError>
     }
 }
 
-// The call, but where nothing else is wrong with it and it names another chain.
-fn held_to(committee: &CommitteeView, chain: &Option<Id>, call: Call) -> Call
-    ensures { IsHeldTo committee.now chain.now call result }
+// To go over to the committee of the file behind a renewal of no bytes, from the chain that is named.
+fn over_asked(chain: &Option<Id>, body: &Bytes) -> Result<Call, AllocError>
+    ensures { IfOk result (OverAsked chain.now body.now) }
 {
-    if is_well(&call) && is_another(committee, chain) {
+    if !has_no_renewal(body.as_slice()) {
+        return Ok(Call::Refused(CallRefusal::Length));
+    }
+    let Some(chain) = *chain else {
+        return Ok(Call::Refused(CallRefusal::Chain));
+    };
+    let file = body.slice(NO_RENEWAL.len()..)?;
+    Ok(Call::Over(Over { chain, file }))
+}
+
+fn has_no_renewal(body: &[u8]) -> bool
+    ensures { IsTrue result ↔ ((file : List ℕ) × (body.now ≡ no_renewal ++ file)) }
+{
+    body.starts_with(&NO_RENEWAL)
+}
+
+// The call, but where it is for one chain and names another.
+fn held_to(rules: &Rules, committee: &CommitteeView, chain: &Option<Id>, call: Call) -> Call
+    ensures { IsHeldTo rules.now committee.now chain.now call result }
+{
+    if is_of_chain(&call) && is_another(rules, committee, chain) {
         return Call::Refused(CallRefusal::Chain);
     }
     call
 }
 
-fn is_well(call: &Call) -> bool
-    ensures { IsTrue result ↔ IsWell call.now }
+fn is_of_chain(call: &Call) -> bool
+    ensures { IsTrue result ↔ IsOfChain call.now }
 {
     match call {
-        Call::Refused(_) => false,
+        Call::Refused(_) | Call::Over(_) => false,
+        Call::Status | Call::Live | Call::Health | Call::Metrics => false,
         _ => true,
     }
 }
 
-fn is_another(committee: &CommitteeView, chain: &Option<Id>) -> bool
-    ensures { IsTrue result ↔ IsAnother committee.now chain.now }
+fn is_another(rules: &Rules, committee: &CommitteeView, chain: &Option<Id>) -> bool
+    ensures { IsTrue result ↔ IsAnother rules.now committee.now chain.now }
 {
     match chain {
         Some(chain) => !is_same(chain, &committee.chain()),
-        None => false,
+        None => rules.renews,
     }
 }
 
@@ -252,6 +278,9 @@ fn is_there(rules: &Rules, request: &Request<Bytes>, place: Place) -> bool
     ensures { IsTrue result ↔ IsThere rules.now request.now place }
 {
     if place.is_nowhere() {
+        return false;
+    }
+    if place.is_over() && !rules.renews {
         return false;
     }
     !rules.reads_only || !(place.is_posted() || has_method(request, b"POST"))

@@ -6,9 +6,19 @@ ghost use Rattle.signer_calls.specs.CallRefusals.{call_refusal_name, call_refusa
 use crate::log_part::LogPart;
 use crate::place::Methods;
 use blocks::Id;
+use bytes::Bytes;
 use certificates::{Certificate, CertificateRefusal, SignedVote};
 use http::StatusCode;
 use replica_answers::Request;
+
+/// What a call to go over names: the chain that is left, and the file of the committee that follows.
+#[derive(Drop)]
+pub struct Over {
+    /// The chain that the call names.
+    pub chain: Id,
+    /// The bytes of the file.
+    pub file: Bytes,
+}
 
 /// What a call asks for.
 #[derive(Drop)]
@@ -19,6 +29,8 @@ pub enum Call {
     Judge(SignedVote),
     /// Whether a certificate is good, or why its bytes are none, which is not for want of memory: `POST /certificate`.
     Certificate(Result<Certificate, CertificateRefusal>),
+    /// To go over to the next committee: `POST /over`. Whether it is from this chain is not looked at here.
+    Over(Over),
     /// The log's vote in this view: `GET /vote/V`.
     VoteIn(u64),
     /// Whether the header of this id is held: `GET /block/ID`.
@@ -64,7 +76,7 @@ pub enum CallRefusal {
     NotHeld,
     /// 11: the body has not the length that is wanted.
     Length,
-    /// 12: it names another chain than the committee's.
+    /// 12: it names another chain than the committee's, or none where each call must.
     Chain,
 }
 

@@ -12,7 +12,7 @@ mod rules;
 mod vote_reading;
 
 pub use asking::call_of;
-pub use call::{Call, CallRefusal};
+pub use call::{Call, CallRefusal, Over};
 pub use laws::a_request_has_one_reading;
 pub use log_part::{LogPart, MOST_ENTRIES_AT_ONCE};
 pub use place::{Methods, Place};

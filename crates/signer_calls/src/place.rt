@@ -1,7 +1,7 @@
 //! What the path of a call names.
 
 ghost use Rattle.std.specs.Prelude.{◌≡◌, ◌≢◌, ◌↔◌, ◌++◌, ℕ, List, IsTrue, MatchOption};
-ghost use Rattle.signer_calls.specs.Places.{IsIdOf, IsNamedPlace, IsPlace, has_no_id, is_nowhere, is_posted, methods_of, queries_of};
+ghost use Rattle.signer_calls.specs.Places.{IsIdOf, IsNamedPlace, IsPlace, has_no_id, is_nowhere, is_over, is_posted, methods_of, queries_of};
 
 use blocks::Id;
 use printed_lines::{id_digits, number_in};
@@ -17,6 +17,8 @@ pub enum Place {
     Vote,
     /// `/certificate`
     Certificate,
+    /// `/over`
+    Over,
     /// `/vote/V`, if V is a number of 64 bits as it is printed.
     VoteIn(Option<u64>),
     /// `/block/ID`, if ID is 64 hex digits in lower case.
@@ -64,7 +66,9 @@ impl Place {
         ensures { result ≡ methods_of self }
     {
         match self {
-            Place::Block | Place::Timeout(_) | Place::Vote | Place::Certificate => Methods::Post,
+            Place::Block | Place::Timeout(_) | Place::Vote | Place::Certificate | Place::Over => {
+                Methods::Post
+            }
             _ => Methods::Get,
         }
     }
@@ -86,7 +90,7 @@ impl Place {
             Place::Log => Queries::Part,
             Place::Successor => Queries::Payload,
             Place::Block | Place::Timeout(_) | Place::Vote | Place::Certificate => Queries::Chain,
-            Place::VoteIn(_) | Place::Header(_) => Queries::Chain,
+            Place::Over | Place::VoteIn(_) | Place::Header(_) => Queries::Chain,
             _ => Queries::Nothing,
         }
     }
@@ -97,6 +101,15 @@ impl Place {
     {
         match self {
             Place::Header(None) => true,
+            _ => false,
+        }
+    }
+
+    pub(crate) fn is_over(self) -> bool
+        ensures { result ≡ is_over self }
+    {
+        match self {
+            Place::Over => true,
             _ => false,
         }
     }
@@ -139,6 +152,9 @@ fn named_place(path: &[u8]) -> Place
     }
     if is_same(path, b"/certificate") {
         return Place::Certificate;
+    }
+    if is_same(path, b"/over") {
+        return Place::Over;
     }
     if is_same(path, b"/successor") {
         return Place::Successor;
