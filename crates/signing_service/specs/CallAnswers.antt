@@ -1,8 +1,11 @@
 -- What is answered to a call.
-use Rattle.std.specs.Prelude.{◌≡◌, ◌⊎◌, ◌<◌, ◌≤◌, ◌+◌, ◌++◌, [], ◌∷◌, ℕ, List, Bool, true, false, Option, Some, None, IfSome, IsSome, MatchOption, codes, min}
+use Rattle.std.specs.Prelude.{◌≡◌, ◌≢◌, ◌⊎◌, ◌<◌, ◌≤◌, ◌+◌, ◌++◌, [], ◌∷◌, ℕ, List, Bool, true, false, Option, Some, None, IfSome, IsSome, MatchOption, codes, min}
+use Rattle.blocks.specs.Genesis.{chain_id_of}
+use Rattle.blocks.specs.Headers.{Header, header_id}
 use Rattle.blocks.specs.Replica.{Stored}
 use Rattle.blocks.specs.declared.ballot.Ballot.{Ballot}
 use Rattle.certificates.specs.declared.vote.SignedVote.{SignedVote}
+use Rattle.handover.specs.Handovers.{handover_mark, handover_payload}
 use Rattle.http.specs.declared.request.Request.{Request}
 use Rattle.http_server.specs.declared.response.Response.{Response}
 use Rattle.http_server.specs.Exchange.{Call as Exchanged}
@@ -14,7 +17,8 @@ use Rattle.vote_log.specs.declared.log_error.LogError.{LogError}
 use Rattle.vote_log.specs.declared.log_error.LogError.TheVariants as log
 use Rattle.vote_desk.specs.Desks.{DeskView, HoldsId, status_of}
 use Rattle.vote_desk.specs.Exports.{IsOut, RefusesExport}
-use Rattle.vote_desk.specs.SomeDesk.{IsDeskOf, SomeDesk, SomeDeskMoves}
+use Rattle.replica_core.specs.Marks.{HasNoMarkedIn, IsFirstMarkedIn}
+use Rattle.vote_desk.specs.SomeDesk.{IsDeskOf, SomeDesk, SomeDeskMoves, TimesOut}
 use Rattle.vote_desk.specs.Votes.{IsVoteFound, RefusesVoteIn}
 use Rattle.vote_desk.specs.declared.desk.TheConstants.{MOST_FRAMES_AT_ONCE}
 use Rattle.vote_desk.specs.declared.desk_error.DeskError.{DeskError}
@@ -29,6 +33,8 @@ use Rattle.replica_answers.specs.declared.request.Request.{Request as Asked}
 use Rattle.replica_answers.specs.declared.request.Request.TheVariants as asks
 use Rattle.replica_lines.specs.OutcomeLines.{answer_text}
 use Rattle.signer_answers.specs.Approvals.{Telling}
+use Rattle.signer_answers.specs.declared.approver.OverFault.{OverFault}
+use Rattle.signer_answers.specs.declared.approver.OverFault.TheVariants as fault
 use Rattle.signer_answers.specs.BlockAnswers.{IsSignerAnswer}
 use Rattle.signer_answers.specs.Guards.{WasPutBack}
 use Rattle.signer_answers.specs.Hearings.{HasHeard}
@@ -46,11 +52,16 @@ use Rattle.signing_service.specs.Responses.{IsLine, IsPassing, fields_of_kind}
 use Rattle.signing_service.specs.Statuses.{IsStatusTold}
 use Rattle.signing_service.specs.Successors.{IsSuccessorTold}
 use Rattle.signing_service.specs.ToldLines.{asking_line, block_asked, desk_status, named_desk_line, outcome_status, put_back_line, reply_line, told_line, unread_line}
+use Rattle.signer_calls.specs.declared.call.Over.{Over}
 use Rattle.signer_calls.specs.declared.call.Call.{Call}
 use Rattle.signer_calls.specs.declared.call.Call.TheVariants as call
 use Rattle.signer_calls.specs.declared.call.CallRefusal.TheVariants as refused
 use Rattle.signer_calls.specs.declared.log_part.LogPart.{LogPart}
 use Rattle.signer_calls.specs.declared.rules.Rules.{Rules}
+use Rattle.signing_service.specs.Crossings.{gone_line, no_commit_line, not_mine_line, other_file_line, refused_committee_line, stopped_over_line}
+use Rattle.signing_service.specs.declared.crossing.Crossing.{Crossing}
+use Rattle.signing_service.specs.declared.crossing.Crossing.TheVariants as crossing
+use Rattle.signing_service.specs.declared.crossing.TheConstants.{MOST_VIEW}
 use Rattle.signing_service.specs.declared.halt.Halt.{Halt}
 use Rattle.signing_service.specs.declared.halt.Halt.TheVariants as halt
 use Rattle.signing_service.specs.declared.metrics.Measured.{Measured}
@@ -146,6 +157,31 @@ from_export _ = log.Memory
 abbrev pub receipts_told : List Receipt → Option Told → List Receipt
 receipts_told receipts (Some it) = receipts_behind receipts it
 receipts_told receipts None = receipts
+
+-- ---- a call to go over
+
+-- the response tells why it does not go over: memory may be there again soon
+abbrev pub IsOverFaultTold : OverFault → Response → Type 0
+IsOverFaultTold fault.Memory response = IsDeskTold desk.Memory response
+IsOverFaultTold (fault.Committee refusal) response = IsLine 422 (refused_committee_line refusal) response
+IsOverFaultTold fault.NotMine response = IsLine 422 not_mine_line response
+IsOverFaultTold fault.Stopped response = IsLine 500 stopped_over_line response
+
+-- .. or what else came of it
+abbrev pub IsCrossingTold : Crossing → Response → Type 0
+IsCrossingTold (crossing.Gone chain) response = IsLine 200 (gone_line chain) response
+IsCrossingTold crossing.NoCommit response = IsLine 412 no_commit_line response
+IsCrossingTold (crossing.OtherFile payload) response = IsLine 422 (other_file_line payload) response
+IsCrossingTold (crossing.Refused fault) response = IsOverFaultTold fault response
+IsCrossingTold (crossing.Desk refusal) response = IsDeskTold refusal response
+IsCrossingTold (crossing.Halted halted) response = IsHaltTold halted response
+IsCrossingTold crossing.Elsewhere response = IsRefusalTold refused.Chain response
+
+-- it is gone over to the chain of the committee of this file, or the file is no committee's
+abbrev pub IsGoneTo : List ℕ → Crossing → Type 0
+IsGoneTo file (crossing.Gone chain) = chain ≡ chain_id_of file
+IsGoneTo file (crossing.Refused refusal) = Unit {0}
+IsGoneTo file _ = ⊥
 
 -- ---- by some desk
 
@@ -250,6 +286,55 @@ module _ {D : Type 0} (disk : Ghosts D) (committee : List ℕ) (replica : ℕ) (
   abbrev pub IsDeskMetricsTold : Bool → Option Showing → Response → Type 0
   IsDeskMetricsTold asks shown response = (m : Measured) × IsMeasured asks shown m × IsMetricsTold m response
 
+  -- ---- a call to go over
+
+  -- a block was told as committed, and on some desk this is the lowest handover block in its chain
+  pub record IsHandedOver (handover : Header) : Type 0 where
+    pub commit : Ballot
+    pub told : IsCommitOf committee commit
+    pub first : SomeOne (λ d. IsFirstMarkedIn d.core handover_mark commit.id handover)
+
+  -- none was told, or on some desk there is none in its chain
+  abbrev pub IsNoneHandedOver : Option Ballot → Type 0
+  IsNoneHandedOver commit = IfSome commit (λ it. IsCommitOf committee it × SomeOne (λ d. HasNoMarkedIn d.core handover_mark it.id))
+
+  -- the call is of this chain, blocks are taken, and it was handed over by this block
+  pub record IsAtHandover (asks : Bool) (shown : Option Showing) (over : Over) (handover : Header) : Type 0 where
+    pub here : over.chain ≡ chain_id_of committee
+    pub taken : IsHalted asks shown None
+    pub handed : IsHandedOver handover
+
+  -- .. to the committee of the file
+  pub record IsOfFile (asks : Bool) (shown : Option Showing) (over : Over) (handover : Header) : Type 0 where
+    pub at : IsAtHandover asks shown over handover
+    pub names : handover.payload ≡ handover_payload over.file
+
+  -- .. and some desk gave up on all views, behind which the word was said
+  pub record IsGoneOver (asks : Bool) (tells : Telling) (shown : Option Showing) (over : Over) (handover : Header) : Type 0 where
+    pub of : IsOfFile asks shown over handover
+    pub given_up : SomeMove (TimesOut MOST_VIEW)
+    pub said : tells.over (header_id handover) over.file
+
+  -- what comes of it: from this chain, or, where it names another, what was said before
+  abbrev pub IsCrossingOf : Bool → Telling → Option Showing → Over → Crossing → Type 0
+  IsCrossingOf asks tells shown over (crossing.Gone chain) =
+      (chain ≡ chain_id_of over.file)
+      × (over.chain ≡ chain_id_of committee → (handover : Header) × IsGoneOver asks tells shown over handover)
+  IsCrossingOf asks tells shown over crossing.NoCommit =
+      (over.chain ≡ chain_id_of committee) × IsHalted asks shown None × ((commit : Option Ballot) × IsNoneHandedOver commit)
+  IsCrossingOf asks tells shown over (crossing.OtherFile payload) =
+      (payload ≢ handover_payload over.file)
+      × (over.chain ≡ chain_id_of committee → (handover : Header) × IsAtHandover asks shown over handover × (payload ≡ handover.payload))
+  IsCrossingOf asks tells shown over (crossing.Refused fault) =
+      over.chain ≡ chain_id_of committee → (handover : Header) × IsOfFile asks shown over handover
+  IsCrossingOf asks tells shown over (crossing.Desk refusal) =
+      (refusal ≡ desk.Stopped) × ((handover : Header) × IsOfFile asks shown over handover)
+  IsCrossingOf asks tells shown over (crossing.Halted halted) = (over.chain ≡ chain_id_of committee) × IsHalted asks shown (Some halted)
+  IsCrossingOf asks tells shown over crossing.Elsewhere = over.chain ≢ chain_id_of committee
+
+  abbrev pub IsOverTold : Bool → Telling → Option Showing → Over → Response → Type 0
+  IsOverTold asks tells shown over response = (it : Crossing) × IsCrossingOf asks tells shown over it × IsCrossingTold it response
+
   -- ---- a call
 
   -- what a call is told of a caller who has these receipts, and was shown so much, and the outcome among it
@@ -258,6 +343,7 @@ module _ {D : Type 0} (disk : Ghosts D) (committee : List ℕ) (replica : ℕ) (
       IsOutcomeOf rules.furthest asks tells receipts asked told × IsOutcomeTold (block_asked asked) told response
   IsCallTold rules asks tells receipts shown (call.Judge vote) told response = (told ≡ None) × IsVoteJudged asks shown vote response
   IsCallTold rules asks tells receipts shown (call.Certificate read) told response = (told ≡ None) × IsCertificateTold committee read response
+  IsCallTold rules asks tells receipts shown (call.Over over) told response = (told ≡ None) × IsOverTold asks tells shown over response
   IsCallTold rules asks tells receipts shown (call.VoteIn view) told response = (told ≡ None) × IsVoteTold view response
   IsCallTold rules asks tells receipts shown (call.Header id) told response = (told ≡ None) × IsHeaderTold id response
   IsCallTold rules asks tells receipts shown (call.Successor payload) told response = (told ≡ None) × IsSuccessorTold tells payload response

@@ -11,3 +11,4 @@ pub mod Tallies
 pub mod Metrics
 pub mod Witnesses
 pub mod CallAnswers
+pub mod Crossings

@@ -6,10 +6,10 @@ use Rattle.signing_service.specs.Responses.{IsLine}
 
 -- another payload was told, or that no committee is approved
 abbrev pub IsNotApproved : Telling → List ℕ → Type 0
-IsNotApproved tells payload = (told : Option (List ℕ)) × tells told × (told ≢ Some payload)
+IsNotApproved tells payload = (told : Option (List ℕ)) × tells.approves told × (told ≢ Some payload)
 
 -- the response tells whether this payload was
 abbrev pub IsSuccessorTold : Telling → List ℕ → Response → Type 0
 IsSuccessorTold tells payload response =
-    (tells (Some payload) × IsLine 200 (codes "approved\n") response)
+    (tells.approves (Some payload) × IsLine 200 (codes "approved\n") response)
     ⊎ (IsNotApproved tells payload × IsLine 200 (codes "not approved\n") response)

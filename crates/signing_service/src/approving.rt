@@ -29,7 +29,7 @@ pub(crate) fn tell_successor<K: Approver>(
 }
 
 fn is_approved<K: Approver>(keeper: &K, payload: &[u8; 32]) -> bool
-    ensures approved { IsTrue result → K.tells keeper.now (Some payload.now) }
+    ensures approved { IsTrue result → (K.tells keeper.now).approves (Some payload.now) }
     ensures other { IsFalse result → IsNotApproved (K.tells keeper.now) payload.now }
 {
     match keeper.approved() {

@@ -4,6 +4,7 @@
 
 mod approving;
 mod commits;
+mod crossing;
 mod halt;
 mod health;
 mod judging;
@@ -29,7 +30,7 @@ pub use reception::Reception;
 pub use serving::serve_calls;
 pub use signer::Signer;
 pub use signer_answers::{
-    Approver, Caller, Gate, Heard, Keeper, NoSuccessor, Office, PutBack, look_through,
+    Approver, Caller, Gate, Heard, Keeper, NoSuccessor, Office, OverFault, PutBack, look_through,
 };
 pub use signer_calls::{CallRefusal, Rules};
 pub use sources::Sources;

@@ -1,15 +1,18 @@
 //! One caller's side of a desk, as a service.
 
-ghost use Rattle.std.specs.Prelude.{◌≡◌, ◌<◌, ◌≤◌, ◌+◌, IfOk, IfSome, IsFalse, IsSome, IsTrue, OnErr, OnOk, Option, codes};
+ghost use Rattle.std.specs.Prelude.{◌≡◌, ◌≢◌, ◌<◌, ◌≤◌, ◌+◌, IfOk, IfSome, IsFalse, IsSome, IsTrue, MatchOption, OnErr, OnOk, Option, codes};
+ghost use Rattle.blocks.specs.Genesis.{chain_id_of};
+ghost use Rattle.blocks.specs.declared.ballot.Ballot.{Ballot as BallotValue};
 ghost use Rattle.http_server.specs.Response.{IsBlank};
 ghost use Rattle.signer_answers.specs.Guards.{WasPutBack};
-ghost use Rattle.signing_service.specs.CallAnswers.{IsCallServed, IsDeskHealthTold, IsDeskMetricsTold, IsDeskStatusTold, IsFar, IsHalted, IsHeaderTold, IsMeasured, IsNear, IsOutcomeOf, IsPartTold, IsServed, IsShut, IsStopTo, IsVoteJudged, IsVoteTold, SomeOne, committed_by, from_export, parent_view_of, receipts_told};
+ghost use Rattle.signing_service.specs.CallAnswers.{IsCallServed, IsCrossingOf, IsDeskHealthTold, IsDeskMetricsTold, IsDeskStatusTold, IsFar, IsGoneTo, IsHalted, IsHandedOver, IsHeaderTold, IsMeasured, IsNear, IsNoneHandedOver, IsOfFile, IsOutcomeOf, IsOverTold, IsPartTold, IsServed, IsShut, IsStopTo, IsVoteJudged, IsVoteTold, SomeOne, committed_by, from_export, parent_view_of, receipts_told};
 ghost use Rattle.signing_service.specs.Judging.{IsCertificateTold};
 ghost use Rattle.signing_service.specs.Refusals.{IsRefusalTold, refusal_fields};
 ghost use Rattle.signing_service.specs.Responses.{IsLine, IsReady};
 ghost use Rattle.signing_service.specs.ToldLines.{block_asked};
 
 use crate::approving::tell_successor;
+use crate::crossing::{Crossing, MOST_VIEW, tell_crossing};
 use crate::halt::{Halt, tell_halt, tell_unhealthy};
 use crate::health::tell_health;
 use crate::judging::{tell_certificate, tell_judgement};
@@ -20,15 +23,16 @@ use crate::status::tell_status;
 use crate::telling::{tell_log, tell_receipt, tell_text, tell_told};
 use crate::witness::{Witness, seen_of};
 use crate::writing::{Kind, fill, make_ready, make_room, make_to_retry, settle};
-use blocks::{Ballot, Id};
+use blocks::{Ballot, CommitteeView, Header, Id};
 use bytes::Bytes;
 use certificates::{Certificate, CertificateRefusal, SignedVote};
 use good_votes::{Checker, Known};
+use handover::{HANDOVER_MARK, handover_payload};
 use http::Request;
 use http_server::{Response, Service};
 use replica_answers::{Outcome, Request as Asked};
-use signer_answers::{Approver, Caller, Keeper, Office, Told, answer};
-use signer_calls::{Call, CallRefusal, LogPart, call_of};
+use signer_answers::{Approver, Caller, Keeper, Office, OverFault, Told, answer};
+use signer_calls::{Call, CallRefusal, LogPart, Over, call_of};
 use stable_log::Disk;
 use std::alloc::{AllocError, Global};
 use std::io;
@@ -372,6 +376,97 @@ impl<
         )
     }
 
+    // The lowest handover block in the chain of the block that was told as committed last, if there is one.
+    fn handover(&self) -> Option<Header>
+        ensures { MatchOption result
+            ((commit : Option BallotValue) × IsNoneHandedOver D.Disk N.committee N.replica N.opening commit)
+            (IsHandedOver D.Disk N.committee N.replica N.opening) }
+    {
+        let Some(commit) = self.reception.commits.last(self.rt) else {
+            return None;
+        };
+        match self
+            .office
+            .desk
+            .first_marked(self.rt, &commit.id, HANDOVER_MARK)
+        {
+            Some(first) => Some(first),
+            None => None,
+        }
+    }
+
+    // Goes over from this chain, or says what was said before of the one that the call names.
+    fn cross(&self, over: &Over) -> Crossing
+        ensures { IsCrossingOf D.Disk N.committee N.replica N.opening self.now.reception.now.gate.now.asks
+            (K.tells self.now.office.now.keeper.now) self.now.caller.shown over.now result }
+    {
+        if over.chain != self.office.committee.chain() {
+            return self.crossed_before(over);
+        }
+        if let Some(halt) = self.halt() {
+            return Crossing::Halted(halt);
+        }
+        let Some(handover) = self.handover() else {
+            return Crossing::NoCommit;
+        };
+        if handover.payload != handover_payload(over.file.as_slice()) {
+            return Crossing::OtherFile(handover.payload);
+        }
+        self.go_over(&handover, over)
+    }
+
+    // Goes over by this handover block, which names the file. Who gave up on all views votes no more, whatever comes of the word.
+    fn go_over(&self, handover: &Header, over: &Over) -> Crossing
+        requires { IsOfFile D.Disk N.committee N.replica N.opening
+            self.now.reception.now.gate.now.asks self.now.caller.shown over.now handover.now }
+        ensures { IsCrossingOf D.Disk N.committee N.replica N.opening self.now.reception.now.gate.now.asks
+            (K.tells self.now.office.now.keeper.now) self.now.caller.shown over.now result }
+    {
+        let file = over.file.as_slice();
+        let chain = match self.office.keeper.prepare(file) {
+            Ok(chain) => chain,
+            Err(fault) => return Crossing::Refused(fault),
+        };
+        if let Err(refusal) = self.office.desk.timeout(self.rt, MOST_VIEW) {
+            return Crossing::Desk(refusal);
+        }
+        match self.office.keeper.say(&handover.id(), file) {
+            Ok(()) => Crossing::Gone(chain),
+            Err(fault) => Crossing::Refused(fault),
+        }
+    }
+
+    // What was said before of the chain that the call names, which is not this one.
+    fn crossed_before(&self, over: &Over) -> Crossing
+        requires { over.now.chain ≢ chain_id_of N.committee }
+        ensures { IsCrossingOf D.Disk N.committee N.replica N.opening self.now.reception.now.gate.now.asks
+            (K.tells self.now.office.now.keeper.now) self.now.caller.shown over.now result }
+    {
+        let file = over.file.as_slice();
+        match self.office.keeper.left_for(&over.chain) {
+            Ok(Some(payload)) if payload != handover_payload(file) => Crossing::OtherFile(payload),
+            Ok(Some(_)) => gone_to(file),
+            Ok(None) => Crossing::Elsewhere,
+            Err(fault) => Crossing::Refused(fault),
+        }
+    }
+
+    // Tells what comes of a call to go over.
+    fn tell_over(&self, over: &Over, response: &mut Response) -> Result<(), AllocError>
+        requires { IsBlank response.old }
+        ensures { OnOk result (IsOverTold D.Disk N.committee N.replica N.opening
+            self.now.reception.now.gate.now.asks (K.tells self.now.office.now.keeper.now)
+            self.now.caller.shown over.now response.new) }
+    {
+        make_to_retry(response)?;
+        let crossing = self.cross(over);
+        if let Crossing::Elsewhere = crossing {
+            self.count_refusal(CallRefusal::Chain);
+        }
+        tell_crossing(response, &crossing);
+        Ok(())
+    }
+
     // Tells what the desk is at.
     fn tell_desk_status(&self, response: &mut Response) -> Result<(), AllocError>
         requires { IsBlank response.old }
@@ -436,6 +531,7 @@ impl<
             Call::Replica(asked) => return self.ask(asked, response),
             Call::Judge(vote) => self.judge(&vote, response)?,
             Call::Certificate(read) => self.judge_certificate(read, response)?,
+            Call::Over(over) => self.tell_over(&over, response)?,
             Call::VoteIn(view) => self.tell_vote(view, response)?,
             Call::Header(id) => self.tell_header(&id, response)?,
             Call::Successor(payload) => {
@@ -483,6 +579,16 @@ impl<
         let seen = seen_of(request, response, &told);
         self.reception.witness.saw(&seen);
         Ok(())
+    }
+}
+
+// Gone over to the chain of the committee of this file, unless it is none.
+fn gone_to(file: &[u8]) -> Crossing
+    ensures { IsGoneTo file.now result }
+{
+    match CommitteeView::parse(file) {
+        Ok(committee) => Crossing::Gone(committee.chain()),
+        Err(refusal) => Crossing::Refused(OverFault::Committee(refusal)),
     }
 }
 

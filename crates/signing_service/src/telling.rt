@@ -97,7 +97,7 @@ pub(crate) fn tell_asking(response: &mut Response)
 }
 
 // Tells why the desk refuses.
-fn tell_desk(response: &mut Response, refusal: DeskError)
+pub(crate) fn tell_desk(response: &mut Response, refusal: DeskError)
     requires { IsReady fields_to_retry response.old }
     ensures { IsDeskTold refusal response.new }
 {
