@@ -10,7 +10,7 @@ use std::fs::{File, Files, OpenOptions};
 use std::io::ErrorKind;
 use std::os::unix::fs::OpenOptionsExt;
 use std::{fs, io};
-use told_words::{WordError, WordStore};
+use told_words::{GoneOver, WordError, WordStore};
 
 /// The mode of a journal that is made: everyone may read it.
 const MODE: u32 = 0o644;
@@ -32,6 +32,16 @@ impl<F: Files<File = File>> LineageFolder<'_, F> {
             Ok(words) => Ok(words),
             Err((WordError::Memory, _)) => Err(LineageFault::Memory),
             Err(_) => Err(LineageFault::Chain(*chain)),
+        }
+    }
+
+    /// What the signer said of a chain, if it has a folder of that chain.
+    pub fn said_of(&self, chain: &Id) -> Result<Option<GoneOver>, LineageFault> {
+        let path = self.chain_folder(chain)?;
+        match self.is_there(&path) {
+            Ok(true) => Ok(self.words_of(chain)?.gone()),
+            Ok(false) => Ok(None),
+            Err(error) => Err(LineageFault::of(&error, chain)),
         }
     }
 

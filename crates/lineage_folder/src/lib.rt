@@ -12,4 +12,4 @@ mod standing;
 pub use fault::LineageFault;
 pub use folder::LineageFolder;
 pub use names::{LOG, NEXT_FILE, WORDS};
-pub use standing::{KeySet, Standing};
+pub use standing::{KeySet, Standing, has_keys_of};

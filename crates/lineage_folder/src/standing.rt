@@ -1,8 +1,9 @@
 //! Which chain a signer stands in.
 
-ghost use Rattle.std.specs.Prelude.{◌↔◌, IfOk, IfSome, IsTrue};
+ghost use Rattle.std.specs.Prelude.{◌≡◌, ◌↔◌, IfOk, IfSome, IsTrue};
 ghost use Rattle.blocks.specs.Committees.{IsCommittee};
 ghost use Rattle.lineage_folder.specs.Standing.{HasKeys};
+ghost use Rattle.lineage_folder.specs.Steps.{IsStep};
 
 use crate::fault::LineageFault;
 use crate::folder::LineageFolder;
@@ -10,7 +11,7 @@ use crate::names::{NEXT_FILE, key_folder};
 use blocks::{CommitteeView, Id};
 use program_parts::{InputFault, MOST_OF_A_SHORT_FILE, read_at_most};
 use sha2::{Digest, Sha256};
-use std::alloc::AllocError;
+use std::alloc::{AllocError, Global};
 use std::fs::{File, Files};
 use told_words::GoneOver;
 
@@ -33,8 +34,81 @@ pub struct Standing {
     pub committee: Vec<u8>,
     /// Where the replica's keys of that committee lie.
     pub keys: KeySet,
-    /// How many committees it has gone over from.
-    pub gone: u32,
+    /// The block by which it was handed over to, if it was.
+    pub handover: Option<Id>,
+    /// The bytes of the files of the committees that it has gone over from, in their order.
+    pub earlier: Vec<Vec<u8>>,
+    /// In how many of these, up to the last one, the replica had the same keys.
+    pub alike: u32,
+}
+
+// Where one word leads.
+#[derive(Drop)]
+enum Step {
+    // Over to another committee.
+    Over(Standing),
+    // Nowhere.
+    Stands(Standing),
+}
+
+impl Standing {
+    /// In the committee of this file, which was not handed over to.
+    pub fn first(alloc: Global, committee: Vec<u8>) -> Standing
+        requires { IsCommittee committee.items }
+        ensures { result.committee ≡ committee }
+    {
+        Standing {
+            committee,
+            keys: KeySet::First,
+            handover: None,
+            earlier: Vec::new(alloc),
+            alike: 0,
+        }
+    }
+
+    /// Where it stands once it has gone over by this handover block to the committee of this file, or from no committee. None where
+    /// either file is no committee's.
+    pub fn gone_over(
+        self,
+        file: Vec<u8>,
+        handover: &Id,
+        replica: u16,
+    ) -> Result<Option<Standing>, AllocError>
+        ensures { IfOk result (λ next. IfSome next (λ n. (n.committee ≡ file) × IsCommittee file.items)) }
+    {
+        let Some((keys, alike)) = self.keys_in(&file, replica) else {
+            return Ok(None);
+        };
+        let Standing {
+            committee,
+            mut earlier,
+            ..
+        } = self;
+        earlier.push(committee)?;
+        Ok(Some(Standing {
+            committee: file,
+            keys,
+            handover: Some(*handover),
+            earlier,
+            alike,
+        }))
+    }
+
+    // Where the replica's keys of the committee of this file lie, and in how many committees before it had the same ones.
+    fn keys_in(&self, file: &[u8], replica: u16) -> Option<(KeySet, u32)>
+        ensures { IfSome result (λ _. IsCommittee file.now) }
+    {
+        let Ok(before) = CommitteeView::parse(&self.committee) else {
+            return None;
+        };
+        let Ok(after) = CommitteeView::parse(file) else {
+            return None;
+        };
+        if has_keys_of(&before, &after, replica) {
+            return Some((self.keys, self.alike.saturating_add(1)));
+        }
+        Some((KeySet::Behind(before.chain()), 0))
+    }
 }
 
 impl<F: Files<File = File>> LineageFolder<'_, F> {
@@ -45,46 +119,31 @@ impl<F: Files<File = File>> LineageFolder<'_, F> {
         requires { IsCommittee first.items }
         ensures { IfOk result (λ at. IsCommittee at.committee.items) }
     {
-        let mut at = Standing {
-            committee: first,
-            keys: KeySet::First,
-            gone: 0,
-        };
+        let mut at = Standing::first(self.alloc, first);
         for _ in 0..MOST_COMMITTEES {
-            let Some(next) = self.next_of(&at, replica)? else {
-                return Ok(at);
-            };
-            at = next;
+            match self.step(at, replica)? {
+                Step::Over(next) => at = next,
+                Step::Stands(here) => return Ok(here),
+            }
         }
         Err(LineageFault::Endless)
     }
 
-    // Where it stands once it has gone over, if it has.
-    fn next_of(&self, at: &Standing, replica: u16) -> Result<Option<Standing>, LineageFault>
-        ensures { IfOk result (λ next. IfSome next (λ n. IsCommittee n.committee.items)) }
+    // Where it stands behind the word of this committee's chain, or here, where there is none.
+    fn step(&self, at: Standing, replica: u16) -> Result<Step, LineageFault>
+        requires { IsCommittee at.committee.items }
+        ensures { IfOk result IsStep }
     {
-        let Ok(before) = CommitteeView::parse(&at.committee) else {
-            return Ok(None);
-        };
-        let chain = before.chain();
+        let chain = chain_of(&at.committee);
         let Some(word) = self.words_of(&chain)?.gone() else {
-            return Ok(None);
+            return Ok(Step::Stands(at));
         };
         let file = self.file_behind(&chain, &word)?;
-        let Ok(after) = CommitteeView::parse(&file) else {
-            return Err(LineageFault::Chain(chain));
-        };
-        let keys = if has_keys_of(&before, &after, replica) {
-            at.keys
-        } else {
-            KeySet::Behind(chain)
-        };
-        let gone = at.gone.saturating_add(1);
-        Ok(Some(Standing {
-            committee: file,
-            keys,
-            gone,
-        }))
+        let handover = word.handover;
+        match at.gone_over(file, &handover, replica)? {
+            Some(next) => Ok(Step::Over(next)),
+            None => Err(LineageFault::Chain(chain)),
+        }
     }
 
     // The file of the committee that a word of this chain says.
@@ -110,13 +169,21 @@ impl<F: Files<File = File>> LineageFolder<'_, F> {
     }
 }
 
+// The chain of the committee of this file; of a file that is none, that of no committee.
+fn chain_of(committee: &[u8]) -> Id {
+    match CommitteeView::parse(committee) {
+        Ok(committee) => committee.chain(),
+        Err(_) => [0; 32],
+    }
+}
+
 fn is_digest_of(digest: &[u8; 32], bytes: &[u8]) -> bool {
     let found: [u8; 32] = Sha256::digest(bytes).into();
     found == *digest
 }
 
-// Whether a replica has the same keys in both committees, in the same order.
-fn has_keys_of(before: &CommitteeView, after: &CommitteeView, replica: u16) -> bool
+/// Whether a replica has the same keys in both committees, in the same order.
+pub fn has_keys_of(before: &CommitteeView, after: &CommitteeView, replica: u16) -> bool
     ensures { IsTrue result ↔ HasKeys before.now after.now replica }
 {
     if replica >= before.n() || replica >= after.n() {

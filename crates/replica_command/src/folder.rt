@@ -85,6 +85,19 @@ impl<F: Files<File = File>> ReplicaFolder<'_, F> {
     ) -> Result<Parts<FileDisk>, ReplicaFault>
         ensures { IfErr result (λ fault. fault ≢ ReplicaFault.Output) }
     {
+        self.open_parts_with(rt, committee, replica, self.path)
+    }
+
+    /// The same, where the log lies in the folder at this path.
+    pub fn open_parts_with<T: Threads + Sync>(
+        &self,
+        rt: &T,
+        committee: &CommitteeView,
+        replica: u16,
+        logs: &str,
+    ) -> Result<Parts<FileDisk>, ReplicaFault>
+        ensures { IfErr result (λ fault. fault ≢ ReplicaFault.Output) }
+    {
         let keys = if replica < committee.n() {
             committee.keys(replica)
         } else {
@@ -92,13 +105,32 @@ impl<F: Files<File = File>> ReplicaFolder<'_, F> {
         };
         let seeds = self.read_seeds(keys)?;
         let index = self.recover_indices(keys)?;
-        let mut log = self.recover_log(committee.genesis())?;
-        refuse_older(&index, &mut log, committee, replica)?;
+        let logs = ReplicaFolder {
+            files: self.files,
+            alloc: self.alloc,
+            path: logs,
+        };
+        let log = logs.open_log(&index, committee, replica)?;
         Ok(Parts {
             trees: self.grow(rt, &seeds)?,
             index,
             log,
         })
+    }
+
+    /// The log of the folder, recovered, of a replica whose keys have this index store. One that the store is older than is refused as
+    /// `IndexError::BadEntry`.
+    pub fn open_log(
+        &self,
+        index: &IndexStore<FileDisk>,
+        committee: &CommitteeView,
+        replica: u16,
+    ) -> Result<VoteLog<FileDisk>, ReplicaFault>
+        ensures { IfErr result (λ fault. fault ≢ ReplicaFault.Output) }
+    {
+        let mut log = self.recover_log(committee.genesis())?;
+        refuse_older(index, &mut log, committee, replica)?;
+        Ok(log)
     }
 
     fn read_seeds(&self, keys: u8) -> Result<Vec<PrivateSeed>, ReplicaFault>
@@ -156,7 +188,8 @@ impl<F: Files<File = File>> ReplicaFolder<'_, F> {
         }
     }
 
-    fn recover_log(&self, genesis: Header) -> Result<VoteLog<FileDisk>, ReplicaFault>
+    /// The log of the folder, recovered.
+    pub fn recover_log(&self, genesis: Header) -> Result<VoteLog<FileDisk>, ReplicaFault>
         requires { IsGenesis genesis }
         ensures { IfErr result (λ fault. fault ≢ ReplicaFault.Output) }
     {
