@@ -66,7 +66,8 @@ module _ {D : Type 0} (disk : Ghosts D) (committee : List ℕ) (replica : ℕ) w
   call_grows old new (inl r) = effect_grows old new r.0 r.2.delivered.parent r.1.act r.2.delivered.effect
   call_grows old new (inr (inl r)) = grown old.log.steps new.log.steps r.2.left.kept.steps
   call_grows old new (inr (inr (inl t))) = grown old.log.steps new.log.steps (ap (λ (d : DeskView D). d.log.steps) t.1)
-  call_grows old new (inr (inr (inr r))) = grown old.log.steps new.log.steps (ap (λ (d : DeskView D). d.log.steps) r.same)
+  call_grows old new (inr (inr (inr (inl r)))) = grown old.log.steps new.log.steps (ap (λ (d : DeskView D). d.log.steps) r.same)
+  call_grows old new (inr (inr (inr (inr is)))) = grown old.log.steps new.log.steps (ap (λ (l : LogState D). l.steps) is)
 
   released_stands : (r : Receipt) (old new : DeskView D) → Releases disk committee replica r old new → IsReceiptOf 0 new.log.steps r
   released_stands r old new here =
@@ -96,7 +97,8 @@ module _ {D : Type 0} (disk : Ghosts D) (committee : List ℕ) (replica : ℕ) w
   call_back old new (inl r) k x at voted = effect_back old new r.0 r.1 r.2 r.2.delivered.parent r.1.act refl r.2.delivered.effect k x at voted
   call_back old new (inr (inl r)) k x at voted = inl (ap (λ (l : List Stored). slice_get l k) (sym r.2.left.kept.steps) ∙ at)
   call_back old new (inr (inr (inl t))) k x at voted = inl (ap (λ (d : DeskView D). slice_get d.log.steps k) (sym t.1) ∙ at)
-  call_back old new (inr (inr (inr r))) k x at voted = inl (ap (λ (d : DeskView D). slice_get d.log.steps k) (sym r.same) ∙ at)
+  call_back old new (inr (inr (inr (inl r)))) k x at voted = inl (ap (λ (d : DeskView D). slice_get d.log.steps k) (sym r.same) ∙ at)
+  call_back old new (inr (inr (inr (inr is)))) k x at voted = inl (ap (λ (l : LogState D). slice_get l.steps k) (sym is) ∙ at)
 
   -- ---- calls
 

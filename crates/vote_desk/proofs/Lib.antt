@@ -10,6 +10,7 @@ pub mod Numbers
 pub mod Moments
 pub mod OnlyRead
 pub mod Firsts
+pub mod HeldOnly
 pub mod FoundVotes
 pub mod OpeningVotes
 pub mod Later

@@ -65,18 +65,23 @@ module _ {D : Type 0} (bytes : D → Option (List ℕ)) (images : D → List ℕ
       subst (λ (g : Header). IsLegal g (old.log.steps ++ x ∷ [])) (sym keeps.list.one_genesis)
       (legal_next opening old.core old.log.genesis old.log.steps old.released x k.below root keeps.list on)
 
-  -- the block of a plan to do nothing is held
-  pub keeps_passed : (new : Core) (plan : Plan) → IsPlan old.core plan → plan.act ≡ act.Pass → HoldsAlso old.core.headers new.headers plan.block → new.genesis ≡ old.core.genesis → TakesEvent old.core plan new.state
+  -- the block of a plan is held, and the state stays
+  pub keeps_held : (new : Core) (plan : Plan) → IsPlan old.core plan → HoldsAlso old.core.headers new.headers plan.block → new.genesis ≡ old.core.genesis → new.state ≡ old.core.state
       → KeepsDesk bytes images committee replica opening (record { core = new; seeds = old.seeds; indices = old.indices; log = old.log; released = old.released })
-  keeps_passed new plan k is holds same takes =
+  keeps_held new plan k holds same state =
       let into : AllIn new.headers old.core.headers = all_kept old.core.headers new.headers old.core plan.block holds k.place refl in
-      let state : new.state ≡ old.core.state = takes k.below k.chain.is_chain ∙ ap (λ (a : Act). after old.core.state (event_of a plan.block (plan.parent ∷ k.below))) is in
       record {
         keys = keeps.keys;
         genesis = same ∙ keeps.genesis;
         list = kept_held opening old.core new old.log.genesis old.log.steps old.released keeps.list same into (ap durable_of state) (subst (λ (s : ReplicaState). s.stored_vote_view ≤ s.vote_view) (sym state) keeps.list.covers);
         entries = entries_same (bytes old.log.disk) (images old.log.disk) opening old.core.headers new.headers old.indices.mark old.indices.mark old.log keeps.entries into (omega arith);
       }
+
+  -- the block of a plan to do nothing is held
+  pub keeps_passed : (new : Core) (plan : Plan) → IsPlan old.core plan → plan.act ≡ act.Pass → HoldsAlso old.core.headers new.headers plan.block → new.genesis ≡ old.core.genesis → TakesEvent old.core plan new.state
+      → KeepsDesk bytes images committee replica opening (record { core = new; seeds = old.seeds; indices = old.indices; log = old.log; released = old.released })
+  keeps_passed new plan k is holds same takes =
+      keeps_held new plan k holds same (takes k.below k.chain.is_chain ∙ ap (λ (a : Act). after old.core.state (event_of a plan.block (plan.parent ∷ k.below))) is)
 
   -- indices of as many keys
   still_keys : (indices : IndexState D) → indices.keys ≡ old.indices.keys → AreKeysOf committee replica old.seeds indices.keys

@@ -22,14 +22,15 @@ pub record AreOfOneVote (r s : Receipt) : Type 0 where
 module _ {D : Type 0} (disk : Ghosts D) (committee : List ℕ) (replica : ℕ) where
   -- ---- calls
 
-  -- a delivery is answered, or refused; or there is a timeout; or the desk is only read. A block is delivered unvoted by two of
-  -- these, a timeout and a delivery
+  -- a delivery is answered, or refused; or there is a timeout; or the desk is only read; or the log is not touched, as where a
+  -- block is held only. A block is delivered unvoted by two of these, a timeout and a delivery
   abbrev pub IsCall : (old new : DeskView D) → Type 0
   IsCall old new =
       ((b : CheckedBlock) × (reply : Reply) × Replies disk committee replica b reply old new)
       ⊎ ((b : CheckedBlock) × (e : DeskError) × Refuses disk b.header e old new)
       ⊎ ((view : ℕ) × (new ≡ timed_out_at old view))
       ⊎ IsOnlyRead disk old new
+      ⊎ (new.log ≡ old.log)
 
   -- calls that leave these desks, and last the new one
   abbrev pub AreCalls : DeskView D → List (DeskView D) → DeskView D → Type 0

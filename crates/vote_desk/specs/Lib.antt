@@ -9,3 +9,4 @@ pub mod Exports
 pub mod Firsts
 pub mod Released
 pub mod Later
+pub mod Holding

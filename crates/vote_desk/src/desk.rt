@@ -13,6 +13,7 @@ ghost use Rattle.vote_desk.specs.DeskRefusals.{IsStartRefusal, IsStartable, IsSt
 ghost use Rattle.vote_desk.specs.Desks.{HoldsId, KeepsDesk, desk_of, left_of, status_of, vote_count};
 ghost use Rattle.vote_desk.specs.Exports.{IsOut, RefusesExport};
 ghost use Rattle.vote_desk.specs.Firsts.{IsMarkedAgain, IsMarkedOnce, RefusesOnce, RepliesOnce};
+ghost use Rattle.vote_desk.specs.Holding.{IsHeldOnly, RefusesHold};
 ghost use Rattle.vote_desk.specs.Receipts.{AreRisingByNumber, AreReceipts, KeepsReceipts, receipt_ballot, receipts_of};
 ghost use Rattle.vote_desk.specs.Released.{RefusesVoteWith};
 ghost use Rattle.vote_desk.specs.SomeDesk.{IsDeskOf, Refuses, RefusesUnvoted, Replies, RepliesUnvoted, SomeDesk, SomeDeskMoves, TimesOut};
@@ -22,9 +23,10 @@ ghost use Rattle.vote_desk.specs.Votes.{AreFound, IsFoundAsOpened, IsNoneFoundBe
 use crate::closing::close_on;
 use crate::delivery::{deliver_on, deliver_unvoted_on, timeout_on};
 use crate::desk_error::DeskError;
+use crate::holding::hold_on;
 use crate::naming::DeskNaming;
 use crate::parts::{Closed, DeskStatus, Left, Parts};
-use crate::reply::{Receipt, Reply};
+use crate::reply::{Answer, Receipt, Reply};
 use crate::session::Session;
 use crate::start_error::StartError;
 use crate::state::DeskState;
@@ -94,6 +96,28 @@ fn deliver_unvoted_to<N: DeskNaming, D: Disk>(
     // For the proof: what each desk keeps, before and after.
     let _core = state.core();
     let answer = deliver_unvoted_on(state, session, block);
+    let _core = state.core();
+    answer
+}
+
+// Holds a block at a desk of which no more is known than what each desk keeps.
+fn hold_to<N: DeskNaming, D: Disk>(
+    state: &mut DeskState<N, D>,
+    block: CheckedBlock,
+) -> Result<Reply, DeskError>
+    requires { block.committee ≡ N.committee }
+    ensures held { IfOk result (λ reply. reply.act ≡ Answer.Held) }
+    ensures reply { IfOk result (IsGoodReply N.committee N.replica block.entry.header) }
+    ensures event { IfOk result (λ reply.
+        SomeDeskMoves (IsDeskOf D.Disk N.committee N.replica N.opening)
+        (IsHeldOnly block.entry.header reply)) }
+    ensures refused { IfErr result (λ e.
+        SomeDeskMoves (IsDeskOf D.Disk N.committee N.replica N.opening)
+        (RefusesHold block.entry.header e)) }
+{
+    // For the proof: what each desk keeps, before and after.
+    let _core = state.core();
+    let answer = hold_on(state, block);
     let _core = state.core();
     answer
 }
@@ -349,6 +373,26 @@ impl<N: DeskNaming, D: Disk> Desk<N, D> {
     {
         let mut state = self.state.lock(rt);
         deliver_unvoted_to(&mut *state, session, block)
+    }
+
+    /// Takes the lock, which may wait, and holds a block as `hold_on` does: it is neither voted for nor is the lock raised on it,
+    /// nothing is stored, and the answer is `Held`, with what the block commits. The block must have been checked with the
+    /// committee that the desk was opened with.
+    pub fn hold<R: Wait>(&self, rt: &R, block: CheckedBlock) -> Result<Reply, DeskError>
+        requires { block.committee ≡ N.committee }
+        ensures held { IfOk result (λ reply. reply.act ≡ Answer.Held) }
+        ensures reply { IfOk result (IsGoodReply N.committee N.replica block.entry.header) }
+
+        // Some desk of this name held it so, or refused so.
+        ensures event { IfOk result (λ reply.
+            SomeDeskMoves (IsDeskOf D.Disk N.committee N.replica N.opening)
+            (IsHeldOnly block.entry.header reply)) }
+        ensures refused { IfErr result (λ e.
+            SomeDeskMoves (IsDeskOf D.Disk N.committee N.replica N.opening)
+            (RefusesHold block.entry.header e)) }
+    {
+        let mut state = self.state.lock(rt);
+        hold_to(&mut *state, block)
     }
 
     /// Takes the lock, which may wait, and delivers a block as `deliver` does; but one that is marked, above a marked one in its

@@ -20,6 +20,7 @@ ghost use Rattle.vote_desk.specs.DeskRefusals.{HasRoom, HasRoomTo, IsPlanRefusal
 ghost use Rattle.vote_desk.specs.Desks.{AreKeysOf, HoldsId, KeepsDesk, desk_of, index_of, left_of, status_of};
 ghost use Rattle.vote_desk.specs.Exports.{IsOnlyRead, IsOut};
 ghost use Rattle.vote_desk.specs.Firsts.{IsMarkedAgain, IsMarkedOnce};
+ghost use Rattle.vote_desk.specs.Holding.{IsHoldRefusal, IsStill, LeavesListOnly, MayHold};
 ghost use Rattle.vote_desk.specs.Votes.{IsFoundSince, IsVoteFound, IsVoteInRefusal};
 ghost use Rattle.vote_log.specs.LogExport.{Blames, IsExportRefusal, export_of};
 ghost use Rattle.streams.specs.Streams.{WrotePart};
@@ -254,6 +255,15 @@ impl<N: DeskNaming, D: Disk> DeskState<N, D> {
         let _core = self.core();
     }
 
+    // While nothing is called a crash leaves the list, and what one reads in it is found after the stay. Nothing is computed.
+    pub(crate) fn list_is_found(&self)
+        ensures { IfSome (D.bytes self.now.log.disk) (λ _.
+            LeavesListOnly D.Disk N.committee N.opening self.now self.now) }
+    {
+        // For the proof: what the desk keeps.
+        let _log = &self.log;
+    }
+
     // While nothing is called a crash leaves a boundary of the indices that is at least their mark. Nothing is computed.
     pub(crate) fn indices_are_bounded(&self)
         ensures { IfSome (D.bytes self.now.indices.disk) (λ _.
@@ -268,6 +278,39 @@ impl<N: DeskNaming, D: Disk> DeskState<N, D> {
         ensures { IsTrue result ↔ IsStopped self.now }
     {
         self.log.stopped() || self.indices.stopped()
+    }
+
+    // What the core plans for a block, where the desk runs, whatever room there is. Core and log stay as they are.
+    pub(crate) fn admit<'a>(
+        &mut self,
+        block: CheckedBlock<'a>,
+    ) -> Result<PlannedBlock<'a>, DeskError>
+        ensures plan { IfOk result (λ planned. IsPlan self.new.core planned.plan) }
+        ensures durable { OnOk result (IfSome (D.bytes self.old.log.disk) (λ _.
+            LeavesEntries (D.images self.old.log.disk) self.old.log.entries)) }
+        ensures chain { OnOk result (self.old.core.genesis ≡ genesis_of N.committee) }
+        ensures block { IfOk result (λ planned. planned.block ≡ block.entry) }
+        ensures legal { IfOk result (λ planned.
+            IsLegalPlan self.old.core.genesis self.old.log.steps planned.plan) }
+        ensures may { OnOk result (MayHold self.old block.entry.header) }
+        ensures core { IsSameCore self.old.core self.new.core }
+        ensures same { IsStill self.old self.new }
+        ensures first_refusal { IfErr result (IsHoldRefusal self.old block.entry.header) }
+
+        // While nothing is called a crash leaves the list.
+        ensures unmoved { IsRunning self.old → IfSome (D.bytes self.old.log.disk) (λ _.
+            AtAnyMoment D.Disk self.old.log.disk self.new.log.disk
+            (λ image. StandsForEntries image self.old.log.entries)) }
+    {
+        if self.stopped() {
+            return Err(DeskError::Stopped);
+        }
+        let plan = match self.core.admit(&block) {
+            Ok(plan) => plan,
+            Err(CoreRefusal::Memory) => return Err(DeskError::Memory),
+            Err(refusal) => return Err(DeskError::Core(refusal)),
+        };
+        Ok(PlannedBlock { block, plan })
     }
 
     // What to do with a block, where the desk runs and there is room for it. Core and log stay as they are.
@@ -296,16 +339,20 @@ impl<N: DeskNaming, D: Disk> DeskState<N, D> {
             AtAnyMoment D.Disk self.old.log.disk self.new.log.disk
             (λ image. StandsForEntries image self.old.log.entries)) }
     {
-        if self.stopped() {
-            return Err(DeskError::Stopped);
-        }
-        let plan = match self.core.admit(&block) {
-            Ok(plan) => plan,
-            Err(CoreRefusal::Memory) => return Err(DeskError::Memory),
-            Err(refusal) => return Err(DeskError::Core(refusal)),
-        };
-        check_room(&self.log, &self.indices, plan.act)?;
-        Ok(PlannedBlock { block, plan })
+        let planned = self.admit(block)?;
+        check_room(&self.log, &self.indices, planned.plan.act)?;
+        Ok(planned)
+    }
+
+    // Holds the block of a plan, whatever the act, and does no more.
+    pub(crate) fn hold(&mut self, plan: &Plan)
+        requires { IsPlan self.old.core plan.now }
+        ensures headers { HoldsAlso self.old.core.headers self.new.core.headers plan.now.block }
+        ensures genesis { self.new.core.genesis ≡ self.old.core.genesis }
+        ensures state { self.new.core.state ≡ self.old.core.state }
+        ensures still { IsStill self.old self.new }
+    {
+        self.core.hold_only(plan);
     }
 
     // Holds the block of a plan to do nothing.

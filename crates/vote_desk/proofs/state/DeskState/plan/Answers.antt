@@ -1,49 +1,29 @@
+use Rattle.std.proofs.Common.{ap, ◌∙◌, subst}
 use Rattle.std.proofs.lemmas.Result.{err_from_is_err_and}
-use Rattle.vote_log.specs.Logs.{StandsForEntries}
-use Rattle.vote_desk.specs.DeskRefusals.{IsRunning}
+use Rattle.key_index_store.specs.State.{IndexState}
+use Rattle.vote_log.specs.Logs.{LogState}
+use Rattle.vote_desk.specs.DeskRefusals.{IsRoomRefusal}
 use Rattle.vote_desk.specs.Desks.{DeskView}
-use Rattle.vote_desk.proofs.Plans.{running_where}
-use Rattle.vote_desk.proofs.Delivered.{plan_legal, room_refused}
-use Rattle.vote_desk.proofs.Steps.{unmoved}
+use Rattle.vote_desk.proofs.Delivered.{plan_is_of, room_refused}
+use Rattle.vote_desk.proofs.HeldOnly.{hold_refused}
 use Rattle.vote_desk.proofs.state.DeskState.plan.Goals as goal
+
+pub returns-in_err-planned-clause-first_refusal : goal.returns-in_err-planned-clause-first_refusal
+returns-in_err-planned-clause-first_refusal g c =
+    let p = err_from_is_err_and c.from_residual.result c.from_residual.ensures.1 in
+    rw (p.1, p.2) (hold_refused c.args.self.now c.args.block.header c.in_err-planned.field-0.0 c.in_err-planned.ensures.first_refusal)
 
 pub returns-in_err-check_room-clause-first_refusal :
     goal.returns-in_err-check_room-clause-first_refusal
 returns-in_err-check_room-clause-first_refusal g c =
-    let i = c.self.inside in
-    let d : DeskView _ = record { core = i.core; seeds = i.trees.items; indices = i.indices; log = i.log; released = i.book.total } in
-    let e = c.in-Ok.ensures in
-    let running : IsRunning d = running_where d c.stopped.result (rw (← c.self.view_is) at c.stopped.ensures) c.if-stopped.false in
-    let p = err_from_is_err_and c.from_residual.result c.from_residual.ensures.1 in
-    rw (p.1, p.2) (rw (← c.self.view_is) (room_refused d c.admit.new.self c.in-Ok.plan c.args.block.header c.in_err-check_room.field-0.0 running e.passes e.same e.plan e.block c.in_err-check_room.ensures.first_refusal))
-
-pub returns-clause-legal : goal.returns-clause-legal
-returns-clause-legal g c =
-    let i = c.self.inside in
-    let d : DeskView _ = record { core = i.core; seeds = i.trees.items; indices = i.indices; log = i.log; released = i.book.total } in
-    let e = c.in-Ok.ensures in
-    rw (← c.self.view_is) (plan_legal g.D.Disk.bytes g.D.Disk.images g.N.DeskNaming.committee g.N.DeskNaming.replica g.N.DeskNaming.opening d c.self.invariant.desk c.admit.new.self c.in-Ok.plan e.same e.plan)
-
-pub returns-in-Err-Memory-clause-unmoved : goal.returns-in-Err-Memory-clause-unmoved
-returns-in-Err-Memory-clause-unmoved g c =
-    let i = c.self.inside in
-    let d : DeskView _ = record { core = i.core; seeds = i.trees.items; indices = i.indices; log = i.log; released = i.book.total } in
-    rw (← c.self.view_is) (λ running. unmoved g.D.Disk.bytes g.D.Disk.images g.N.DeskNaming.committee g.N.DeskNaming.replica g.N.DeskNaming.opening d c.self.invariant.desk g.D.Disk.moment g.D.Disk.images_since (λ image. StandsForEntries image i.log.entries) (g.met.D.Disk.only_now i.log.disk) running.log (λ image s. s))
-
-pub returns-in-Err-clause-unmoved : goal.returns-in-Err-clause-unmoved
-returns-in-Err-clause-unmoved g c =
-    let i = c.self.inside in
-    let d : DeskView _ = record { core = i.core; seeds = i.trees.items; indices = i.indices; log = i.log; released = i.book.total } in
-    rw (← c.self.view_is) (λ running. unmoved g.D.Disk.bytes g.D.Disk.images g.N.DeskNaming.committee g.N.DeskNaming.replica g.N.DeskNaming.opening d c.self.invariant.desk g.D.Disk.moment g.D.Disk.images_since (λ image. StandsForEntries image i.log.entries) (g.met.D.Disk.only_now i.log.disk) running.log (λ image s. s))
-
-pub returns-in_err-check_room-clause-unmoved : goal.returns-in_err-check_room-clause-unmoved
-returns-in_err-check_room-clause-unmoved g c =
-    let i = c.self.inside in
-    let d : DeskView _ = record { core = i.core; seeds = i.trees.items; indices = i.indices; log = i.log; released = i.book.total } in
-    rw (← c.self.view_is) (λ running. unmoved g.D.Disk.bytes g.D.Disk.images g.N.DeskNaming.committee g.N.DeskNaming.replica g.N.DeskNaming.opening d c.self.invariant.desk g.D.Disk.moment g.D.Disk.images_since (λ image. StandsForEntries image i.log.entries) (g.met.D.Disk.only_now i.log.disk) running.log (λ image s. s))
-
-pub returns-clause-unmoved : goal.returns-clause-unmoved
-returns-clause-unmoved g c =
-    let i = c.self.inside in
-    let d : DeskView _ = record { core = i.core; seeds = i.trees.items; indices = i.indices; log = i.log; released = i.book.total } in
-    rw (← c.self.view_is) (λ running. unmoved g.D.Disk.bytes g.D.Disk.images g.N.DeskNaming.committee g.N.DeskNaming.replica g.N.DeskNaming.opening d c.self.invariant.desk g.D.Disk.moment g.D.Disk.images_since (λ image. StandsForEntries image i.log.entries) (g.met.D.Disk.only_now i.log.disk) running.log (λ image s. s))
+    let o = c.args.self.now in
+    let e = c.in_ok-planned.ensures in
+    let plan = c.in_ok-planned.planned.plan in
+    let log = ap (λ (d : DeskView _). d.log) c.self.view_is ∙ e.same.log in
+    let indices = ap (λ (d : DeskView _). d.indices) c.self.view_is ∙ e.same.indices in
+    let is = plan_is_of c.in_ok-planned.planned c.args.block e.block in
+    let p = err_from_is_err_and c.from_residual-in_err-check_room.result c.from_residual-in_err-check_room.ensures.1 in
+    let refused = c.in_err-check_room.ensures.first_refusal in
+    rw (p.1, p.2) (room_refused o c.admit.new.self.core plan c.args.block.header c.in_err-check_room.field-0.0 e.may.running e.may.admissible e.core e.plan is
+    (subst (λ (l : LogState _). IsRoomRefusal l o.indices plan.act c.in_err-check_room.field-0.0) log
+    (subst (λ (i : IndexState _). IsRoomRefusal c.self.inside.log i plan.act c.in_err-check_room.field-0.0) indices refused)))
