@@ -9,6 +9,7 @@ pub mod Stays
 pub mod Numbers
 pub mod Moments
 pub mod OnlyRead
+pub mod Endorsed
 pub mod Firsts
 pub mod HeldOnly
 pub mod FoundVotes

@@ -10,3 +10,4 @@ pub mod Firsts
 pub mod Released
 pub mod Later
 pub mod Holding
+pub mod Endorsing

@@ -11,6 +11,8 @@ ghost use Rattle.replica_core.specs.Marks.{HasNoMarkedIn, IsFirstMarkedIn};
 ghost use Rattle.vote_desk.specs.Deliveries.{CommitsIn, IsGoodAnswer, IsGoodReply, act_of, released_by, with_receipt};
 ghost use Rattle.vote_desk.specs.DeskRefusals.{IsStartRefusal, IsStartable, IsStopped};
 ghost use Rattle.vote_desk.specs.Desks.{HoldsId, KeepsDesk, desk_of, left_of, status_of, vote_count};
+ghost use Rattle.next_keys.specs.Endorsements.{IsSigned};
+ghost use Rattle.vote_desk.specs.Endorsing.{Endorses, IsNoVote, RefusesToEndorse};
 ghost use Rattle.vote_desk.specs.Exports.{IsOut, RefusesExport};
 ghost use Rattle.vote_desk.specs.Firsts.{IsMarkedAgain, IsMarkedOnce, RefusesOnce, RepliesOnce};
 ghost use Rattle.vote_desk.specs.Holding.{IsHeldOnly, RefusesHold};
@@ -23,16 +25,19 @@ ghost use Rattle.vote_desk.specs.Votes.{AreFound, IsFoundAsOpened, IsNoneFoundBe
 use crate::closing::close_on;
 use crate::delivery::{deliver_on, deliver_unvoted_on, timeout_on};
 use crate::desk_error::DeskError;
+use crate::endorsing::endorse_on;
 use crate::holding::hold_on;
 use crate::naming::DeskNaming;
 use crate::parts::{Closed, DeskStatus, Left, Parts};
 use crate::reply::{Answer, Receipt, Reply};
+use crate::seal::Seal;
 use crate::session::Session;
 use crate::start_error::StartError;
 use crate::state::DeskState;
 use crate::votes::number_not_found;
 use blocks::{CommitteeView, Header, Id};
 use certificates::CheckedBlock;
+use next_keys::NextKeysView;
 use replica_core::{Act, MARK_LEN};
 use stable_log::Disk;
 use std::alloc::Global;
@@ -118,6 +123,28 @@ fn hold_to<N: DeskNaming, D: Disk>(
     // For the proof: what each desk keeps, before and after.
     let _core = state.core();
     let answer = hold_on(state, block);
+    let _core = state.core();
+    answer
+}
+
+// Signs a statement at a desk of which no more is known than what each desk keeps.
+fn endorse_to<N: DeskNaming, D: Disk>(
+    state: &mut DeskState<N, D>,
+    statement: &NextKeysView,
+) -> Result<Seal, DeskError>
+    ensures signed { IfOk result (λ seal.
+        IsSigned N.committee N.replica seal.key statement.now seal.signature) }
+    ensures no_vote { IsNoVote statement.now }
+    ensures event { IfOk result (λ seal.
+        SomeDeskMoves (IsDeskOf D.Disk N.committee N.replica N.opening)
+        (Endorses D.Disk N.committee N.replica statement.now seal)) }
+    ensures refused { IfErr result (λ e.
+        SomeDeskMoves (IsDeskOf D.Disk N.committee N.replica N.opening)
+        (RefusesToEndorse D.Disk e)) }
+{
+    // For the proof: what each desk keeps, before and after.
+    let _core = state.core();
+    let answer = endorse_on(state, statement);
     let _core = state.core();
     answer
 }
@@ -422,6 +449,25 @@ impl<N: DeskNaming, D: Disk> Desk<N, D> {
     {
         let mut state = self.state.lock(rt);
         deliver_once_to(&mut *state, session, block, mark)
+    }
+
+    /// Takes the lock, which may wait, and signs a statement of next keys, as `endorse_on` does: under an index that no other call
+    /// gives again, and with nothing added to the log.
+    pub fn endorse<R: Wait>(&self, rt: &R, statement: &NextKeysView) -> Result<Seal, DeskError>
+        ensures signed { IfOk result (λ seal.
+            IsSigned N.committee N.replica seal.key statement.now seal.signature) }
+        ensures no_vote { IsNoVote statement.now }
+
+        // Some desk of this name signed it so, or refused so.
+        ensures event { IfOk result (λ seal.
+            SomeDeskMoves (IsDeskOf D.Disk N.committee N.replica N.opening)
+            (Endorses D.Disk N.committee N.replica statement.now seal)) }
+        ensures refused { IfErr result (λ e.
+            SomeDeskMoves (IsDeskOf D.Disk N.committee N.replica N.opening)
+            (RefusesToEndorse D.Disk e)) }
+    {
+        let mut state = self.state.lock(rt);
+        endorse_to(&mut *state, statement)
     }
 
     /// Takes the lock, which may wait, and gives up on all views up to this one, as `timeout_on` does. Refused only by

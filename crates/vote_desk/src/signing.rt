@@ -9,8 +9,10 @@ ghost use Rattle.lms_tree.specs.declared.TheConstants.{LEAVES};
 ghost use Rattle.vote_desk.specs.Deliveries.{BoundsIndices, IsSignedWith, signed_in, vote_under};
 ghost use Rattle.vote_desk.specs.DeskRefusals.{IsStorageRefusal};
 ghost use Rattle.vote_desk.specs.Desks.{index_of, seed_of};
+ghost use Rattle.vote_desk.specs.Endorsing.{IsSealedWith, index_shown, seal_under};
 
 use crate::desk_error::DeskError;
+use crate::seal::Seal;
 use blocks::{Id, NamedHeader};
 use certificates::{SignedVote, Statement};
 use key_index_store::{IndexStore, key_of, q_of};
@@ -88,4 +90,52 @@ pub(crate) fn draw<D: Disk>(
     let _keys = indices.keys();
     let index = indices.next()?;
     Ok(vote_under(trees, index, replica, chain, block))
+}
+
+// These bytes, signed under this index.
+fn seal_under(trees: &[SigningTree], index: u32, message: &[u8]) -> Seal
+    requires most { index < limit_of MOST_KEYS }
+    requires has { key_of index < length trees.now }
+    ensures value { result ≡ seal_under index trees.now message.now }
+    ensures index { index_shown result ≡ index }
+    ensures verifies { IsSealedWith (seed_of trees.now result.key) message.now result }
+{
+    let key = key_of(index);
+    Seal {
+        key,
+        signature: trees[key as usize].sign_at(q_of(index), message),
+    }
+}
+
+/// Draws an index, and signs these bytes under it. No other call gives this index again, and no refusal uses it up. After `Device`
+/// the store is stopped.
+pub(crate) fn draw_seal<D: Disk>(
+    trees: &[SigningTree],
+    indices: &mut IndexStore<D>,
+    message: &[u8],
+) -> Result<Seal, DeskError>
+    requires running { indices.old.stopped ≡ false }
+    requires left { indices.old.mark < limit_of indices.old.keys }
+    requires as_many { length trees.now ≡ indices.old.keys }
+    ensures value { IfOk result (λ s. s ≡ seal_under indices.old.mark trees.now message.now) }
+    ensures index { IfOk result (λ s. index_shown s ≡ indices.old.mark) }
+    ensures verifies { IfOk result (λ s. IsSealedWith (seed_of trees.now s.key) message.now s) }
+    ensures key { IfOk result (λ s. s.key < length trees.now) }
+    ensures drawn { OnOk result (indices.new.mark ≡ indices.old.mark + 1) }
+    ensures not_again { IfSome (D.bytes indices.old.disk) (λ _.
+        BoundsIndices D.Disk indices.old indices.new) }
+    ensures keys { indices.new.keys ≡ indices.old.keys }
+    ensures running { OnOk result (indices.new.stopped ≡ false) }
+    ensures first_refusal { IfErr result IsStorageRefusal }
+    ensures device { IsErrOf result DeskError.Device →
+        (indices.new.mark ≡ indices.old.mark) × (indices.new.stopped ≡ true) }
+    ensures err { IfErr result (λ e. e ≢ DeskError.Device → indices.new ≡ indices.old) }
+    ensures no_failure { OnOk result (D.failed indices.new.disk ≡ D.failed indices.old.disk) }
+    ensures cause { IsErrOf result DeskError.Device →
+        HasFailed (D.failed indices.old.disk) (D.failed indices.new.disk) }
+{
+    // For the proof: there are no more than the most keys.
+    let _keys = indices.keys();
+    let index = indices.next()?;
+    Ok(seal_under(trees, index, message))
 }

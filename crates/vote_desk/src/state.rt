@@ -18,6 +18,7 @@ ghost use Rattle.key_index_store.specs.Indices.{limit_of};
 ghost use Rattle.vote_desk.specs.Deliveries.{BoundsIndices, DrawsAtMostOne, FailsLog, FailsNone, FailsOne, IsKept, IsLeftBy, IsLeftWith, IsLegalPlan, IsStored, entry_of, signed_in, vote_under};
 ghost use Rattle.vote_desk.specs.DeskRefusals.{HasRoom, HasRoomTo, IsPlanRefusal, IsRunning, IsStopped, IsStorageRefusal};
 ghost use Rattle.vote_desk.specs.Desks.{AreKeysOf, HoldsId, KeepsDesk, desk_of, index_of, left_of, status_of};
+ghost use Rattle.vote_desk.specs.Endorsing.{IsCoreAndLog, IsEndorseRefusal, IsEndorsed, IsLeftUnsigned, MayEndorse};
 ghost use Rattle.vote_desk.specs.Exports.{IsOnlyRead, IsOut};
 ghost use Rattle.vote_desk.specs.Firsts.{IsMarkedAgain, IsMarkedOnce};
 ghost use Rattle.vote_desk.specs.Holding.{IsHoldRefusal, IsStill, LeavesListOnly, MayHold};
@@ -31,8 +32,9 @@ use crate::naming::DeskNaming;
 use crate::parts::{DeskStatus, Left, Parts};
 use crate::planned_block::PlannedBlock;
 use crate::reply::Receipt;
+use crate::seal::Seal;
 use crate::session::Session;
-use crate::signing::draw;
+use crate::signing::{draw, draw_seal};
 use crate::storing::{check_room, store};
 use crate::votes::vote_in;
 use blocks::{CommitteeView, Header, Id};
@@ -458,6 +460,31 @@ impl<N: DeskNaming, D: Disk> DeskState<N, D> {
         let receipt = Receipt { number, vote };
         session.release(&mut self.book, &receipt);
         Ok(receipt)
+    }
+
+    // Signs these bytes under the next index. After `Device` the index store is stopped; any other refusal changes nothing.
+    pub(crate) fn endorse(&mut self, message: &[u8]) -> Result<Seal, DeskError>
+        ensures ok { IfOk result (λ seal.
+            IsEndorsed N.committee N.replica message.now seal self.old self.new) }
+        ensures may { OnOk result (MayEndorse self.old) }
+        ensures running { OnOk result (IsRunning self.new) }
+        ensures same { IsCoreAndLog self.old self.new }
+        ensures first_refusal { IfErr result (IsEndorseRefusal self.old) }
+        ensures err { IfErr result (IsLeftUnsigned D.failed self.old self.new) }
+        ensures no_failure { OnOk result (FailsNone D.failed self.old self.new) }
+        ensures not_again { IfSome (D.bytes self.old.indices.disk) (λ _.
+            BoundsIndices D.Disk self.old.indices self.new.indices) }
+    {
+        // For the proof: as long as no index is drawn none can come twice.
+        self.indices_are_bounded();
+        if self.stopped() {
+            return Err(DeskError::Stopped);
+        }
+        if self.indices.left() == 0 {
+            return Err(DeskError::KeySpent);
+        }
+        let seal = draw_seal(&self.trees, &mut self.indices, message)?;
+        Ok(seal)
     }
 
     // Raises the vote view where it is lower.
