@@ -2,6 +2,7 @@ pub mod Lists
 pub mod Keeping
 pub mod Plans
 pub mod Steps
+pub mod Spared
 pub mod Delivered
 pub mod Gathered
 pub mod ClosedLogs

@@ -11,3 +11,4 @@ pub mod Released
 pub mod Later
 pub mod Holding
 pub mod Endorsing
+pub mod Sparing

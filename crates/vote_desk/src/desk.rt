@@ -19,6 +19,7 @@ ghost use Rattle.vote_desk.specs.Holding.{IsHeldOnly, RefusesHold};
 ghost use Rattle.vote_desk.specs.Receipts.{AreRisingByNumber, AreReceipts, KeepsReceipts, receipt_ballot, receipts_of};
 ghost use Rattle.vote_desk.specs.Released.{RefusesVoteWith};
 ghost use Rattle.vote_desk.specs.SomeDesk.{IsDeskOf, Refuses, RefusesUnvoted, Replies, RepliesUnvoted, SomeDesk, SomeDeskMoves, TimesOut};
+ghost use Rattle.vote_desk.specs.Sparing.{RefusesSparing, RepliesSparing};
 ghost use Rattle.vote_desk.specs.Stays.{AreLeftByStay, IsStay};
 ghost use Rattle.vote_desk.specs.Votes.{AreFound, IsFoundAsOpened, IsNoneFoundBelow, IsVoteFound, RefusesVoteIn};
 
@@ -32,6 +33,7 @@ use crate::parts::{Closed, DeskStatus, Left, Parts};
 use crate::reply::{Answer, Receipt, Reply};
 use crate::seal::Seal;
 use crate::session::Session;
+use crate::sparing::deliver_sparing_on;
 use crate::start_error::StartError;
 use crate::state::DeskState;
 use crate::votes::number_not_found;
@@ -101,6 +103,35 @@ fn deliver_unvoted_to<N: DeskNaming, D: Disk>(
     // For the proof: what each desk keeps, before and after.
     let _core = state.core();
     let answer = deliver_unvoted_on(state, session, block);
+    let _core = state.core();
+    answer
+}
+
+// Delivers a block sparingly to a desk of which no more is known than what each desk keeps.
+fn deliver_sparing_to<N: DeskNaming, D: Disk>(
+    state: &mut DeskState<N, D>,
+    session: &mut Session<N>,
+    block: CheckedBlock,
+    spare: &Left,
+) -> Result<Reply, DeskError>
+    requires { block.committee ≡ N.committee }
+    ensures receipt { IfOk result (λ reply.
+        session.new.receipts.items ≡ with_receipt session.old.receipts.items reply.act) }
+    ensures share { IfOk result (λ reply.
+        session.new.share.amount ≡ session.old.share.amount + released_by reply.act) }
+    ensures reply { IfOk result (IsGoodReply N.committee N.replica block.entry.header) }
+    ensures err { OnErr result ((session.new.receipts.items ≡ session.old.receipts.items)
+        × (session.new.share.amount ≡ session.old.share.amount)) }
+    ensures event { IfOk result (λ reply.
+        SomeDeskMoves (IsDeskOf D.Disk N.committee N.replica N.opening)
+        (RepliesSparing D.Disk N.committee N.replica spare.now block.entry reply)) }
+    ensures refused { IfErr result (λ e.
+        SomeDeskMoves (IsDeskOf D.Disk N.committee N.replica N.opening)
+        (RefusesSparing D.Disk spare.now block.entry.header e)) }
+{
+    // For the proof: what each desk keeps, before and after.
+    let _core = state.core();
+    let answer = deliver_sparing_on(state, session, block, spare);
     let _core = state.core();
     answer
 }
@@ -400,6 +431,35 @@ impl<N: DeskNaming, D: Disk> Desk<N, D> {
     {
         let mut state = self.state.lock(rt);
         deliver_unvoted_to(&mut *state, session, block)
+    }
+
+    /// Takes the lock, which may wait, and delivers a block as `deliver_sparing_on` does, under one holding of the lock: as `deliver`
+    /// does where more indices and more entries are left than are to be spared, else as `deliver_unvoted` does. The block must have
+    /// been checked with the committee that the desk was opened with.
+    pub fn deliver_sparing<R: Wait>(
+        &self,
+        rt: &R,
+        session: &mut Session<N>,
+        block: CheckedBlock,
+        spare: &Left,
+    ) -> Result<Reply, DeskError>
+        requires { block.committee ≡ N.committee }
+        ensures receipt { IfOk result (λ reply.
+            session.new.receipts.items ≡ with_receipt session.old.receipts.items reply.act) }
+        ensures share { IfOk result (λ reply.
+            session.new.share.amount ≡ session.old.share.amount + released_by reply.act) }
+        ensures reply { IfOk result (IsGoodReply N.committee N.replica block.entry.header) }
+        ensures err { OnErr result ((session.new.receipts.items ≡ session.old.receipts.items)
+            × (session.new.share.amount ≡ session.old.share.amount)) }
+        ensures event { IfOk result (λ reply.
+            SomeDeskMoves (IsDeskOf D.Disk N.committee N.replica N.opening)
+            (RepliesSparing D.Disk N.committee N.replica spare.now block.entry reply)) }
+        ensures refused { IfErr result (λ e.
+            SomeDeskMoves (IsDeskOf D.Disk N.committee N.replica N.opening)
+            (RefusesSparing D.Disk spare.now block.entry.header e)) }
+    {
+        let mut state = self.state.lock(rt);
+        deliver_sparing_to(&mut *state, session, block, spare)
     }
 
     /// Takes the lock, which may wait, and holds a block as `hold_on` does: it is neither voted for nor is the lock raised on it,
