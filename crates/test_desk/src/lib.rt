@@ -5,6 +5,8 @@
 #[cfg(test)]
 mod crash_runs;
 #[cfg(test)]
+mod endorsements;
+#[cfg(test)]
 mod further_keys;
 #[cfg(test)]
 mod limits;

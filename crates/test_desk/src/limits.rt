@@ -84,13 +84,15 @@ pub(crate) fn parts_with_votes<R: Abort + AllocGlobal>(
     found_on(rt, trees, index, disk)
 }
 
-const FULL_LOG: [Step; 3] = [
+const FULL_LOG: [Step; 4] = [
     Step::Refuses(Block::OnGenesis(4097), DeskError::LogFull),
     Step::Holds(Block::OnGenesis(1)),
+    Step::OnlyHolds(Block::OnGenesis(4097)),
     Step::Refuses(Block::OnGenesis(4097), DeskError::LogFull),
 ];
 
-// A full log refuses a vote, and no index is drawn for it; a block that is only held is not refused.
+// A full log refuses a vote, and no index is drawn for it; a block that is only held is not refused, whether the replica would
+// vote for it or not.
 #[test]
 fn log_is_full_at_4096_entries(rt: HostRuntime) {
     let parts = parts_with_votes(&rt, new_keys(&rt), 4096);

@@ -33,6 +33,25 @@ pub(crate) fn holds_unvoted<N: DeskNaming, R: Wait + AllocGlobal>(
     }
 }
 
+/// Whether a block that is held only is held, and commits this block.
+pub(crate) fn only_holds<N: DeskNaming, R: Wait + AllocGlobal>(
+    rt: &R,
+    desk: &Desk<N, MemoryDisk>,
+    committee: &CommitteeView,
+    block: Block,
+    committed: Option<Id>,
+) -> bool
+    requires { committee.now ≡ N.committee }
+{
+    let Some(block) = checked_by(rt.alloc(), &LmsVerifier, committee, block) else {
+        return false;
+    };
+    match desk.hold(rt, block) {
+        Ok(reply) => reply.act == Answer::Held && reply.committed == committed,
+        Err(_) => false,
+    }
+}
+
 /// Whether a desk is at the view 2 and locked on A1.
 pub(crate) fn is_locked_on_a1(status: &DeskStatus) -> bool {
     status.vote_view == 2 && status.lock.view == 1 && Some(status.lock.id) == id_of_a1()

@@ -2,7 +2,8 @@
 
 ghost use Rattle.std.specs.Prelude.{◌≡◌, ◌<◌, IfSome};
 
-use crate::live_calls::{exports, holds_unvoted, is_locked_on_a1, tells_of_a1};
+use crate::endorsements::endorses;
+use crate::live_calls::{exports, holds_unvoted, is_locked_on_a1, only_holds, tells_of_a1};
 use blocks::{CommitteeView, Header, Id};
 use certificates::{Certificate, CheckedBlock, LmsVerifier, Verifier, check_block};
 use fixtures::{certificates as texts, core_blocks, verdicts};
@@ -59,6 +60,12 @@ pub(crate) enum Step {
     HoldsAll(u32),
     /// The block is delivered unvoted, and held.
     HoldsUnvoted(Block),
+    /// The block is held only, and commits nothing.
+    OnlyHolds(Block),
+    /// The block is held only, and commits A1.
+    OnlyHoldsAndCommitsA1(Block),
+    /// A statement of next keys is signed under this index of the first key.
+    Endorses(u32),
     /// The views up to this one are given up.
     TimesOut(u64),
     /// The desk is at the view 2, and locked on A1.
@@ -400,6 +407,9 @@ fn takes<N: DeskNaming, R: Wait + AllocGlobal>(
         Step::VotesForAll(count) => all_come_to(rt, desk, session, committee, count, true),
         Step::HoldsAll(count) => all_come_to(rt, desk, session, committee, count, false),
         Step::HoldsUnvoted(block) => holds_unvoted(rt, desk, session, committee, block),
+        Step::OnlyHolds(block) => only_holds(rt, desk, committee, block, None),
+        Step::OnlyHoldsAndCommitsA1(block) => only_holds(rt, desk, committee, block, id_of_a1()),
+        Step::Endorses(index) => endorses(rt, desk, committee, index),
         Step::TimesOut(view) => desk.timeout(rt, view).is_ok(),
         Step::IsStopped => desk.timeout(rt, 1).is_err(),
         Step::IsLockedOnA1 => is_locked_on_a1(&desk.status(rt)),

@@ -92,12 +92,13 @@ const FOUR_BLOCKS: [Stay; 1] = [Stay {
         Step::Votes(Block::A1, 0),
         Step::Votes(Block::A2, 1),
         Step::Votes(Block::A3, 2),
+        Step::OnlyHoldsAndCommitsA1(Block::A4),
         Step::VotesAndCommitsA1(Block::A4, 3),
     ],
     log: LOG_OF_A1_TO_A4,
 }];
 
-// Of four blocks in successive views the last commits the first.
+// Of four blocks in successive views the last commits the first, when it is held only and when it is voted for.
 #[test]
 fn a_fourth_block_commits_the_first(rt: HostRuntime) {
     lives(&rt, &FOUR_BLOCKS);
