@@ -10,9 +10,10 @@ use Rattle.stable_log.specs.declared.disk.Disk.{Ghosts}
 use Rattle.vote_log.specs.declared.log_error.LogError.{LogError}
 use Rattle.vote_desk.specs.Deliveries.{IsGoodReply, act_of}
 use Rattle.vote_desk.specs.DeskRefusals.{from_log}
-use Rattle.vote_desk.specs.Desks.{DeskView}
+use Rattle.vote_desk.specs.Desks.{DeskView, left_of}
 use Rattle.vote_desk.specs.Firsts.{RefusesOnce, RepliesOnce}
-use Rattle.vote_desk.specs.SomeDesk.{IsDeskOf, RefusesUnvoted, RepliesUnvoted, SomeDeskMoves}
+use Rattle.vote_desk.specs.Holding.{IsHeldOnly, RefusesHold}
+use Rattle.vote_desk.specs.SomeDesk.{IsDeskOf, RefusesUnvoted, RepliesUnvoted, SomeDesk, SomeDeskMoves}
 use Rattle.vote_desk.specs.declared.desk_error.DeskError.{DeskError}
 use Rattle.vote_desk.specs.declared.reply.Answer.{Answer}
 use Rattle.vote_desk.specs.declared.reply.Answer.TheVariants.{Held}
@@ -35,19 +36,26 @@ module _ {D : Type 0} (disk : Ghosts D) (committee : List ℕ) (replica : ℕ) (
 
   -- ---- a block
 
+  -- some desk's log has no room for an entry
+  abbrev pub IsFull : Type 0
+  IsFull = SomeDesk (IsDeskOf disk committee replica opening) (λ d. (left_of d).entries ≡ 0)
+
   -- the block is approved, and some desk moved by its one event with this reply, which is no vote for a handover above another; or
-  -- it is withheld, and that desk gave up on its view before, so that the reply is no vote
+  -- it is withheld, and that desk gave up on its view before, so that the reply is no vote; or the log is full, and the block was held
+  -- and no more
   abbrev pub IsReplied : Telling → Header → Certificate → Reply → Type 0
   IsReplied tells header certificate reply =
       (IsApproved tells header × SomeMove (RepliesOnce disk committee replica handover_mark (block_of committee header certificate) reply))
-      ⊎ (IsWithheld tells header × (act_of reply.act ≢ Vote)
+      ⊎ ((IsWithheld tells header × (act_of reply.act ≢ Vote)
       × SomeMove (RepliesUnvoted disk committee replica (block_of committee header certificate) reply))
+      ⊎ (IsFull × (reply.act ≡ Held) × SomeMove (IsHeldOnly header reply)))
 
   -- .. and some desk refuses it so, and is left so
   abbrev pub IsRefused : Telling → Header → DeskError → Type 0
   IsRefused tells header refusal =
       (IsApproved tells header × SomeMove (RefusesOnce disk handover_mark header refusal))
-      ⊎ (IsWithheld tells header × SomeMove (RefusesUnvoted disk header refusal))
+      ⊎ ((IsWithheld tells header × SomeMove (RefusesUnvoted disk header refusal))
+      ⊎ (IsFull × SomeMove (RefusesHold header refusal)))
 
   -- the certificate is good and remembered, and the desk replies so
   pub record IsReplyWithin (tells : Telling) (receipts : List Receipt) (header : Header) (certificate : Certificate) (reply : Reply) : Type 0 where

@@ -3,8 +3,9 @@
 ghost use Rattle.std.specs.Prelude.{◌≡◌, IfErr, IfOk, IsFalse, IsTrue, None, Some};
 ghost use Rattle.handover.specs.Handovers.{IsHandover};
 ghost use Rattle.vote_desk.specs.Deliveries.{with_receipt};
+ghost use Rattle.vote_desk.specs.declared.reply.Answer.TheVariants.{Held};
 ghost use Rattle.signer_answers.specs.Approvals.{IsApproved, IsOtherFirst, IsUnapproved, IsWithheld, MayBegin};
-ghost use Rattle.signer_answers.specs.BlockAnswers.{IsBlockTold, IsRefusalWithin, IsReplyWithin, IsSignerAnswer};
+ghost use Rattle.signer_answers.specs.BlockAnswers.{IsBlockTold, IsFull, IsRefusalWithin, IsReplyWithin, IsSignerAnswer};
 ghost use Rattle.signer_answers.specs.Guards.{IsRemembered};
 ghost use Rattle.signer_answers.specs.Tellings.{IsShownBy, receipts_behind};
 ghost use Rattle.replica_answers.specs.declared.request.Request.TheVariants.{Block};
@@ -21,7 +22,7 @@ use handover::{HANDOVER_MARK, is_handover};
 use replica_answers::{Outcome, Request, time_out};
 use stable_log::Disk;
 use std::sync::Wait;
-use vote_desk::{Answer, DeskError, DeskNaming, Reply, Session};
+use vote_desk::{Answer, DeskError, DeskNaming, Receipt, Reply, Session};
 
 /// What comes of a request. What asks for nothing of the desk is answered by what is wrong with it. Only a block may need
 /// memory: where it is refused, the desk's refusal says so. The keeper is asked of each block that hands over, once its
@@ -32,7 +33,8 @@ use vote_desk::{Answer, DeskError, DeskNaming, Reply, Session};
 /// it, and must not ask any more. That callers which come later are stopped is up to who calls this. If the one in the log is
 /// not good, on whatever block it is, bytes of it changed on the disk: nobody is stopped, and `Unread` is told. Where the desk holds a block
 /// for which the log has this replica's vote, that vote is told `Again`; the desk's refusal, where the log can't be read then for
-/// want of memory or since another call stopped it; and that the block is held, where it can't be read otherwise.
+/// want of memory or since another call stopped it; and that the block is held, where it can't be read otherwise. Where the log is
+/// full a block is held and no more, so that what it commits is told.
 pub fn answer<'a, N: DeskNaming, T: Wait, D: Disk, V: Verifier, K: Approver + Keeper>(
     rt: &T,
     office: &Office<'a, N, D, K>,
@@ -124,9 +126,58 @@ fn hand_in<N: DeskNaming, T: Wait, D: Disk, K: Approver + Keeper>(
     }
 }
 
+// Delivers a block. Where the log is full, it is held and no more, so that what it commits is told.
+fn deliver<N: DeskNaming, T: Wait, D: Disk, K: Approver + Keeper>(
+    rt: &T,
+    office: &Office<'_, N, D, K>,
+    session: &mut Session<N>,
+    block: CheckedBlock,
+) -> Result<Reply, DeskError>
+    requires committee { block.committee ≡ N.committee }
+    requires remembered { IsRemembered D.Disk N.committee N.replica N.opening
+        session.old.receipts.items block.certificate }
+    ensures reply { IfOk result (IsReplyWithin D.Disk N.committee N.replica N.opening
+        (K.tells office.now.keeper.now) session.old.receipts.items block.entry.header block.entry.certificate) }
+    ensures refused { IfErr result (IsRefusalWithin D.Disk N.committee N.replica N.opening
+        (K.tells office.now.keeper.now) session.old.receipts.items block.entry.header block.entry.certificate) }
+    ensures receipt { IfOk result (λ reply.
+        session.new.receipts.items ≡ with_receipt session.old.receipts.items reply.act) }
+    ensures err { IfErr result (λ e. session.new.receipts.items ≡ session.old.receipts.items) }
+{
+    if office.desk.left(rt).entries == 0 {
+        return hold(rt, office, session.receipts(), block);
+    }
+    deliver_in_room(rt, office, session, block)
+}
+
+// Holds a block, and no more: the log is full.
+fn hold<N: DeskNaming, T: Wait, D: Disk, K: Approver + Keeper>(
+    rt: &T,
+    office: &Office<'_, N, D, K>,
+    receipts: &[Receipt],
+    block: CheckedBlock,
+) -> Result<Reply, DeskError>
+    requires full { IsFull D.Disk N.committee N.replica N.opening }
+    requires committee { block.committee ≡ N.committee }
+    requires remembered { IsRemembered D.Disk N.committee N.replica N.opening
+        receipts.now block.certificate }
+    ensures held { IfOk result (λ reply. reply.act ≡ Held) }
+    ensures reply { IfOk result (IsReplyWithin D.Disk N.committee N.replica N.opening
+        (K.tells office.now.keeper.now) receipts.now block.entry.header block.entry.certificate) }
+    ensures refused { IfErr result (IsRefusalWithin D.Disk N.committee N.replica N.opening
+        (K.tells office.now.keeper.now) receipts.now block.entry.header block.entry.certificate) }
+{
+    // For the proof: the block's certificate is good.
+    let _header = block.header();
+    match office.desk.hold(rt, block) {
+        Ok(reply) => Ok(reply),
+        Err(refusal) => Err(refusal),
+    }
+}
+
 // Delivers a block, to be voted for only if it may be: no handover is that is not approved, or above another in its chain.
 #[tactic(auto, using(crate::proofs::Unvoted::unvoted_adds_none))]
-fn deliver<N: DeskNaming, T: Wait, D: Disk, K: Approver + Keeper>(
+fn deliver_in_room<N: DeskNaming, T: Wait, D: Disk, K: Approver + Keeper>(
     rt: &T,
     office: &Office<'_, N, D, K>,
     session: &mut Session<N>,
