@@ -168,8 +168,15 @@ hs_signer | refused call 7 Far | The view lies further above the vote view than 
 hs_signer | refused call 8 NoVote | The log has no vote in this view. | Nothing: the replica did not vote there.\n\
 hs_signer | refused call 9 Target | The target is not a path, or has a query that the call does not take, or an id or a payload that is not 64 digits in lower case. | Put it right.\n\
 hs_signer | refused call 10 NotHeld | No block of this id is held. | Deliver it, its parents first.\n\
-hs_signer | refused call 11 Length | A vote has not 1,495 bytes, or a timeout has a body. | Put it right.\n\
-hs_signer | refused call 12 Chain | The call names another chain than that of the signer's committee; nothing was done. | Drop it if that chain ended; else ask the signer of that chain.\n\
+hs_signer | refused call 11 Length | A vote has not 1,495 bytes, a timeout has a body, or a call to go over does not begin with four zero bytes. | Put it right.\n\
+hs_signer | refused call 12 Chain | The call names another chain than the one that the signer stands in, or, with --renew, none; nothing was done. | Drop it if that chain ended; else ask the signer of that chain.\n\
+hs_signer | over CHAIN | The signer has gone over to this chain: it votes in the one before no more. | Nothing: name this chain in calls from here on.\n\
+hs_signer | refused over 1 NoCommit | This process told no block as committed that has a handover block in its chain. | Hand in the block that commits again, then repeat the call.\n\
+hs_signer | refused over 2 OtherFile PAYLOAD | The handover block that was committed has this payload, which names another file. | Send the file that the payload names.\n\
+hs_signer | refused over 3 NotMine | The replica has in that file neither its keys of this chain nor those that were made behind it. | Look who made the keys: somebody else has them, or DIR was put back.\n\
+hs_signer | stopped over | What the new chain needs, or the word that the signer goes over, can't be read or stored. | See to DIR and its disk, then start the signer again.\n\
+hs_signer | fault lineage CHAIN | What lies in the folder of that chain is not what DIR's words say, or COMMITTEE is not the file that DIR began with. | Start with the first committee's file. If that is so, something was removed or copied in DIR: the replica counts as faulty.\n\
+hs_signer | fault lineage | DIR's words lead through more than a million committees. | Nothing is to be done with such a DIR.\n\
 hs_signer | listening calls PLACE | It takes calls there. | Nothing.\n\
 hs_signer | listening read ADDRESS | It answers calls that only read there. | Nothing.\n\
 hs_signer | listening log ADDRESS | It hands out its log there. | Nothing.\n\

@@ -56,6 +56,7 @@ put it back to a backup.\n\
 \x20 --group            lets the signer's group connect to the socket at PATH\n\
 \x20 --while-input      ends where standard input ends\n\
 \x20 --verbose          a line on standard error for each call\n\
+\x20 --renew            goes over to the next committee in one process\n\
 \n\
 Status: 0 ended; 4 the log was put back; 2 a fault. See hs_signer(1).\n",
 };

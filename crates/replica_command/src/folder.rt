@@ -29,6 +29,15 @@ use wire::KeyNumber;
 /// The mode of a file that its owner alone may read and write.
 const OWNER_ALONE: u32 = 0o600;
 
+/// What a replica is run on, of which the keys are not computed yet.
+#[derive(Drop)]
+pub struct Stores {
+    /// In the order of the keys' numbers.
+    pub seeds: Vec<PrivateSeed>,
+    pub index: IndexStore<FileDisk>,
+    pub log: VoteLog<FileDisk>,
+}
+
 /// A replica's folder: the files of its keys, its index store, its log, and a file that who runs it holds a lock on.
 #[derive(Drop)]
 pub struct ReplicaFolder<'a, F: Files<File = File>> {
@@ -98,6 +107,24 @@ impl<F: Files<File = File>> ReplicaFolder<'_, F> {
     ) -> Result<Parts<FileDisk>, ReplicaFault>
         ensures { IfErr result (λ fault. fault ≢ ReplicaFault.Output) }
     {
+        let stores = self.open_stores(committee, replica, logs)?;
+        let Stores { seeds, index, log } = stores;
+        Ok(Parts {
+            trees: self.grow(rt, &seeds)?,
+            index,
+            log,
+        })
+    }
+
+    /// The same, but the keys are not computed.
+    pub fn open_stores(
+        &self,
+        committee: &CommitteeView,
+        replica: u16,
+        logs: &str,
+    ) -> Result<Stores, ReplicaFault>
+        ensures { IfErr result (λ fault. fault ≢ ReplicaFault.Output) }
+    {
         let keys = if replica < committee.n() {
             committee.keys(replica)
         } else {
@@ -111,11 +138,7 @@ impl<F: Files<File = File>> ReplicaFolder<'_, F> {
             path: logs,
         };
         let log = logs.open_log(&index, committee, replica)?;
-        Ok(Parts {
-            trees: self.grow(rt, &seeds)?,
-            index,
-            log,
-        })
+        Ok(Stores { seeds, index, log })
     }
 
     /// The log of the folder, recovered, of a replica whose keys have this index store. One that the store is older than is refused as

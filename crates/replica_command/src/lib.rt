@@ -11,6 +11,6 @@ mod staying;
 mod worker;
 
 pub use fault::{ReplicaFault, ReplicaFile};
-pub use folder::ReplicaFolder;
+pub use folder::{ReplicaFolder, Stores};
 pub use program::{ReplicaEnd, run_replica};
 pub use staying::{Ending, StayEnd, stay};

@@ -5,11 +5,11 @@ use Rattle.streams.proofs.Writing.{wrote_both, wrote_nothing, wrote_part}
 use Rattle.printed_lines.proofs.Pieces.{part_of_front, part_behind}
 use Rattle.std.proofs.lemmas.List.{take_all}
 use Rattle.program_parts.specs.declared.program_fault.ProgramFault.TheVariants as program
-use Rattle.signer_command.specs.Ends.{Fault, IsGivenUp, IsPart}
+use Rattle.signer_command.specs.Ends.{Fault, IsGivenUp, IsLate, IsPart}
 use Rattle.signer_command.specs.Lines.{IsAnnounced, Places, closed_line, listening_text}
 use Rattle.signer_command.specs.declared.announcing.Announced.{Announced}
 use Rattle.signer_command.specs.declared.announcing.Announced.TheVariants.{NotBegun, Unsaid, Over}
-use Rattle.signer_command.specs.declared.fault.SignerFault.TheVariants.{DiskFailed, FileIn, Store, Receipts, Socket, Listen, Threads}
+use Rattle.signer_command.specs.declared.fault.SignerFault.TheVariants.{DiskFailed, Endless, FileIn, Lineage, Store, Receipts, Socket, Listen, Threads}
 
 -- a part of where calls are taken
 pub part_printed : (before after : Option (List ℕ)) (places : Places) → WrotePart before after (listening_text places) → IsPart before after
@@ -45,13 +45,15 @@ nothing_given_up program.Memory before = nothing_printed before
 nothing_given_up (program.File path) before = refl
 nothing_given_up (program.Committee refusal) before = refl
 nothing_given_up program.Output before = nothing_printed before
-nothing_given_up (program.Own (FileIn folder file)) before = refl
-nothing_given_up (program.Own (Store number)) before = refl
+nothing_given_up (program.Own (FileIn folder file)) before = nothing_printed before
+nothing_given_up (program.Own (Store number)) before = nothing_printed before
 nothing_given_up (program.Own Receipts) before = nothing_printed before
-nothing_given_up (program.Own (DiskFailed socket)) before = refl
+nothing_given_up (program.Own (DiskFailed socket)) before = nothing_printed before
 nothing_given_up (program.Own (Socket folder)) before = refl
 nothing_given_up (program.Own Listen) before = refl
-nothing_given_up (program.Own Threads) before = refl
+nothing_given_up (program.Own Threads) before = nothing_printed before
+nothing_given_up (program.Own (Lineage chain)) before = nothing_printed before
+nothing_given_up (program.Own Endless) before = nothing_printed before
 
 -- whatever came of announcing, a part of it was printed
 pub announced_part : (announced : Announced) (before after : Option (List ℕ)) (failures failures' : ℕ) (places : Places) (text : List ℕ)
@@ -70,10 +72,22 @@ announced_whole announced before after failures failures' places text over is sa
     let all = subst (λ (a : Announced). IsAnnounced a before after failures failures' text) over said in
     subst (λ (t : List ℕ). Wrote before after t) is all.0
 
--- behind the lines, for want of memory or of a receipt
-pub given_up_behind : (fault : Fault) (before after : Option (List ℕ)) → (fault ≡ program.Memory) ⊎ (fault ≡ program.Own Receipts) → IsPart before after → IsGivenUp fault before after
-given_up_behind fault before after (inl is) part = subst (λ (f : Fault). IsGivenUp f before after) (sym is) part
-given_up_behind fault before after (inr is) part = subst (λ (f : Fault). IsGivenUp f before after) (sym is) part
+-- behind the lines, or a part of them, for what may come so late
+pub given_up_late : (fault : Fault) (before after : Option (List ℕ)) → IsLate fault → IsPart before after → IsGivenUp fault before after
+given_up_late program.Memory before after late part = part
+given_up_late (program.Own (FileIn folder file)) before after late part = part
+given_up_late (program.Own (Store number)) before after late part = part
+given_up_late (program.Own Receipts) before after late part = part
+given_up_late (program.Own (DiskFailed socket)) before after late part = part
+given_up_late (program.Own Threads) before after late part = part
+given_up_late (program.Own (Lineage chain)) before after late part = part
+given_up_late (program.Own Endless) before after late part = part
+given_up_late program.Usage before after late part = absurd late
+given_up_late (program.File path) before after late part = absurd late
+given_up_late (program.Committee refusal) before after late part = absurd late
+given_up_late program.Output before after late part = absurd late
+given_up_late (program.Own (Socket folder)) before after late part = absurd late
+given_up_late (program.Own Listen) before after late part = absurd late
 
 -- and behind the output's failure
 pub given_up_writing : (fault : Fault) (before after : Option (List ℕ)) → fault ≡ program.Output → IsPart before after → IsGivenUp fault before after

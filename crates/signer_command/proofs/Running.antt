@@ -2,20 +2,12 @@
 use Rattle.std.proofs.Common.{◌≡◌, ℕ, List, Option, Result, Ok, Err, OnOk, OnErr, IfOk, IfErr, refl, length}
 use Rattle.stable_log.specs.declared.disk.Disk.{Ghosts}
 use Rattle.streams.specs.Streams.{Wrote, WrotePart}
-use Rattle.vote_desk.specs.Receipts.{AreReceipts}
 use Rattle.vote_desk.specs.declared.parts.Closed.{Closed}
 use Rattle.program_parts.specs.declared.program_fault.ProgramFault.TheVariants as program
 use Rattle.signer_command.specs.Ends.{Fault, IsGivenUp, IsRun, IsStay, ended_of}
-use Rattle.signer_command.specs.Lines.{Places, closed_line, listening_text}
+use Rattle.signer_command.specs.Lines.{closed_line}
 use Rattle.signer_command.specs.declared.program.Ended.{Ended}
 use Rattle.signer_command.proofs.Printing.{all_printed, given_up_writing, part_of_last}
-
--- a desk that was closed, behind the lines
-pub stayed : {D : Type 0} (r : Result (Closed D) Fault) (before after : Option (List ℕ)) (places : Places) (opened : ℕ)
-    → IfOk r (λ closed. AreReceipts opened closed.parts.log.steps closed.receipts.items) → OnOk r (Wrote before after (listening_text places))
-    → IfOk r (IsStay before after)
-stayed (Ok closed) before after places opened backed wrote = record { places = places; opened = opened; backed = backed; wrote = wrote }
-stayed (Err fault) before after places opened backed wrote = tt
 
 -- the last line behind a stay
 pub ran : {D : Type 0} (disk : Ghosts D) (r : Result Ended Fault) (before mid after : Option (List ℕ)) (closed : Closed D) → IsStay before mid closed
@@ -23,7 +15,6 @@ pub ran : {D : Type 0} (disk : Ghosts D) (r : Result Ended Fault) (before mid af
     → IfOk r (IsRun disk before after)
 ran disk (Ok ended) before mid after closed stay ends wrote = record {
   places = stay.places;
-  opened = stay.opened;
   closed = closed;
   backed = stay.backed;
   ends = ends;

@@ -1,5 +1,5 @@
--- Which committee a signer votes to hand over to.
-use Rattle.std.specs.Prelude.{◌≡◌, ℕ, List, Option, Some, None}
+-- Which committee a signer votes to hand over to, and which first block it votes for in a chain that was handed over to.
+use Rattle.std.specs.Prelude.{◌≡◌, ◌++◌, ℕ, List, Option, Some, None, codes, option_map, take}
 use Rattle.std.specs.Borrow.{Bor}
 use Rattle.successor_files.specs.Successors.{IsSuccessorPayload}
 
@@ -8,3 +8,11 @@ abbrev pub IsApprovable : List ℕ → Option (Bor (List ℕ)) → Option (List 
 IsApprovable committee None told = told ≡ None
 IsApprovable committee (Some path) (Some payload) = IsSuccessorPayload committee payload
 IsApprovable committee (Some path) None = Unit {0}
+
+-- "HSO1", and the first 28 bytes of the handover block's id
+abbrev pub first_text : List ℕ → List ℕ
+first_text handover = codes "HSO1" ++ take 28 handover
+
+-- in a chain that was handed over to by this block; in any other there is no such one
+abbrev pub first_payload : Option (List ℕ) → Option (List ℕ)
+first_payload handover = option_map first_text handover

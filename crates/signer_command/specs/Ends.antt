@@ -10,11 +10,13 @@ use Rattle.vote_desk.specs.Receipts.{AreReceipts}
 use Rattle.vote_desk.specs.declared.parts.Closed.{Closed}
 use Rattle.signer_command.specs.Lines.{Places, closed_line, listening_text}
 use Rattle.signer_command.specs.declared.fault.SignerFault.{SignerFault}
-use Rattle.signer_command.specs.declared.fault.SignerFault.TheVariants.{DiskFailed, FileIn, Receipts}
+use Rattle.signer_command.specs.declared.fault.SignerFault.TheVariants.{DiskFailed, Endless, FileIn, Lineage, Receipts, Store, Threads}
 use Rattle.signer_command.specs.declared.marks.MarkAt.{MarkAt}
 use Rattle.signer_command.specs.declared.marks.MarkAt.TheVariants as mark
 use Rattle.signer_command.specs.declared.program.Ended.{Ended}
 use Rattle.signer_command.specs.declared.program.Ended.TheVariants.{Done, Stopped}
+use Rattle.signer_command.specs.declared.staying.After.{After}
+use Rattle.signer_command.specs.declared.staying.After.TheVariants as left
 use Rattle.signer_command.specs.declared.words.Where.{Where}
 use Rattle.signer_command.specs.declared.words.Where.TheVariants as asked
 
@@ -29,11 +31,29 @@ pub record IsPart (before after : Option (List ℕ)) : Type 0 where
   pub count : ℕ
   pub wrote : WrotePart before after (listening_text places ++ closed_line count)
 
--- what was printed by then: nothing, but where memory, the desk's receipts or the output are why
+-- a fault that may come in a stay, so also behind one: of memory, threads, the stores, the receipts, or a folder or a disk
+abbrev pub IsLate : Fault → Type 0
+IsLate program.Memory = Unit {0}
+IsLate (program.Own Receipts) = Unit {0}
+IsLate (program.Own Threads) = Unit {0}
+IsLate (program.Own (Store number)) = Unit {0}
+IsLate (program.Own (FileIn folder it)) = Unit {0}
+IsLate (program.Own (DiskFailed socket)) = Unit {0}
+IsLate (program.Own (Lineage chain)) = Unit {0}
+IsLate (program.Own Endless) = Unit {0}
+IsLate fault = ⊥
+
+-- what was printed by then: nothing, but where such a fault or the output is why
 abbrev pub IsGivenUp : Fault → Option (List ℕ) → Option (List ℕ) → Type 0
 IsGivenUp program.Memory before after = IsPart before after
 IsGivenUp program.Output before after = IsPart before after
 IsGivenUp (program.Own Receipts) before after = IsPart before after
+IsGivenUp (program.Own Threads) before after = IsPart before after
+IsGivenUp (program.Own (Store number)) before after = IsPart before after
+IsGivenUp (program.Own (FileIn folder it)) before after = IsPart before after
+IsGivenUp (program.Own (DiskFailed socket)) before after = IsPart before after
+IsGivenUp (program.Own (Lineage chain)) before after = IsPart before after
+IsGivenUp (program.Own Endless) before after = IsPart before after
 IsGivenUp fault before after = after ≡ before
 
 -- the exit status: 4 where it is written down that the log was put back, or that a disk failed
@@ -58,19 +78,26 @@ abbrev pub status_of : Ended → ℕ
 status_of Done = 0
 status_of Stopped = 2
 
--- where calls are taken was printed, and the desk that took them was closed so: each vote behind the list that it was opened
--- with has its receipt
+-- the desk of a stay was closed so: each vote behind the list that it was opened with has its receipt
+pub record IsBacked {D : Type 0} (closed : Closed D) : Type 0 where
+  pub opened : ℕ
+  pub backed : AreReceipts opened closed.parts.log.steps closed.receipts.items
+
+-- where calls are taken was printed, and the last desk that took them was closed so
 pub record IsStay {D : Type 0} (before after : Option (List ℕ)) (closed : Closed D) : Type 0 where
   pub places : Places
-  pub opened : ℕ
-  pub backed : AreReceipts opened closed.parts.log.steps closed.receipts.items
+  pub backed : IsBacked closed
   pub wrote : Wrote before after (listening_text places)
 
--- .. and behind it how many entries the log has
+-- .. and behind it how many entries its log has
 pub record IsRun {D : Type 0} (disk : Ghosts D) (before after : Option (List ℕ)) (ended : Ended) : Type 0 where
   pub places : Places
-  pub opened : ℕ
   pub closed : Closed D
-  pub backed : AreReceipts opened closed.parts.log.steps closed.receipts.items
+  pub backed : IsBacked closed
   pub ends : ended ≡ ended_of closed
   pub wrote : Wrote before after (listening_text places ++ closed_line (length closed.parts.log.steps))
+
+-- what is left of a stay: another one follows, or its desk was closed so
+abbrev pub IsBackedAfter : After → Type 0
+IsBackedAfter (left.Over stand) = Unit {0}
+IsBackedAfter (left.Closed closed) = IsBacked closed

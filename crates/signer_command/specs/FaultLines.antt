@@ -1,6 +1,9 @@
 -- The line of each fault.
 use Rattle.std.specs.Prelude.{ℕ, List, ◌++◌, codes, decimal}
 use Rattle.std.specs.Borrow.{Bor}
+use Rattle.hex.specs.Hex.{encode_lower}
+use Rattle.lineage_folder.specs.declared.fault.LineageFault.{LineageFault}
+use Rattle.lineage_folder.specs.declared.fault.LineageFault.TheVariants as lineage
 use Rattle.printed_lines.specs.Printed.{file_line, printed}
 use Rattle.program_parts.specs.declared.program_fault.ProgramFault.{ProgramFault}
 use Rattle.program_parts.specs.declared.program_fault.ProgramFault.TheVariants as program
@@ -10,7 +13,7 @@ use Rattle.replica_command.specs.declared.fault.ReplicaFile.TheVariants as file
 use Rattle.replica_command.specs.declared.fault.ReplicaFault.{ReplicaFault}
 use Rattle.replica_command.specs.declared.fault.ReplicaFault.TheVariants as replica
 use Rattle.signer_command.specs.declared.fault.SignerFault.{SignerFault}
-use Rattle.signer_command.specs.declared.fault.SignerFault.TheVariants.{FileIn, Store, Receipts, DiskFailed, Socket, Listen, Threads}
+use Rattle.signer_command.specs.declared.fault.SignerFault.TheVariants.{FileIn, Store, Receipts, DiskFailed, Socket, Listen, Threads, Lineage, Endless}
 
 -- a file behind its folder
 abbrev pub name_behind : ReplicaFile → List ℕ
@@ -29,6 +32,10 @@ file_in_folder_line folder it = file_line folder (name_behind it)
 abbrev pub store_fault_line : ℕ → List ℕ
 store_fault_line number = codes "fault store " ++ decimal number ++ codes "\n"
 
+-- "fault lineage CHAIN"
+abbrev pub lineage_line : List ℕ → List ℕ
+lineage_line chain = codes "fault lineage " ++ encode_lower chain ++ codes "\n"
+
 -- of those that this program alone has
 abbrev pub own_line : SignerFault → List ℕ
 own_line (FileIn folder it) = file_in_folder_line folder.now it
@@ -38,6 +45,14 @@ own_line (DiskFailed socket) = disk_line socket.now (codes ".disk-failed\n")
 own_line (Socket folder) = file_line folder.now (codes "/signer.sock")
 own_line Listen = codes "fault listen\n"
 own_line Threads = codes "fault threads\n"
+own_line (Lineage chain) = lineage_line chain
+own_line Endless = codes "fault lineage\n"
+
+-- of a folder of chains
+abbrev pub fault_of_lineage : LineageFault → ProgramFault SignerFault
+fault_of_lineage lineage.Memory = program.Memory
+fault_of_lineage (lineage.Chain chain) = program.Own (Lineage chain)
+fault_of_lineage lineage.Endless = program.Own Endless
 
 -- of a replica on the folder at this path
 abbrev pub fault_in_folder : Bor (List ℕ) → ReplicaFault → ProgramFault SignerFault

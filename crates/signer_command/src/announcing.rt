@@ -8,7 +8,7 @@ ghost use Rattle.signer_command.specs.Sockets.{places_of};
 
 use crate::listening::Place;
 use crate::pool::Start;
-use crate::stay::{Room, Sockets};
+use crate::stay::Sockets;
 use std::alloc::{AllocError, Global};
 use std::sync::Wait;
 use std::time::Clock;
@@ -25,12 +25,20 @@ pub enum Announced {
     Over,
 }
 
+/// The threads of all stays, and the sockets that they take calls at.
+#[derive(Drop)]
+pub(crate) struct Crew<'a, T> {
+    pub rt: &'a T,
+    pub sockets: &'a Sockets,
+    pub start: &'a Start,
+    /// Whether the signer ends with its input.
+    pub while_input: bool,
+}
+
 /// Says where calls are taken once all threads have begun, and ends them when the input has ended, or where nothing can be
 /// said.
-pub(crate) fn announce<T: Wait + Clock, S: Sink, R: Feed, W: Sink>(
-    rt: &T,
-    room: &Room<'_, T, S>,
-    start: &Start,
+pub(crate) fn announce<T: Wait + Clock, R: Feed, W: Sink>(
+    crew: &Crew<'_, T>,
     text: &[u8],
     input: &mut R,
     out: &mut W,
@@ -38,18 +46,18 @@ pub(crate) fn announce<T: Wait + Clock, S: Sink, R: Feed, W: Sink>(
     ensures { IsAnnounced result (W.text out.old) (W.text out.new) (W.failed out.old)
         (W.failed out.new) text.now }
 {
-    if !start.wait_for_all(rt) {
+    if !crew.start.wait_for_all(crew.rt) {
         return Announced::NotBegun;
     }
     let said = write_all(out, text);
     if said.is_ok() {
-        if !room.words.while_input {
+        if !crew.while_input {
             return Announced::Over;
         }
         read_to_its_end(input);
     }
-    start.end();
-    close_all(room.sockets);
+    crew.start.end_all();
+    close_all(crew.sockets);
     match said {
         Ok(()) => Announced::Over,
         Err(_) => Announced::Unsaid,

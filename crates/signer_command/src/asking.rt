@@ -19,7 +19,7 @@ use std::net::{Net, TcpListener, TcpStream};
 use std::sync::Wait;
 use std::thread;
 use std::thread::Threads;
-use std::time::Clock;
+use std::time::{Clock, Duration};
 use streams::Sink;
 use vote_desk::DeskNaming;
 use vote_log::LogError;
@@ -29,6 +29,11 @@ use wire::MOST_ENTRIES;
 const SHORT_PAUSE: u32 = 4;
 
 const LONG_PAUSE: u32 = 240;
+
+/// How often a source is asked at once behind a going over, a tenth of a second apart, before it is left alone for longer.
+const MOST_BRIEF: u32 = 100;
+
+const BRIEF_MILLISECONDS: u64 = 100;
 
 /// How many bytes one read of a file asks for.
 const PIECE: usize = 65_536;
@@ -99,6 +104,11 @@ impl<
         };
         let mut so_far = ReadSoFar::nothing();
         let mut telling = Telling::new();
+        let mut brief = if self.room.standing.handover.is_some() {
+            MOST_BRIEF
+        } else {
+            0
+        };
         for _ in self.rt.forever() {
             if self.start.is_ending() || self.room.notes.has_told_put_back() {
                 break;
@@ -109,7 +119,12 @@ impl<
                 Look::PutBack => break,
                 Look::Ended(word) => {
                     self.note(number, source.replica, word, &mut telling);
-                    self.pause(self.pause_behind(word));
+                    if brief > 0 && !self.gate.is_open() {
+                        brief -= 1;
+                        thread::sleep(self.rt, Duration::from_millis(BRIEF_MILLISECONDS));
+                    } else {
+                        self.pause(self.pause_behind(word));
+                    }
                 }
             }
         }
@@ -147,10 +162,15 @@ impl<
             return Ok(Look::Ended(Word::Unresolved));
         };
         self.tell_unnamed(number, given.heard, so_far);
-        if given.heard == Heard::NoLog {
+        if given.heard == Heard::NoLog || self.is_of_any_chain(given.heard) {
             return Ok(Look::Ended(Word::OtherChain));
         }
         self.look_into(source, &given, so_far)
+    }
+
+    // Whether the log may be of another chain, where others are asked in each chain: its server was asked without the chain's name.
+    fn is_of_any_chain(&self, heard: Heard) -> bool {
+        self.room.words.renew && heard == Heard::Unnamed
     }
 
     // Looks into what a source gave.

@@ -1,16 +1,24 @@
 //! Why a signer gives up, and the line that it prints then.
 
-ghost use Rattle.std.specs.Prelude.{◌≡◌, ◌↔◌};
+ghost use Rattle.std.specs.Prelude.{◌≡◌, ◌≢◌, ◌↔◌, ◌≤◌, ◌+◌, ◌++◌, length};
+ghost use Rattle.arrayvec.specs.ArrayVec.{array_vec_len};
 ghost use Rattle.std.specs.Prelude.{OnErr, OnOk};
 ghost use Rattle.streams.specs.Counting.{Counts};
 ghost use Rattle.streams.specs.Streams.{Wrote, WrotePart};
-ghost use Rattle.signer_command.specs.FaultLines.{disk_line, fault_in_folder, file_in_folder_line, name_behind, own_line, store_fault_line};
+ghost use Rattle.signer_command.specs.FaultLines.{disk_line, fault_in_folder, file_in_folder_line, fault_of_lineage, lineage_line, name_behind, own_line, store_fault_line};
+ghost use Rattle.signer_command.specs.declared.fault.TheConstants.{LINEAGE_LINE};
 
+use arrayvec::ArrayVec;
+use blocks::Id;
 use itoa::Buffer;
-use printed_lines::{Line, write_file_fault, write_printed};
+use lineage_folder::LineageFault;
+use printed_lines::{Line, id_digits, write_file_fault, write_printed};
 use program_parts::{FaultLine, ProgramFault};
 use replica_command::{ReplicaFault, ReplicaFile};
 use streams::{Sink, write_all};
+
+/// How many bytes the line of a fault of a chain's folder has room for.
+const LINEAGE_LINE: usize = 80;
 
 /// Why the signer gives up. Each has exit status 2, but for what is written down: by an earlier run that the log was put back, or that
 /// a disk failed, or by this start, under which a disk failed. Those have 4.
@@ -33,6 +41,10 @@ pub enum SignerFault<'a> {
     Listen,
     /// A thread can't be made.
     Threads,
+    /// What lies in the folder of the chain of this id is not what the folder's words say.
+    Lineage(Id),
+    /// The folder's words lead through too many committees.
+    Endless,
 }
 
 impl FaultLine for SignerFault<'_> {
@@ -47,6 +59,8 @@ impl FaultLine for SignerFault<'_> {
             SignerFault::Socket(folder) => write_file_fault(out, folder, b"/signer.sock"),
             SignerFault::Listen => write_all(out, b"fault listen\n"),
             SignerFault::Threads => write_all(out, b"fault threads\n"),
+            SignerFault::Lineage(chain) => write_all(out, &lineage_fault(chain)),
+            SignerFault::Endless => write_all(out, b"fault lineage\n"),
         }
     }
 }
@@ -92,6 +106,27 @@ fn behind(file: ReplicaFile) -> Line
     name
 }
 
+// "fault lineage CHAIN"
+fn lineage_fault(chain: &Id) -> ArrayVec<u8, LINEAGE_LINE>
+    ensures { result.items ≡ lineage_line chain.now }
+{
+    let mut line = ArrayVec::new();
+    add(&mut line, b"fault lineage ");
+    add(&mut line, &id_digits(chain));
+    add(&mut line, b"\n");
+    line
+}
+
+// Adds a piece, for which there is room.
+fn add(line: &mut ArrayVec<u8, LINEAGE_LINE>, piece: &[u8])
+    requires { array_vec_len line.old + length piece.now ≤ LINEAGE_LINE }
+    ensures items { line.new.items ≡ line.old.items ++ piece.now }
+    ensures len { array_vec_len line.new ≡ array_vec_len line.old + length piece.now }
+{
+    // There is room, so it is never refused.
+    let _ = line.try_extend_from_slice(piece);
+}
+
 fn store_fault(number: u8) -> Line
     ensures { result ≡ store_fault_line number }
 {
@@ -100,6 +135,17 @@ fn store_fault(number: u8) -> Line
     line.push(Buffer::new().format(number).as_bytes());
     line.push(b"\n");
     line
+}
+
+/// The fault of a folder of chains.
+pub(crate) fn of_lineage<'a>(fault: LineageFault) -> Fault<'a>
+    ensures { result ≡ fault_of_lineage fault }
+{
+    match fault {
+        LineageFault::Memory => Fault::Memory,
+        LineageFault::Chain(chain) => Fault::Own(SignerFault::Lineage(chain)),
+        LineageFault::Endless => Fault::Own(SignerFault::Endless),
+    }
 }
 
 /// The fault of a replica on the folder at `path`.

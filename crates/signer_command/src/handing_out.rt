@@ -1,11 +1,15 @@
 //! A log that is handed out to all who ask, while votes go on.
 
+use crate::past::PastLog;
 use blocks::Id;
-use chain_request::{RequestBytes, asked_in};
+use chain_request::{ChainRequest, RequestBytes, asked_in};
+use lineage_folder::LineageFolder;
+use log_format::FrameRequest;
 use log_handout::Reply;
 use patient_sockets::{Bounds, Next, Rules, Talk};
 use stable_log::Disk;
 use std::alloc::Global;
+use std::fs::{File, Files};
 use std::io;
 use std::io::ErrorKind;
 use std::sync::Wait;
@@ -40,16 +44,74 @@ pub(crate) struct LogTalk<'a, N: DeskNaming, T, D: Disk> {
     pub desk: &'a Desk<N, D>,
     /// The chain of its log.
     pub chain: Id,
+    /// The logs of the chains that the signer went over from, where it goes over at all.
+    pub past: Option<Past<'a, T>>,
+}
+
+/// Where the logs lie of the chains that a signer went over from, and which was the first.
+#[derive(Clone, Copy)]
+pub(crate) struct Past<'a, T> {
+    pub folder: LineageFolder<'a, T>,
+    pub first: Id,
 }
 
 /// What came of a request, and then what goes out.
 #[derive(Drop)]
 pub(crate) struct LogLine {
     request: RequestBytes,
-    reply: Option<Reply>,
+    reply: Option<Answering>,
 }
 
-impl<N: DeskNaming, T: Wait, D: Disk> Talk for LogTalk<'_, N, T, D> {
+// What answers a request: the desk, or the log of an earlier chain.
+#[derive(Drop)]
+enum Answering {
+    Desk(Reply),
+    Past(PastLog),
+}
+
+impl<'a, N: DeskNaming, T: Wait + Files<File = File>, D: Disk> LogTalk<'a, N, T, D> {
+    // What answers these bytes, which are a request. One that names no chain asks for the log of the first chain.
+    fn answer(&self, bytes: &[u8]) -> Option<Answering> {
+        if let Some(past) = &self.past {
+            if let Some(log) = self.earlier(past, bytes) {
+                return Some(Answering::Past(log));
+            }
+            if names_none(bytes) && past.first != self.chain {
+                return None;
+            }
+        }
+        let asked = asked_in(&self.chain, bytes)?;
+        Some(Answering::Desk(Reply::begin(self.rt, self.desk, asked)))
+    }
+
+    // The log of an earlier chain, if that is what is asked for.
+    fn earlier(&self, past: &Past<'a, T>, bytes: &[u8]) -> Option<PastLog> {
+        let wanted = wanted_in(&past.first, bytes)?;
+        if wanted.chain == self.chain {
+            return None;
+        }
+        PastLog::open(&past.folder, &wanted)
+    }
+}
+
+// What a request asks for, where one that names no chain asks of the first one.
+fn wanted_in(first: &Id, bytes: &[u8]) -> Option<ChainRequest> {
+    if let Some(request) = FrameRequest::from_bytes(bytes) {
+        let chain = *first;
+        return Some(ChainRequest {
+            chain,
+            first: request.first,
+            most: request.most,
+        });
+    }
+    ChainRequest::from_bytes(bytes)
+}
+
+fn names_none(bytes: &[u8]) -> bool {
+    FrameRequest::from_bytes(bytes).is_some()
+}
+
+impl<N: DeskNaming, T: Wait + Files<File = File>, D: Disk> Talk for LogTalk<'_, N, T, D> {
     type Line = LogLine;
 
     fn begin(&mut self) -> io::Result<LogLine> {
@@ -67,10 +129,10 @@ impl<N: DeskNaming, T: Wait, D: Disk> Talk for LogTalk<'_, N, T, D> {
         if !line.request.is_whole() {
             return Ok(());
         }
-        let Some(asked) = asked_in(&self.chain, line.request.as_bytes()) else {
+        let Some(answering) = self.answer(line.request.as_bytes()) else {
             return Err(io::Error::from(ErrorKind::InvalidData));
         };
-        line.reply = Some(Reply::begin(self.rt, self.desk, asked));
+        line.reply = Some(answering);
         Ok(())
     }
 
@@ -79,10 +141,18 @@ impl<N: DeskNaming, T: Wait, D: Disk> Talk for LogTalk<'_, N, T, D> {
             return Ok(Next::Asks);
         };
         let share = if is_full { 1 } else { MOST_FRAMES_AT_ONCE };
-        match reply.next_piece(self.rt, self.alloc, self.desk, share) {
-            Ok(Some(piece)) => Ok(Next::Piece(piece)),
-            Ok(None) => Ok(Next::End),
-            Err(_) => Err(io::Error::from(ErrorKind::Other)),
+        let piece = match reply {
+            Answering::Desk(reply) => {
+                match reply.next_piece(self.rt, self.alloc, self.desk, share) {
+                    Ok(piece) => piece,
+                    Err(_) => return Err(io::Error::from(ErrorKind::Other)),
+                }
+            }
+            Answering::Past(log) => log.next_piece(self.alloc, share)?,
+        };
+        match piece {
+            Some(piece) => Ok(Next::Piece(piece)),
+            None => Ok(Next::End),
         }
     }
 }

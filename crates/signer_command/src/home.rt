@@ -1,23 +1,38 @@
 //! What a signer asks of its operator, and writes down in its folder.
 
-ghost use Rattle.signer_command.specs.Approved.{IsApprovable};
+ghost use Rattle.std.specs.Prelude.{◌≡◌, IfOk, OnOk};
+ghost use Rattle.blocks.specs.Genesis.{chain_id_of};
+ghost use Rattle.signer_command.specs.Approved.{IsApprovable, first_payload};
 
+use crate::lineage::Next;
 use crate::marks::put_down;
+use crate::over::{fault_of_words, first_payload, payload_of, ready_for};
+use crate::pool::Start;
 use crate::successor::Successor;
-use blocks::Header;
+use blocks::{CommitteeView, Header, Id};
 use certificates::Certificate;
+use lineage_folder::{LineageFolder, Standing};
 use put_back_file::{PUT_BACK, put_back_text};
-use signing_service::{Approver, Keeper};
+use sha2::{Digest, Sha256};
+use signing_service::{Approver, Keeper, OverFault};
 use std::fs::{File, Files};
 use std::io;
-use std::sync::Wait;
+use std::sync::{Mutex, Wait};
+use std::thread::Threads;
 use streams::Sink;
+use told_words::GoneOver;
 
-/// The file of the committee that may come next, and the replica's folder.
+/// The file of the committee that may come next, the replica's folder, and what is ready there for the next chain.
 #[derive(Drop)]
 pub(crate) struct Home<'a, T: Wait, S: Sink> {
     pub successor: Successor<'a, T, S>,
     pub folder: &'a str,
+    pub replica: u16,
+    /// The committee that it stands in.
+    pub standing: &'a Standing,
+    /// The stay that ends once it was said that it goes over.
+    pub start: &'a Start,
+    pub next: Mutex<Option<Next>>,
 }
 
 impl<T: Wait + Files<File = File>, S: Sink> Home<'_, T, S> {
@@ -28,15 +43,104 @@ impl<T: Wait + Files<File = File>, S: Sink> Home<'_, T, S> {
         let text = put_back_text(alloc, entries, header, certificate)?;
         put_down(files, &path, &text)
     }
+
+    /// The folder of the chains.
+    pub fn lineage(&self) -> LineageFolder<'_, T> {
+        LineageFolder {
+            files: self.successor.rt,
+            alloc: self.successor.alloc,
+            path: self.folder,
+        }
+    }
+
+    /// What is ready where it was said that it goes over.
+    pub fn taken_over(&self) -> Option<Next> {
+        let mut next = self.next.lock(self.successor.rt);
+        let next = &mut *next;
+        let is_said = match &*next {
+            Some(ready) => ready.handover.is_some(),
+            None => false,
+        };
+        if is_said { next.take() } else { None }
+    }
+
+    // Stores the word that it goes over by this block to the committee of this file.
+    fn store_word(&self, handover: &Id, file: &[u8]) -> Result<(), OverFault> {
+        let word = GoneOver {
+            file: Sha256::digest(file).into(),
+            handover: *handover,
+        };
+        let chain = self.successor.committee.chain();
+        let mut words = match self.lineage().words_of(&chain) {
+            Ok(words) => words,
+            Err(fault) => return Err(fault_of_words(fault)),
+        };
+        match words.go_over(word) {
+            Ok(()) => Ok(()),
+            Err(_) => {
+                self.successor.notes.put_down_failure();
+                Err(OverFault::Stopped)
+            }
+        }
+    }
 }
 
-impl<T: Wait + Files<File = File>, S: Sink> Approver for Home<'_, T, S> {
-    ghost use Rattle.signer_command.specs.Approved.{IsApprovable};
+impl<T: Threads + Wait + Files<File = File>, S: Sink> Approver for Home<'_, T, S> {
+    ghost use Rattle.signer_command.specs.Approved.{IsApprovable, first_payload};
 
-    ghost tells = { λ h told. IsApprovable h.successor.committee.now h.successor.path told };
+    ghost tells = { λ h. record {
+        approves = IsApprovable h.successor.committee.now h.successor.path;
+        begins = first_payload h.standing.now.handover;
+        over = λ _ _. Unit {0};
+    } };
 
     fn approved(&self) -> Option<[u8; 32]> {
         self.successor.approved()
+    }
+
+    fn begins(&self) -> Option<[u8; 32]> {
+        first_payload(&self.standing.handover)
+    }
+
+    fn prepare(&self, file: &[u8]) -> Result<Id, OverFault> {
+        let after = match CommitteeView::parse(file) {
+            Ok(after) => after,
+            Err(refusal) => return Err(OverFault::Committee(refusal)),
+        };
+        let chain = after.chain();
+        let mut next = self.next.lock(self.successor.rt);
+        let next = &mut *next;
+        match &*next {
+            Some(ready) if ready.chain == chain => return Ok(chain),
+            Some(ready) if ready.handover.is_some() => return Err(OverFault::Stopped),
+            _ => {}
+        }
+        *next = Some(ready_for(self, &after, file)?);
+        Ok(chain)
+    }
+
+    fn say(&self, handover: &Id, file: &[u8]) -> Result<(), OverFault> {
+        let mut next = self.next.lock(self.successor.rt);
+        let Some(ready) = &mut *next else {
+            return Err(OverFault::Stopped);
+        };
+        if ready.file.as_slice() != file {
+            return Err(OverFault::Stopped);
+        }
+        if ready.handover.is_none() {
+            self.store_word(handover, file)?;
+            ready.handover = Some(*handover);
+        }
+        self.start.end();
+        Ok(())
+    }
+
+    fn left_for(&self, chain: &Id) -> Result<Option<[u8; 32]>, OverFault> {
+        match self.lineage().said_of(chain) {
+            Ok(Some(word)) => Ok(Some(payload_of(&word.file))),
+            Ok(None) => Ok(None),
+            Err(fault) => Err(fault_of_words(fault)),
+        }
     }
 }
 

@@ -10,6 +10,7 @@ use std::io;
 use std::net::{Net, Shutdown, TcpListener, TcpStream};
 use std::os::fd::OwnedFd;
 use std::os::unix::net::UnixListener;
+use std::time::Duration;
 
 /// A socket that takes connections.
 #[derive(Drop)]
@@ -49,6 +50,15 @@ impl Listener {
             Listener::Unix(listener, _) => OwnedFd::from(listener.try_clone()?),
         };
         TcpStream::from(socket).shutdown(Shutdown::Both)
+    }
+
+    /// From here on an `accept` that has waited for so long gives up.
+    pub fn set_patience(&self, patience: Duration) -> io::Result<()> {
+        let socket = match self {
+            Listener::Tcp(listener) => OwnedFd::from(listener.try_clone()?),
+            Listener::Unix(listener, _) => OwnedFd::from(listener.try_clone()?),
+        };
+        TcpStream::from(socket).set_read_timeout(Some(patience))
     }
 
     /// Whether any program of this machine, and so a page in a browser, may connect.

@@ -2,7 +2,7 @@
 
 ghost use Rattle.std.specs.Prelude.{◌≡◌, true};
 
-use crate::handing_out::LogTalk;
+use crate::handing_out::{LogTalk, Past};
 use crate::heard::Hearing;
 use crate::link::{Answering, Asking, Link};
 use crate::listening::{Listener, Place};
@@ -10,8 +10,10 @@ use crate::pace::{Pace, tick};
 use crate::reading::{MOST_OF_A_CALL, Reader, SHORT, config};
 use crate::stay::{Room, THREADS_BESIDE};
 use crate::{handing_out, reading};
+use blocks::CommitteeView;
 use good_votes::SideBySide;
 use http_server::Connection;
+use lineage_folder::LineageFolder;
 use patient_calls::{CallTalk, CallsRead, ShortFirst};
 use patient_sockets::{Rules as CrowdRules, Talk, connections_at, most_open_files, talk_to_all};
 use signing_service::{
@@ -25,6 +27,7 @@ use std::net::{Net, TcpListener, TcpStream};
 use std::sync::Wait;
 use std::sync::atomic::{AtomicBool, AtomicU32, Ordering};
 use std::thread::Threads;
+use std::io::ErrorKind;
 use std::time::{Clock, Duration};
 use std::{io, thread};
 use streams::Sink;
@@ -75,22 +78,48 @@ pub(crate) struct Shop<
     pub start: &'a Start,
 }
 
-/// Whether all threads have begun, and whether they are to end.
+/// Whether all threads of a stay have begun, whether they are to end, and whether no other stay is to follow.
 #[derive(Drop)]
 pub(crate) struct Start {
     pub wanted: u32,
     pub begun: AtomicU32,
     pub ending: AtomicBool,
+    pub ended: AtomicBool,
 }
 
 impl Start {
-    /// So many threads are to begin.
+    /// So many threads are to begin in each stay.
     pub fn of(wanted: u32) -> Start {
         Start {
             wanted,
             begun: AtomicU32::new(0),
             ending: AtomicBool::new(false),
+            ended: AtomicBool::new(false),
         }
+    }
+
+    /// Another stay follows: none of its threads has begun. They are to end at once where all has ended meanwhile.
+    pub fn again(&self) {
+        self.begun.store(0, Ordering::SeqCst);
+        self.ending.store(false, Ordering::SeqCst);
+        if self.ended.load(Ordering::SeqCst) {
+            self.end();
+        }
+    }
+
+    /// Whether all threads have begun.
+    pub fn have_begun(&self) -> bool {
+        self.begun.load(Ordering::SeqCst) >= self.wanted
+    }
+
+    /// The stay is to end, and no other follows.
+    pub fn end_all(&self) {
+        self.ended.store(true, Ordering::SeqCst);
+        self.end();
+    }
+
+    pub fn has_ended(&self) -> bool {
+        self.ended.load(Ordering::SeqCst)
     }
 
     pub fn is_ending(&self) -> bool {
@@ -104,7 +133,7 @@ impl Start {
     /// Waits until all have begun; where one does not, all are to end. Answers whether they have.
     pub fn wait_for_all<T: Clock>(&self, rt: &T) -> bool {
         for _ in 0..MOST_LOOKS {
-            if self.begun.load(Ordering::SeqCst) >= self.wanted {
+            if self.have_begun() {
                 return true;
             }
             if self.is_ending() {
@@ -196,8 +225,26 @@ impl<
             alloc: self.alloc,
             desk: self.office.desk,
             chain: self.room.committee.chain(),
+            past: self.past(),
         };
         self.talk_at(place, &rules, &mut talk);
+    }
+
+    // Where the logs of earlier chains lie, and the first chain, where the signer goes over.
+    fn past(&self) -> Option<Past<'_, T>> {
+        if !self.room.words.renew {
+            return None;
+        }
+        let first = match self.room.standing.earlier.first() {
+            Some(file) => CommitteeView::parse(file).ok()?.chain(),
+            None => self.room.committee.chain(),
+        };
+        let folder = LineageFolder {
+            files: self.rt,
+            alloc: self.alloc,
+            path: self.room.words.folder,
+        };
+        Some(Past { folder, first })
     }
 
     // Talks over the connections of a place until the signer ends.
@@ -219,6 +266,8 @@ impl<
         let files = most_open_files(self.rt, self.alloc);
         let beside = &self.room.sockets;
         let sockets = u64::from(beside.reads.is_some()) + u64::from(beside.log.is_some());
+        // Each connection that is handed out an earlier log has its file open beside.
+        let files = if self.room.words.renew { files / 2 } else { files };
         let all = connections_at(files, u64::from(self.start.wanted), sockets);
         usize::try_from(all / u64::from(THREADS_BESIDE))
             .unwrap_or(0)
@@ -279,10 +328,16 @@ fn take_calls<
                 // Where it breaks off, the caller knows.
                 let _ = shop.answer_stream(&mut signer, &stream);
             }
+            Err(error) if has_waited(&error) => {}
             Err(_) => thread::sleep(shop.rt, tick()),
         }
     }
     signer.into_session()
+}
+
+// Whether nobody connected for as long as an `accept` waits.
+fn has_waited(error: &io::Error) -> bool {
+    matches!(error.kind(), ErrorKind::WouldBlock | ErrorKind::TimedOut)
 }
 
 // Takes calls that only read, of many at once, until the signer ends.

@@ -5,25 +5,31 @@ ghost use Rattle.streams.specs.Streams.{Wrote, WrotePart};
 ghost use Rattle.printed_lines.specs.Printed.{Told};
 ghost use Rattle.program_parts.specs.FaultLines.{fault_line};
 ghost use Rattle.program_parts.specs.Writes.{CountsOutput, CountsWrites};
-ghost use Rattle.signer_command.specs.Ends.{Fault as FaultValue, IsGivenUp, IsRun, IsStay, disk_fault, ended_of, fault_status, status_of};
+ghost use Rattle.signer_command.specs.Ends.{Fault as FaultValue, IsBacked, IsGivenUp, IsLate, IsRun, IsStay, disk_fault, ended_of, fault_status, status_of};
 ghost use Rattle.signer_command.specs.FaultLines.{own_line};
-ghost use Rattle.signer_command.specs.Lines.{closed_line};
+ghost use Rattle.blocks.specs.Committees.{IsCommittee};
+ghost use Rattle.signer_command.specs.Lines.{IsAnnounced, closed_line, listening_text};
+ghost use Rattle.signer_command.specs.Sockets.{places_of};
 ghost use Rattle.signer_command.specs.Ruled.{AreRuled, AreRulesOf, is_asked_over_tcp, is_heard_over_tcp, names_of};
 ghost use Rattle.signer_command.specs.declared.program.Ended.TheVariants.{Done, Stopped};
 
+use crate::announcing::{Announced, Crew, announce, text_of};
 use crate::fault::{Fault, SignerFault, in_folder};
+use crate::lineage::{Stand, stand_in};
 use crate::listening::{Place, listen, listen_at_home};
 use crate::marks::{DiskFailedPlaces, MarkAt};
 use crate::notes::Notes;
 use crate::socket_file::{Callers, SocketFault, is_too_long, listen_at};
-use crate::stay::{Room, Sockets, THREADS_BESIDE, stay_once};
+use crate::pool::Start;
+use crate::stay::{Sockets, THREADS_BESIDE, threads_of};
+use crate::staying::{Halls, stay_on};
 use crate::words::{Where, Words, read_words};
 use asked_logs::can_be_enough;
 use blocks::CommitteeView;
 use itoa::Buffer;
 use printed_lines::Line;
 use program_parts::{FAULT, ProgramFault, parse_committee, read_committee, write_out};
-use replica_command::{ReplicaFault, ReplicaFile, ReplicaFolder};
+use replica_command::{ReplicaFile, ReplicaFolder};
 use signing_service::Rules;
 use stable_log::{Disk, FileDisk};
 use std::alloc::{AllocError, Global};
@@ -34,10 +40,10 @@ use std::os::unix::fs::PermissionsExt;
 use std::random::RandomSource;
 use std::sync::Wait;
 use std::thread::Threads;
-use std::time::Clock;
-use std::{fs, io};
+use std::time::{Clock, Duration};
+use std::{fs, io, thread};
 use streams::{Feed, Sink};
-use vote_desk::{Closed, Parts};
+use vote_desk::Closed;
 
 /// The input ended, and no disk had failed.
 pub const DONE: u8 = 0;
@@ -48,6 +54,9 @@ pub const REFUSED: u8 = 4;
 
 /// The bits of a folder's mode by which others than its owner write in it.
 const OTHERS_WRITE: u32 = 0o022;
+
+/// How long a thread of a signer that goes over waits for a caller before it looks whether it does.
+const PATIENCE_MILLISECONDS: u64 = 100;
 
 /// What a signer works with.
 #[derive(Drop)]
@@ -170,29 +179,24 @@ where
         Ok(asked) => asked,
         Err(fault) => return Err(fault),
     };
-    let committee = match committee_in(host.alloc, &words, &bytes) {
-        Ok(committee) => committee,
-        Err(fault) => return Err(fault),
-    };
+    if let Err(fault) = see_committee(host.alloc, &words, &bytes) {
+        return Err(fault);
+    }
     let places = places_of_failure(&words);
     let notes = Notes::new(host.rt, host.alloc, notes, words.verbose, places);
-    match stand_by(host, &words, &committee, &notes, input, out) {
+    match stand_by(host, &words, bytes, &notes, input, out) {
         Ok(closed) => end_of(&closed, out),
         Err(fault) => Err(fault),
     }
 }
 
-// The committee of these bytes, over which the words may ask for a signer.
-fn committee_in<'a, 'b>(
-    alloc: Global,
-    words: &Words<'_>,
-    bytes: &'b [u8],
-) -> Result<CommitteeView<'b>, Fault<'a>>
-    ensures { IfErr result (λ fault. fault ≢ ProgramFault.Output) }
+// Sees that the bytes are a committee's, over which the words may ask for a signer.
+fn see_committee<'a>(alloc: Global, words: &Words<'_>, bytes: &[u8]) -> Result<(), Fault<'a>>
+    ensures ok { OnOk result (IsCommittee bytes.now) }
+    ensures refused { IfErr result (λ fault. fault ≢ ProgramFault.Output) }
 {
     let committee = parse_committee(bytes)?;
-    see_sources(alloc, words, &committee)?;
-    Ok(committee)
+    see_sources(alloc, words, &committee)
 }
 
 // Whether each source is of a replica of the committee.
@@ -264,7 +268,7 @@ fn print_count<'a, W: Sink>(count: usize, out: &mut W) -> Result<(), Fault<'a>>
     write_out(out, line.as_bytes())
 }
 
-// From the folder's lock to the desk's end.
+// From the folder's lock to the last desk's end.
 fn stand_by<
     'a,
     T: Files<File = File>
@@ -280,33 +284,115 @@ fn stand_by<
 >(
     host: &Host<'_, T>,
     words: &Words<'a>,
-    committee: &CommitteeView<'_>,
+    committee: Vec<u8>,
     notes: &Notes<'_, T, S>,
     input: &mut R,
     out: &mut W,
 ) -> Result<Closed<FileDisk>, Fault<'a>>
 where
     T::Dir: Send,
+    requires { IsCommittee committee.items }
     ensures done { IfOk result (IsStay (W.text out.old) (W.text out.new)) }
     ensures given_up { IfErr result (λ fault. IsGivenUp fault (W.text out.old) (W.text out.new)) }
     ensures counted { CountsWrites result (W.failed out.old) (W.failed out.new) }
 {
-    let (lock, parts, sockets) = match opened(host, words, committee, notes) {
+    let (lock, stand, sockets) = match opened(host, words, committee, notes) {
         Ok(opened) => opened,
         Err(fault) => return Err(fault),
     };
-    let room = Room {
-        rt: host.rt,
-        alloc: host.alloc,
-        words,
-        committee,
-        sessions: sessions_of(words),
-        sockets: &sockets,
-        notes,
+    let Ok(text) = text_of(host.alloc, &sockets) else {
+        return Err(Fault::Memory);
     };
-    let closed = stay_once(&room, parts, input, out);
+    let start = Start::of(threads_of(words, sessions_of(words)));
+    let halls = Halls {
+        host,
+        words,
+        notes,
+        sockets: &sockets,
+        start: &start,
+    };
+    let ended = stay_and_announce(&halls, stand, &text, input, out);
     drop(lock);
-    closed
+    ended
+}
+
+// The stays, and beside them what says that calls are taken.
+fn stay_and_announce<
+    'a,
+    T: Files<File = File>
+        + Threads
+        + Wait
+        + Clock
+        + Net<Listener = TcpListener, Stream = TcpStream>
+        + RandomSource
+        + Sync,
+    R: Feed,
+    W: Sink,
+    S: Sink + Send,
+>(
+    halls: &Halls<'_, 'a, T, S>,
+    stand: Stand,
+    text: &[u8],
+    input: &mut R,
+    out: &mut W,
+) -> Result<Closed<FileDisk>, Fault<'a>>
+where
+    T::Dir: Send,
+    requires ruled { AreRuled halls.now.words.now halls.now.sockets.now }
+    requires text { text.now ≡ listening_text (places_of halls.now.sockets.now) }
+    ensures done { IfOk result (IsStay (W.text out.old) (W.text out.new)) }
+    ensures given_up { IfErr result (λ fault. IsGivenUp fault (W.text out.old) (W.text out.new)) }
+    ensures counted { CountsWrites result (W.failed out.old) (W.failed out.new) }
+{
+    let crew = Crew {
+        rt: halls.host.rt,
+        sockets: halls.sockets,
+        start: halls.start,
+        while_input: halls.words.while_input,
+    };
+    match joined(halls, &crew, stand, text, input, out) {
+        (_, Announced::Unsaid) => Err(Fault::Output),
+        (Err(fault), _) => Err(fault),
+        (Ok(_), Announced::NotBegun) => Err(Fault::Own(SignerFault::Threads)),
+        (Ok(closed), Announced::Over) => Ok(closed),
+    }
+}
+
+// Both at once.
+fn joined<
+    'a,
+    T: Files<File = File>
+        + Threads
+        + Wait
+        + Clock
+        + Net<Listener = TcpListener, Stream = TcpStream>
+        + RandomSource
+        + Sync,
+    R: Feed,
+    W: Sink,
+    S: Sink + Send,
+>(
+    halls: &Halls<'_, 'a, T, S>,
+    crew: &Crew<'_, T>,
+    stand: Stand,
+    text: &[u8],
+    input: &mut R,
+    out: &mut W,
+) -> (Result<Closed<FileDisk>, Fault<'a>>, Announced)
+where
+    T::Dir: Send,
+    requires { AreRuled halls.now.words.now halls.now.sockets.now }
+    ensures backed { IfOk result.0 IsBacked }
+    ensures refused { IfErr result.0 IsLate }
+    ensures announced { IsAnnounced result.1 (W.text out.old) (W.text out.new) (W.failed out.old)
+        (W.failed out.new) text.now }
+{
+    let mut stand = Some(stand);
+    thread::join_mut(
+        halls.host.rt,
+        &mut || stay_on(halls, stand.take()),
+        &mut || announce(crew, text, &mut *input, &mut *out),
+    )
 }
 
 // The folder's lock, what is stored there, and the sockets.
@@ -322,9 +408,10 @@ fn opened<
 >(
     host: &Host<'_, T>,
     words: &Words<'a>,
-    committee: &CommitteeView<'_>,
+    committee: Vec<u8>,
     notes: &Notes<'_, T, S>,
-) -> Result<(File, Parts<FileDisk>, Sockets), Fault<'a>>
+) -> Result<(File, Stand, Sockets), Fault<'a>>
+    requires { IsCommittee committee.items }
     ensures ruled { IfOk result (λ opened. AreRuled words.now opened.2) }
     ensures refused { IfErr result (λ fault. fault ≢ ProgramFault.Output) }
 {
@@ -339,9 +426,9 @@ fn opened<
     };
     let lock = locked(&folder, path)?;
     see_no_failure_beside(host, words)?;
-    let parts = parts_of(&folder, words, committee, notes)?;
+    let stand = stand_in(host, words, notes, committee)?;
     let sockets = sockets_of(host, words)?;
-    Ok((lock, parts, sockets))
+    Ok((lock, stand, sockets))
 }
 
 // Where it is written down that a disk failed: in the folder, and beside a socket that has a path of its own.
@@ -393,25 +480,8 @@ fn locked<'a, T: Files<File = File>>(
     }
 }
 
-// What is stored in the folder. Where a disk failed under it that is written down, as under a desk: another start may find the disk
-// sound, and not what was not synced.
-fn parts_of<'a, T: Files<File = File> + Threads + Wait + Sync, S: Sink>(
-    folder: &ReplicaFolder<'_, T>,
-    words: &Words<'a>,
-    committee: &CommitteeView<'_>,
-    notes: &Notes<'_, T, S>,
-) -> Result<Parts<FileDisk>, Fault<'a>>
-    ensures { IfErr result (λ fault. fault ≢ ProgramFault.Output) }
-{
-    match folder.open_parts(folder.files, committee, words.replica) {
-        Ok(parts) => Ok(parts),
-        Err(ReplicaFault::Device) => Err(disk_fault(words, notes.put_down_failure())),
-        Err(fault) => Err(in_folder(words.folder, fault)),
-    }
-}
-
 // The fault of a disk that failed, by where that is written down: the folder is named, too, where it is nowhere.
-fn disk_fault<'a>(words: &Words<'a>, at: Option<MarkAt>) -> Fault<'a>
+pub(crate) fn disk_fault<'a>(words: &Words<'a>, at: Option<MarkAt>) -> Fault<'a>
     ensures value { result ≡ disk_fault words.now.folder words.now.listen at }
     ensures status { fault_status result ≡ 4 }
     ensures output { result ≢ ProgramFault.Output }
@@ -431,7 +501,7 @@ fn is_open_to_others<T: Files<File = File>>(files: &T, path: &str) -> bool {
 }
 
 // So many sessions as callers are answered at once, and two for those that only read.
-fn sessions_of(words: &Words<'_>) -> u8
+pub(crate) fn sessions_of(words: &Words<'_>) -> u8
     ensures least { 1 ≤ result }
     ensures most { result ≤ 64 }
 {
@@ -457,6 +527,11 @@ fn sockets_of<
     let Ok(keys) = RandomState::new(host.rt) else {
         return Err(Fault::Own(SignerFault::Listen));
     };
+    // A thread that waits for a caller sees by itself that the signer goes over.
+    let patience = Duration::from_millis(PATIENCE_MILLISECONDS);
+    if words.renew && calls.listener.set_patience(patience).is_err() {
+        return Err(Fault::Own(SignerFault::Listen));
+    }
     Ok(Sockets {
         calls,
         reads,
@@ -480,6 +555,7 @@ fn rules_of(
         over_tcp,
         hosts: copy_of(alloc, &words.hosts)?,
         reads_only,
+        renews: words.renew,
         furthest: words.furthest,
     })
 }

@@ -1,18 +1,14 @@
 //! One stay of a replica at its desk, while callers ask.
 
-ghost use Rattle.std.specs.Prelude.{◌≡◌, ◌≤◌, ◌⊎◌, ℕ, IfErr, IfOk, OnOk, length};
-ghost use Rattle.streams.specs.Streams.{Wrote};
-ghost use Rattle.program_parts.specs.Writes.{CountsWrites};
+ghost use Rattle.std.specs.Prelude.{◌≡◌, ◌≤◌, IfErr, IfOk, length};
 ghost use Rattle.vote_desk.specs.Receipts.{AreReceipts};
-ghost use Rattle.signer_command.specs.Ends.{IsGivenUp};
-ghost use Rattle.signer_command.specs.Lines.{IsAnnounced, listening_text};
+ghost use Rattle.signer_command.specs.Ends.{IsLate};
 ghost use Rattle.signer_command.specs.Ruled.{AreRuled, asks_of};
-ghost use Rattle.signer_command.specs.Sockets.{places_of};
 
-use crate::announcing::{Announced, announce, text_of};
 use crate::fault::{Fault, SignerFault};
 use crate::heard::Hearing;
 use crate::home::Home;
+use crate::lineage::Next;
 use crate::listening::Place;
 use crate::notes::Notes;
 use crate::pool::{Job, Shop, Start, work_all};
@@ -20,9 +16,10 @@ use crate::successor::Successor;
 use crate::words::Words;
 use blocks::CommitteeView;
 use good_votes::{GoodVotes, SideBySide};
-use program_parts::{ProgramFault, SourceWord};
+use lineage_folder::Standing;
+use program_parts::SourceWord;
 use signing_service::{
-    Approver, Commits, Gate, Keeper, Office, PutBack, Reception, Rules, Sources, Tallies, Witness,
+    Commits, Gate, Office, PutBack, Reception, Rules, Sources, Tallies,
 };
 use stable_log::{Disk, FileDisk};
 use std::alloc::{AllocError, Global};
@@ -30,12 +27,11 @@ use std::fs::{File, Files};
 use std::hash::RandomState;
 use std::marker::Brand;
 use std::net::{Net, TcpListener, TcpStream};
-use std::sync::Wait;
+use std::sync::{Mutex, Wait};
 use std::sync::ledger::Blank;
-use std::thread;
 use std::thread::Threads;
 use std::time::{Clock, SystemTime, UNIX_EPOCH};
-use streams::{Feed, Sink};
+use streams::Sink;
 use vote_desk::{Closed, Desk, DeskError, DeskNaming, Parts, Session, StartError};
 
 /// The sockets of a signer, and what the callers of each are let do.
@@ -63,6 +59,9 @@ pub(crate) struct Room<'a, T: Wait, S: Sink> {
     pub sessions: u8,
     pub sockets: &'a Sockets,
     pub notes: &'a Notes<'a, T, S>,
+    /// The committee that it stands in, among those that it went over from.
+    pub standing: &'a Standing,
+    pub start: &'a Start,
     pub ghost least: { 1 ≤ sessions },
     pub ghost most: { sessions ≤ 64 },
 }
@@ -78,7 +77,6 @@ struct Shared<'a, N: DeskNaming, T: Wait + Files<File = File>, S: Sink, D: Disk>
     gate: Gate<N, D>,
     sources: Sources,
     hearing: Hearing,
-    start: Start,
 }
 
 impl<'a, N: DeskNaming, T: Wait + Clock + Files<File = File>, S: Sink, D: Disk> Shared<
@@ -88,15 +86,16 @@ impl<'a, N: DeskNaming, T: Wait + Clock + Files<File = File>, S: Sink, D: Disk> 
     S,
     D,
 > {
-    // For so many threads: who calls waits for others where the words name sources, and who says which committee may come next is
-    // the file that they name.
-    fn new(room: &Room<'a, T, S>, threads: usize) -> Result<Shared<'a, N, T, S, D>, AllocError>
+    // Who calls waits for others where the words name sources, and who says which committee may come next is the file that they name.
+    fn new(room: &Room<'a, T, S>) -> Result<Shared<'a, N, T, S, D>, AllocError>
         ensures asks { IfOk result (λ shared.
             shared.gate.asks ≡ asks_of room.now.words.now.sources.items) }
         ensures path { IfOk result (λ shared.
             shared.home.successor.path ≡ room.now.words.now.successor) }
         ensures committee { IfOk result (λ shared.
             shared.home.successor.committee.now ≡ room.now.committee.now) }
+        ensures handover { IfOk result (λ shared.
+            shared.home.standing.now.handover ≡ room.now.standing.now.handover) }
     {
         Ok(Shared {
             commits: Commits::new(),
@@ -105,18 +104,28 @@ impl<'a, N: DeskNaming, T: Wait + Clock + Files<File = File>, S: Sink, D: Disk> 
             home: Home {
                 successor: Successor::new(room),
                 folder: room.words.folder,
+                replica: room.words.replica,
+                standing: room.standing,
+                start: room.start,
+                next: Mutex::new(None),
             },
             put_back: PutBack::new(),
             gate: Gate::new(asks(&room.words.sources)),
             sources: Sources::new(room.alloc, room.words.sources.len())?,
             hearing: Hearing::new(room.alloc, room.committee.n())?,
-            start: Start::of(u32::try_from(threads).unwrap_or(u32::MAX)),
         })
     }
 }
 
 // What the threads share, of what a stay has.
-fn shop_of<'x, 'h, N: DeskNaming, T: Threads + Wait + Clock + Files<File = File>, S: Sink, D: Disk>(
+fn shop_of<
+    'x,
+    'h,
+    N: DeskNaming,
+    T: Threads + Wait + Clock + Files<File = File> + Sync,
+    S: Sink,
+    D: Disk,
+>(
     room: &'x Room<'h, T, S>,
     desk: &'x Desk<N, D>,
     shared: &'x Shared<'h, N, T, S, D>,
@@ -163,7 +172,7 @@ fn shop_of<'x, 'h, N: DeskNaming, T: Threads + Wait + Clock + Files<File = File>
         gate: &shared.gate,
         sources: &shared.sources,
         hearing: &shared.hearing,
-        start: &shared.start,
+        start: room.start,
     }
 }
 
@@ -173,7 +182,15 @@ fn asks(sources: &[SourceWord<'_>]) -> bool
     !sources.is_empty()
 }
 
-/// One stay at a desk of its own. Where calls are taken is said once they are.
+/// What one stay left.
+#[derive(Drop)]
+pub(crate) struct Left<D: Disk> {
+    pub closed: Closed<D>,
+    /// What it goes on with, where it was said that it goes over.
+    pub next: Option<Next>,
+}
+
+/// One stay at a desk of its own.
 pub(crate) fn stay_once<
     'a,
     T: Threads
@@ -183,31 +200,15 @@ pub(crate) fn stay_once<
         + Net<Listener = TcpListener, Stream = TcpStream>
         + Sync,
     S: Sink + Send,
-    R: Feed,
-    W: Sink,
->(
-    room: &Room<'_, T, S>,
-    parts: Parts<FileDisk>,
-    input: &mut R,
-    out: &mut W,
-) -> Result<Closed<FileDisk>, Fault<'a>>
+>(room: &Room<'_, T, S>, parts: Parts<FileDisk>) -> Result<Left<FileDisk>, Fault<'a>>
 where
     T::Dir: Send,
     requires ruled { AreRuled room.now.words.now room.now.sockets.now }
-    ensures receipts { IfOk result (λ closed.
-        AreReceipts (length parts.log.steps) closed.parts.log.steps closed.receipts.items) }
-    ensures said { OnOk result (Wrote (W.text out.old) (W.text out.new)
-        (listening_text (places_of room.now.sockets.now))) }
-    ensures given_up { IfErr result (λ fault. IsGivenUp fault (W.text out.old) (W.text out.new)) }
-    ensures counted { CountsWrites result (W.failed out.old) (W.failed out.new) }
+    ensures receipts { IfOk result (λ left.
+        AreReceipts (length parts.log.steps) left.closed.parts.log.steps left.closed.receipts.items) }
+    ensures refused { IfErr result IsLate }
 {
-    stay::<Brand, T, S, FileDisk, R, W>(
-        room,
-        Blank::new(u64::from(room.sessions)),
-        parts,
-        input,
-        out,
-    )
+    stay::<Brand, T, S, FileDisk>(room, Blank::new(u64::from(room.sessions)), parts)
 }
 
 // One stay of the replica at its desk.
@@ -222,15 +223,7 @@ fn stay<
         + Sync,
     S: Sink + Send,
     D: Disk + Send + Sync,
-    R: Feed,
-    W: Sink,
->(
-    room: &Room<'_, T, S>,
-    blank: Blank,
-    parts: Parts<D>,
-    input: &mut R,
-    out: &mut W,
-) -> Result<Closed<D>, Fault<'a>>
+>(room: &Room<'_, T, S>, blank: Blank, parts: Parts<D>) -> Result<Left<D>, Fault<'a>>
 where
     T::Dir: Send,
     requires ruled { AreRuled room.now.words.now room.now.sockets.now }
@@ -239,27 +232,26 @@ where
     requires committee { room.now.committee.now ≡ N.committee }
     requires replica { room.now.words.now.replica ≡ N.replica }
     requires opening { parts.log.steps ≡ N.opening }
-    ensures receipts { IfOk result (λ closed.
-        AreReceipts (length N.opening) closed.parts.log.steps closed.receipts.items) }
-    ensures said { OnOk result (Wrote (W.text out.old) (W.text out.new)
-        (listening_text (places_of room.now.sockets.now))) }
-    ensures given_up { IfErr result (λ fault. IsGivenUp fault (W.text out.old) (W.text out.new)) }
-    ensures counted { CountsWrites result (W.failed out.old) (W.failed out.new) }
+    ensures receipts { IfOk result (λ left.
+        AreReceipts (length N.opening) left.closed.parts.log.steps left.closed.receipts.items) }
+    ensures refused { IfErr result IsLate }
 {
     let (desk, sessions) = match open::<N, T, S, D>(room, blank, parts) {
         Ok(opened) => opened,
         Err(fault) => return Err(fault),
     };
-    match answer_all(&*room, &desk, sessions, input, out) {
-        Ok(left) => match close(room.alloc, desk, left) {
-            Ok(closed) => Ok(closed),
-            Err(fault) => Err(fault),
-        },
+    let (sessions, next) = match answer_all(&*room, &desk, sessions) {
+        Ok(left) => left,
+        Err(fault) => return Err(fault),
+    };
+    match close(room.alloc, desk, sessions) {
+        Ok(closed) => Ok(Left { closed, next }),
         Err(fault) => Err(fault),
     }
 }
 
-// Lets a thread with each session take calls, until they are to end. Answers what they hand back.
+// Lets a thread with each session take calls, until they are to end. Answers what they hand back, and what is ready where it was said
+// that the signer goes over.
 fn answer_all<
     N: DeskNaming + Send + Sync,
     T: Threads
@@ -270,51 +262,38 @@ fn answer_all<
         + Sync,
     S: Sink + Send,
     D: Disk + Send + Sync,
-    R: Feed,
-    W: Sink,
 >(
     room: &Room<'_, T, S>,
     desk: &Desk<N, D>,
     sessions: Vec<Session<N>>,
-    input: &mut R,
-    out: &mut W,
-) -> Result<Vec<Option<Session<N>>>, Fault<'static>>
+) -> Result<(Vec<Option<Session<N>>>, Option<Next>), Fault<'static>>
 where
     T::Dir: Send,
     requires ruled { AreRuled room.now.words.now room.now.sockets.now }
     requires committee { room.now.committee.now ≡ N.committee }
     requires replica { room.now.words.now.replica ≡ N.replica }
-    ensures said { OnOk result (Wrote (W.text out.old) (W.text out.new)
-        (listening_text (places_of room.now.sockets.now))) }
-    ensures given_up { IfErr result (λ fault. IsGivenUp fault (W.text out.old) (W.text out.new)) }
-    ensures counted { CountsWrites result (W.failed out.old) (W.failed out.new) }
+    ensures refused { IfErr result IsLate }
 {
-    let Ok((jobs, text)) = prepared(room, sessions) else {
+    let Ok(jobs) = jobs_of(
+        room.alloc,
+        sessions,
+        room.sockets,
+        room.words.sources.len(),
+    ) else {
         return Err(Fault::Memory);
     };
-    let Ok(shared) = Shared::new(room, jobs.len()) else {
+    let Ok(shared) = Shared::new(room) else {
         return Err(Fault::Memory);
     };
     let checker = SideBySide::new(room.rt, &shared.good);
     let shop = shop_of(&*room, &*desk, &shared, &checker);
-    match work_and_announce(&shop, jobs, &text, input, out) {
-        (Announced::Unsaid, _) => Err(Fault::Output),
-        (_, Err(_)) => Err(Fault::Memory),
-        (Announced::NotBegun, Ok(_)) => Err(Fault::Own(SignerFault::Threads)),
-        (Announced::Over, Ok(left)) => Ok(left),
+    let Ok(left) = work_all(&shop, Some(jobs)) else {
+        return Err(Fault::Memory);
+    };
+    if !room.start.have_begun() {
+        return Err(Fault::Own(SignerFault::Threads));
     }
-}
-
-// What the threads are to do, and what is said once they have begun.
-fn prepared<N: DeskNaming, T: Wait, S: Sink>(
-    room: &Room<'_, T, S>,
-    sessions: Vec<Session<N>>,
-) -> Result<(Vec<Job<N>>, Vec<u8>), AllocError>
-    ensures { IfOk result (λ r.
-        r.1.items ≡ listening_text (places_of room.now.sockets.now)) }
-{
-    let jobs = jobs_of(room.alloc, sessions, room.sockets, room.words.sources.len())?;
-    Ok((jobs, text_of(room.alloc, room.sockets)?))
+    Ok((left, shared.home.taken_over()))
 }
 
 fn open<N: DeskNaming, T: Wait, S: Sink, D: Disk>(
@@ -327,7 +306,7 @@ fn open<N: DeskNaming, T: Wait, S: Sink, D: Disk>(
     requires committee { room.now.committee.now ≡ N.committee }
     requires replica { room.now.words.now.replica ≡ N.replica }
     requires opening { parts.log.steps ≡ N.opening }
-    ensures refused { IfErr result (λ fault. (fault ≡ ProgramFault.Memory) ⊎ ((number : ℕ) × (fault ≡ ProgramFault.Own (SignerFault.Store number)))) }
+    ensures refused { IfErr result IsLate }
 {
     let replica = room.words.replica;
     match Desk::<N, D>::start(
@@ -344,42 +323,6 @@ fn open<N: DeskNaming, T: Wait, S: Sink, D: Disk>(
     }
 }
 
-// The threads at work, until they are to end, and beside them what says that calls are taken.
-fn work_and_announce<
-    N: DeskNaming + Send + Sync,
-    T: Threads
-        + Wait
-        + Clock
-        + Files<File = File>
-        + Net<Listener = TcpListener, Stream = TcpStream>
-        + Sync,
-    S: Sink + Send,
-    D: Disk + Send + Sync,
-    K: Approver + Keeper + Send + Sync,
-    V: Witness + Sync,
-    R: Feed,
-    W: Sink,
->(
-    shop: &Shop<'_, '_, N, T, S, D, K, V>,
-    jobs: Vec<Job<N>>,
-    text: &[u8],
-    input: &mut R,
-    out: &mut W,
-) -> (Announced, Result<Vec<Option<Session<N>>>, AllocError>)
-where
-    T::Dir: Send,
-    ensures { IsAnnounced result.0 (W.text out.old) (W.text out.new) (W.failed out.old)
-        (W.failed out.new) text.now }
-{
-    let mut jobs = Some(jobs);
-    let (left, announced) = thread::join_mut(
-        shop.rt,
-        &mut || work_all(shop, jobs.take()),
-        &mut || announce(shop.rt, shop.room, shop.start, text, &mut *input, &mut *out),
-    );
-    (announced, left)
-}
-
 // Hands all sessions back to the desk.
 fn close<N: DeskNaming, D: Disk>(
     alloc: Global,
@@ -388,7 +331,7 @@ fn close<N: DeskNaming, D: Disk>(
 ) -> Result<Closed<D>, Fault<'static>>
     ensures receipts { IfOk result (λ closed.
         AreReceipts (length N.opening) closed.parts.log.steps closed.receipts.items) }
-    ensures refused { IfErr result (λ fault. (fault ≡ ProgramFault.Memory) ⊎ (fault ≡ ProgramFault.Own SignerFault.Receipts)) }
+    ensures refused { IfErr result IsLate }
 {
     let sessions = sessions_in(alloc, left)?;
     match desk.close(alloc, sessions) {
@@ -396,6 +339,13 @@ fn close<N: DeskNaming, D: Disk>(
         Err((DeskError::Memory, _)) => Err(Fault::Memory),
         Err(_) => Err(Fault::Own(SignerFault::Receipts)),
     }
+}
+
+/// How many threads a stay has: one for each session, two that hand out the log, and one for each source.
+pub(crate) fn threads_of(words: &Words<'_>, sessions: u8) -> u32 {
+    let log = if words.serve.is_some() { THREADS_BESIDE } else { 0 };
+    let sources = u32::try_from(words.sources.len()).unwrap_or(u32::MAX);
+    sources.saturating_add(u32::from(sessions) + u32::from(log))
 }
 
 // A job for each session, where the first two are of those who only read, if they may, two that hand out the log, and one for each

@@ -73,6 +73,8 @@ pub(crate) struct Words<'a> {
     pub group: bool,
     pub while_input: bool,
     pub verbose: bool,
+    /// Whether it goes over from one committee to the next.
+    pub renew: bool,
 }
 
 /// Reads the words, without the program's name. Refused as usage where they are not written as docs/hs_signer.md says.
@@ -125,7 +127,8 @@ fn with_switches<'a>(alloc: Global, grammar: Grammar<'a>) -> Result<Grammar<'a>,
     grammar
         .arg(switch(alloc, "group"))?
         .arg(switch(alloc, "while-input"))?
-        .arg(switch(alloc, "verbose"))
+        .arg(switch(alloc, "verbose"))?
+        .arg(switch(alloc, "renew"))
 }
 
 fn switch<'a>(alloc: Global, name: &'a str) -> Arg<'a> {
@@ -164,11 +167,13 @@ fn given<'a>(alloc: Global, matches: &ArgMatches<'a>) -> Result<Words<'a>, Fault
         group: is_set(matches, "group"),
         while_input: is_set(matches, "while-input"),
         verbose: is_set(matches, "verbose"),
+        renew: is_set(matches, "renew"),
     };
     judged(words)
 }
 
-// No place and no path is empty, and the ledger's group is let in at a path that was named alone: the replica's folder is its own.
+// No place and no path is empty, and the ledger's group is let in at a path that was named alone: the replica's folder is its own. Who
+// goes over asks others in each chain.
 fn judged<'a>(words: Words<'a>) -> Result<Words<'a>, Fault<'a>>
     ensures { IfErr result (λ fault. fault ≢ ProgramFault.Output) }
 {
@@ -178,6 +183,9 @@ fn judged<'a>(words: Words<'a>) -> Result<Words<'a>, Fault<'a>>
         return Err(ProgramFault::Usage);
     }
     if is_empty(words.read) || is_empty(words.serve) || is_empty(words.successor) {
+        return Err(ProgramFault::Usage);
+    }
+    if words.renew && words.sources.is_empty() {
         return Err(ProgramFault::Usage);
     }
     Ok(words)

@@ -385,6 +385,7 @@ fn told<R: Abort + Threads + Wait + Clock>(
         over_tcp: false,
         hosts: Vec::new(alloc),
         reads_only: false,
+        renews: false,
         furthest: 4096,
     };
     let parts = parts(rt, alloc, &committee, replica);

@@ -5,8 +5,8 @@ use Rattle.signer_command.proofs.program.run.Goals as goal
 pub returns-in-Err-clause-given_up : goal.returns-in-Err-clause-given_up
 returns-in-Err-clause-given_up g c = nothing_given_up _ _
 
-pub returns-in-Err-committee_in-clause-given_up : goal.returns-in-Err-committee_in-clause-given_up
-returns-in-Err-committee_in-clause-given_up g c = nothing_given_up _ _
+pub returns-in-Err-see_committee-clause-given_up : goal.returns-in-Err-see_committee-clause-given_up
+returns-in-Err-see_committee-clause-given_up g c = nothing_given_up _ _
 
 pub returns-in-Ok-stand_by-clause-done : goal.returns-in-Ok-stand_by-clause-done
 returns-in-Ok-stand_by-clause-done g c =

@@ -1,0 +1,188 @@
+//! The chains that a signer goes over through, and what it stands on in each.
+
+ghost use Rattle.std.specs.Prelude.{◌≡◌, ◌≢◌, IfErr, IfOk};
+ghost use Rattle.blocks.specs.Committees.{IsCommittee};
+ghost use Rattle.signer_command.specs.Ends.{IsLate};
+
+use crate::fault::{Fault, SignerFault, in_folder, of_lineage};
+use crate::notes::Notes;
+use crate::program::{Host, disk_fault};
+use crate::words::Words;
+use blocks::{CommitteeView, Id};
+use key_index_store::IndexStore;
+use lineage_folder::{KeySet, LineageFolder, Standing};
+use replica_command::{ReplicaFault, ReplicaFolder};
+use stable_log::FileDisk;
+use std::alloc::Global;
+use std::fs::{File, Files};
+use std::sync::Wait;
+use std::thread::Threads;
+use streams::Sink;
+use vote_desk::Parts;
+use vote_log::VoteLog;
+
+/// What a signer stands on in the chain that it is in.
+#[derive(Drop)]
+pub(crate) struct Stand {
+    pub at: Standing,
+    pub parts: Parts<FileDisk>,
+    /// The lock of the folder of its keys, where that is not DIR itself.
+    pub lock: Option<File>,
+}
+
+/// What it goes on with behind its word.
+#[derive(Drop)]
+pub(crate) enum Goods {
+    /// Keys of their own, and the lock of their folder.
+    New(Parts<FileDisk>, File),
+    /// The keys that it has, and the log of the next chain.
+    Kept(VoteLog<FileDisk>),
+}
+
+/// What is ready in the chain of the next committee.
+#[derive(Drop)]
+pub(crate) struct Next {
+    pub chain: Id,
+    pub file: Vec<u8>,
+    pub goods: Goods,
+    /// The block by which it was said to be gone over to, once it was.
+    pub handover: Option<Id>,
+}
+
+/// The folder of the chains, where the words ask for a signer that goes over.
+pub(crate) fn folder_of<'a, T: Files<File = File>>(
+    files: &'a T,
+    alloc: Global,
+    words: &Words<'a>,
+) -> LineageFolder<'a, T> {
+    LineageFolder {
+        files,
+        alloc,
+        path: words.folder,
+    }
+}
+
+/// What a signer stands on whose folder began with the committee of this file, of which the folder's lock is held.
+pub(crate) fn stand_in<'a, T: Files<File = File> + Threads + Wait + Sync, S: Sink>(
+    host: &Host<'_, T>,
+    words: &Words<'a>,
+    notes: &Notes<'_, T, S>,
+    first: Vec<u8>,
+) -> Result<Stand, Fault<'a>>
+    requires { IsCommittee first.items }
+    ensures at { IfOk result (λ stand. IsCommittee stand.at.committee.items) }
+    ensures refused { IfErr result IsLate }
+{
+    let at = if words.renew {
+        standing(host, words, first)?
+    } else {
+        Standing::first(host.alloc, first)
+    };
+    let (parts, lock) = opened_at(host, words, notes, &at)?;
+    Ok(Stand { at, parts, lock })
+}
+
+fn standing<'a, T: Files<File = File>>(
+    host: &Host<'_, T>,
+    words: &Words<'a>,
+    first: Vec<u8>,
+) -> Result<Standing, Fault<'a>>
+    requires { IsCommittee first.items }
+    ensures at { IfOk result (λ at. IsCommittee at.committee.items) }
+    ensures refused { IfErr result IsLate }
+{
+    let folder = LineageFolder {
+        files: host.rt,
+        alloc: host.alloc,
+        path: words.folder,
+    };
+    if let Ok(committee) = CommitteeView::parse(&first)
+        && let Err(fault) = folder.begin(&committee.chain())
+    {
+        return Err(of_lineage(fault));
+    }
+    match folder.stand(first, words.replica) {
+        Ok(at) => Ok(at),
+        Err(fault) => Err(of_lineage(fault)),
+    }
+}
+
+// The keys, their indices and the log of the chain where it stands, and the lock of the keys' folder.
+fn opened_at<'a, T: Files<File = File> + Threads + Wait + Sync, S: Sink>(
+    host: &Host<'_, T>,
+    words: &Words<'a>,
+    notes: &Notes<'_, T, S>,
+    at: &Standing,
+) -> Result<(Parts<FileDisk>, Option<File>), Fault<'a>>
+    requires { IsCommittee at.now.committee.items }
+    ensures { IfErr result IsLate }
+{
+    let Ok(committee) = CommitteeView::parse(&at.committee) else {
+        return Err(Fault::Own(SignerFault::Endless));
+    };
+    match try_open(host, words, &committee, at) {
+        Ok(opened) => Ok(opened),
+        Err(ReplicaFault::Memory) => Err(Fault::Memory),
+        Err(ReplicaFault::Device) => Err(disk_fault(words, notes.put_down_failure())),
+        Err(ReplicaFault::File(_)) if words.renew => {
+            Err(Fault::Own(SignerFault::Lineage(committee.chain())))
+        }
+        Err(ReplicaFault::Output) => Err(Fault::Memory),
+        Err(fault) => Err(in_folder(words.folder, fault)),
+    }
+}
+
+fn try_open<T: Files<File = File> + Threads + Wait + Sync>(
+    host: &Host<'_, T>,
+    words: &Words<'_>,
+    committee: &CommitteeView<'_>,
+    at: &Standing,
+) -> Result<(Parts<FileDisk>, Option<File>), ReplicaFault> {
+    let folder = LineageFolder {
+        files: host.rt,
+        alloc: host.alloc,
+        path: words.folder,
+    };
+    let place = folder.keys_at(at.keys)?;
+    let keys = ReplicaFolder {
+        files: host.rt,
+        alloc: host.alloc,
+        path: &place,
+    };
+    if !words.renew {
+        let parts = keys.open_parts(host.rt, committee, words.replica)?;
+        return Ok((parts, None));
+    }
+    let lock = match at.keys {
+        KeySet::First => None,
+        KeySet::Behind(_) => Some(keys.lock()?),
+    };
+    let logs = folder.chain_folder(&committee.chain())?;
+    let parts = keys.open_parts_with(host.rt, committee, words.replica, &logs)?;
+    see_earlier(&folder, at, words.replica, &parts.index)?;
+    Ok((parts, lock))
+}
+
+// Refuses an index store that is older than the log of an earlier chain in which the replica had the same keys.
+fn see_earlier<T: Files<File = File>>(
+    folder: &LineageFolder<'_, T>,
+    at: &Standing,
+    replica: u16,
+    index: &IndexStore<FileDisk>,
+) -> Result<(), ReplicaFault> {
+    let alike = usize::try_from(at.alike).unwrap_or(usize::MAX);
+    let from = at.earlier.len().saturating_sub(alike);
+    for file in at.earlier.get(from..).unwrap_or(&[]) {
+        let Ok(committee) = CommitteeView::parse(file) else {
+            continue;
+        };
+        let place = folder.chain_folder(&committee.chain())?;
+        let logs = ReplicaFolder {
+            files: folder.files,
+            alloc: folder.alloc,
+            path: &place,
+        };
+        let _log = logs.open_log(index, &committee, replica)?;
+    }
+    Ok(())
+}
