@@ -23,7 +23,7 @@ module _ {D : Type 0} (disk : Ghosts D) (committee : List ℕ) (replica : ℕ) w
   -- ---- calls
 
   -- a delivery is answered, or refused; or there is a timeout; or the desk is only read; or the log is not touched, as where a
-  -- block is held only. A block is delivered unvoted by two of these, a timeout and a delivery
+  -- block is held only, or a statement signed. A block is delivered unvoted by two of these, a timeout and a delivery
   abbrev pub IsCall : (old new : DeskView D) → Type 0
   IsCall old new =
       ((b : CheckedBlock) × (reply : Reply) × Replies disk committee replica b reply old new)

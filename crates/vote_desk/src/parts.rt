@@ -21,7 +21,7 @@ pub struct Parts<D: Disk> {
 /// What a desk has left to work with.
 #[derive(Clone, Copy, Debug, PartialEq, Eq)]
 pub struct Left {
-    /// How many votes the replica's keys can still sign, 0 where the index store is stopped. A restart skips some.
+    /// How many votes and statements the replica's keys can still sign, 0 where the index store is stopped. A restart skips some.
     pub indices: u32,
     /// How many entries the log has room for, of 4,096.
     pub entries: usize,
