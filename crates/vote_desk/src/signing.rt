@@ -100,10 +100,10 @@ fn seal_under(trees: &[SigningTree], index: u32, message: &[u8]) -> Seal
     ensures index { index_shown result ≡ index }
     ensures verifies { IsSealedWith (seed_of trees.now result.key) message.now result }
 {
-    let key = key_of(index);
+    let number = key_of(index);
     Seal {
-        key,
-        signature: trees[key as usize].sign_at(q_of(index), message),
+        key: number,
+        signature: trees[number as usize].sign_at(q_of(index), message),
     }
 }
 
@@ -136,6 +136,6 @@ pub(crate) fn draw_seal<D: Disk>(
 {
     // For the proof: there are no more than the most keys.
     let _keys = indices.keys();
-    let index = indices.next()?;
-    Ok(seal_under(trees, index, message))
+    let drawn = indices.next()?;
+    Ok(seal_under(trees, drawn, message))
 }
