@@ -15,6 +15,14 @@ pub enum Command<'a> {
         folder: &'a str,
         key: KeyNumber,
     },
+    /// `keygen --random DIR --behind COMMITTEE R [--keys K]`
+    NextKeys {
+        folder: &'a str,
+        committee: &'a str,
+        replica: u16,
+        /// As many as the replica has in the committee where no number is said.
+        count: Option<KeyCount>,
+    },
     /// `committee F OUT KEY..`
     Committee {
         f: u16,
@@ -64,6 +72,35 @@ pub enum SeedWord<'a> {
     Random,
     /// The digits that stand on the standard input.
     Stdin,
+}
+
+/// How many keys a replica gets: 1 to 4.
+#[derive(Clone, Copy, Debug)]
+pub struct KeyCount {
+    count: u8,
+    pub ghost least: { 1 ≤ count },
+    pub ghost most: { count ≤ 4 },
+}
+
+impl KeyCount {
+    /// So many keys, where they are 1 to 4.
+    pub fn of(count: u16) -> Option<KeyCount>
+        ensures { MatchOption result (1 ≤ count → count ≤ 4 → ⊥) (λ k. k.count ≡ count) }
+    {
+        if count < 1 || count > 4 {
+            return None;
+        }
+        Some(KeyCount { count: count as u8 })
+    }
+
+    /// How many they are.
+    pub fn count(self) -> u8
+        ensures value { result ≡ self.count }
+        ensures least { 1 ≤ result }
+        ensures most { result ≤ 4 }
+    {
+        self.count
+    }
 }
 
 /// A replica that has a weight, by the files of its keys.

@@ -33,7 +33,14 @@ fn with_keygen<'a>(alloc: Global, grammar: Grammar<'a>) -> Result<Grammar<'a>, A
         .arg(flag(alloc, "random"))?
         .arg(flag(alloc, "stdin"))?
         .arg(Arg::new(alloc, "K").long("key"))?;
-    grammar.subcommand(keygen)
+    grammar.subcommand(with_next_keys(alloc, keygen)?)
+}
+
+// Keys behind a committee: its file and the replica, and how many.
+fn with_next_keys<'a>(alloc: Global, keygen: Grammar<'a>) -> Result<Grammar<'a>, AllocError> {
+    keygen
+        .arg(Arg::new(alloc, "BEHIND").long("behind").num_args(2))?
+        .arg(Arg::new(alloc, "KEYS").long("keys"))
 }
 
 // A word of its own, as `--random`.

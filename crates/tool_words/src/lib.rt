@@ -7,6 +7,7 @@ mod grammar;
 mod reading;
 
 pub use command::{
-    AuditWishes, Command, Requests, SeedWord, Service, Strictness, Tries, WeightedReplica, Workers,
+    AuditWishes, Command, KeyCount, Requests, SeedWord, Service, Strictness, Tries,
+    WeightedReplica, Workers,
 };
 pub use reading::{WordsFault, read_words};

@@ -2,10 +2,12 @@
 
 ghost use Rattle.std.specs.Prelude.{◌≡◌, ◌≢◌, ◌≤◌, ◌<◌, ◌^◌, [], ℕ, IfErr, IfOk, IfSome, MatchOption, None, Ok, decimal, false, true};
 ghost use Rattle.program_parts.specs.Words.{SpellsNumber};
-ghost use Rattle.tool_words.specs.Commands.{HasItsCounts, IsAskedBy, IsWeighted};
+ghost use Rattle.tool_words.specs.Commands.{AreNextKeysAsked, HasItsCounts, IsAskedBy, IsCountAsked, IsWeighted};
+ghost use Rattle.tool_words.specs.declared.command.Command.{Command as CommandValue};
 
 use crate::command::{
-    AuditWishes, Command, Requests, SeedWord, Service, Strictness, Tries, WeightedReplica, Workers,
+    AuditWishes, Command, KeyCount, Requests, SeedWord, Service, Strictness, Tries,
+    WeightedReplica, Workers,
 };
 use crate::grammar::parsed;
 use clap::ArgMatches;
@@ -80,6 +82,7 @@ fn command<'a>(alloc: Global, matches: &ArgMatches<'a>) -> Result<Command<'a>, W
     }
 }
 
+// The next keys behind a committee, or the key of a seed.
 fn keygen<'a>(given: &ArgMatches<'a>) -> Result<Command<'a>, WordsFault>
     ensures asked { IfOk result (λ command. command ≢ Command.Usage) }
     ensures counts { IfOk result HasItsCounts }
@@ -90,10 +93,47 @@ fn keygen<'a>(given: &ArgMatches<'a>) -> Result<Command<'a>, WordsFault>
     if folder.is_empty() {
         return Err(WordsFault::Usage);
     }
-    Ok(Command::Keygen {
-        seed,
+    let (key, keys) = (given.get_str("K"), given.get_str("KEYS"));
+    match (given.get_strs("BEHIND"), keys) {
+        (Some([committee, replica]), _) => next_keys(seed, folder, committee, replica, key, keys),
+        (None, None) => Ok(Command::Keygen {
+            seed,
+            folder,
+            key: key_number(key)?,
+        }),
+        _ => Err(WordsFault::Usage),
+    }
+}
+
+// COMMITTEE, and R below 65,536. The seeds are drawn, and the keys have the numbers from 0 on: `--random` alone, and no `--key`.
+fn next_keys<'a>(
+    seed: SeedWord<'a>,
+    folder: &'a str,
+    committee: &'a str,
+    replica: &str,
+    key: Option<&str>,
+    keys: Option<&str>,
+) -> Result<Command<'a>, WordsFault>
+    ensures asked { IfOk result (AreNextKeysAsked seed.entry folder.entry committee.entry replica.now
+        key.entry keys.entry) }
+    ensures refused { IfErr result (λ fault. (fault ≡ WordsFault.Usage)
+        × ((command : CommandValue) → AreNextKeysAsked seed.entry folder.entry committee.entry replica.now
+        key.entry keys.entry command → ⊥)) }
+{
+    let (SeedWord::Random, None) = (seed, key) else {
+        return Err(WordsFault::Usage);
+    };
+    if committee.is_empty() {
+        return Err(WordsFault::Usage);
+    }
+    let Some(replica) = number(replica) else {
+        return Err(WordsFault::Usage);
+    };
+    Ok(Command::NextKeys {
         folder,
-        key: key_number(given.get_str("K"))?,
+        committee,
+        replica,
+        count: key_count(keys)?,
     })
 }
 
@@ -118,6 +158,21 @@ fn key_number(word: Option<&str>) -> Result<KeyNumber, WordsFault> {
         Some(2) => Ok(KeyNumber::Two),
         Some(3) => Ok(KeyNumber::Three),
         _ => Err(WordsFault::Usage),
+    }
+}
+
+// How many keys a word says, if it is said: 1 to 4.
+fn key_count(word: Option<&str>) -> Result<Option<KeyCount>, WordsFault>
+    ensures asked { IfOk result (IsCountAsked word.entry) }
+    ensures refused { IfErr result (λ fault. (fault ≡ WordsFault.Usage)
+        × MatchOption word.entry ⊥ (λ w. (n : ℕ) → 1 ≤ n → n ≤ 4 → SpellsNumber w.now n → ⊥)) }
+{
+    let Some(word) = word else {
+        return Ok(None);
+    };
+    match keys(word) {
+        Some(count) => Ok(Some(count)),
+        None => Err(WordsFault::Usage),
     }
 }
 
@@ -374,6 +429,13 @@ fn workers(word: &str) -> Option<Workers>
         (λ w. SpellsNumber word.now w.count) }
 {
     Workers::of(number(word)?)
+}
+
+fn keys(word: &str) -> Option<KeyCount>
+    ensures { MatchOption result ((n : ℕ) → 1 ≤ n → n ≤ 4 → SpellsNumber word.now n → ⊥)
+        (λ k. SpellsNumber word.now k.count) }
+{
+    KeyCount::of(number(word)?)
 }
 
 fn tries(word: &str) -> Option<Tries>
