@@ -8,7 +8,7 @@ _wezhgula_options() {
         hs_watch) echo --every --reread --listen --host --name --state --keep-most --until-culprit --until-input-ends --export --help --version ;;
         hs_follow) echo --proof --help --version ;;
         hs_draw) echo --help --version ;;
-        'hs_tool keygen') echo --key --random --stdin ;;
+        'hs_tool keygen') echo --key --random --stdin --behind --keys ;;
         'hs_tool replica') echo --workers --serve --requests ;;
         'hs_tool audit') echo --tries --strict --strict-all --why --keep --json --time ;;
     esac

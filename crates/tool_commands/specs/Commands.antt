@@ -7,10 +7,11 @@ use Rattle.log_transfer.specs.declared.connector.Connector.{Ghosts as ConnectorG
 use Rattle.log_transfer.specs.declared.source_connector.ServerOrFile.{ServerOrFile}
 use Rattle.replica_lines.specs.declared.request.LineRequest.{LineRequest}
 use Rattle.tool_words.specs.declared.command.Command.{Command}
-use Rattle.tool_words.specs.declared.command.Command.TheVariants.{Usage, Keygen, Committee, Weighted, Replica, Audit, Migrate, Export}
+use Rattle.tool_words.specs.declared.command.Command.TheVariants.{Usage, Keygen, NextKeys, Committee, Weighted, Replica, Audit, Migrate, Export}
 use Rattle.tool_commands.specs.AuditFiles.{HasStored}
 use Rattle.tool_commands.specs.Audits.{AreCulpritsPrinted, IsEnoughPrinted, IsTooLittlePrinted}
 use Rattle.tool_commands.specs.Lines.{IsChainPrinted, IsExportPrinted, IsKeyPrinted, IsMigrationPrinted, IsTextOfKeys, IsTextOfReplicas}
+use Rattle.tool_commands.specs.NextKeys.{AreNextKeysPrinted}
 use Rattle.tool_commands.specs.Notes.{TellsNotes}
 use Rattle.tool_commands.specs.Seeds.{IsSeedOf}
 use Rattle.tool_commands.specs.Stays.{AreReadOf, IsReplicaDone, IsStopPrinted}
@@ -37,6 +38,7 @@ lend disk connector draws feed old new stored = record { disk = disk; connector 
 abbrev pub IsDone : {D S F : Type 0} → Lent D S F → Command → (before after : Option (List ℕ)) → Type 0
 IsDone lent Usage before after = Wrote before after usage_text
 IsDone lent (Keygen seed folder key) before after = IsKeyPrinted (IsSeedOf lent.draws lent.rest seed) before after
+IsDone lent (NextKeys folder committee replica count) before after = AreNextKeysPrinted lent.draws replica count before after
 IsDone lent (Committee f out keys) before after = IsChainPrinted (IsTextOfKeys f (length keys.items)) before after
 IsDone lent (Weighted out replicas) before after = IsChainPrinted (IsTextOfReplicas replicas.items) before after
 IsDone lent (Replica committee replica folder workers service) before after = IsReplicaDone lent.disk lent.requests replica service before after

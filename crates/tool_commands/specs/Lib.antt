@@ -6,6 +6,7 @@ pub mod FaultLines
 pub mod HandedOver
 pub mod Keeping
 pub mod Lines
+pub mod NextKeys
 pub mod Notes
 pub mod Occupied
 pub mod OpenedSources

@@ -10,6 +10,7 @@ mod handed_over;
 mod host;
 mod keep;
 mod keygen;
+mod keys_behind;
 mod migrate;
 mod occupied;
 mod progress;

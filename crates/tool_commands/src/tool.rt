@@ -14,6 +14,7 @@ use crate::export::export_log;
 use crate::fault::Fault;
 use crate::host::Host;
 use crate::keygen::keygen;
+use crate::keys_behind::next_keys;
 use crate::migrate::migrate_log;
 use crate::replica::replica;
 use crate::stored::{Extras, StoreFiles};
@@ -260,6 +261,15 @@ where
         }
         Command::Keygen { seed, folder, key } => {
             keygen(host, seeds, *seed, folder, *key, lines, out)?;
+            Ok(Ended::Done)
+        }
+        Command::NextKeys {
+            folder,
+            committee,
+            replica: number,
+            count,
+        } => {
+            next_keys(host, seeds, folder, committee, *number, *count, out)?;
             Ok(Ended::Done)
         }
         Command::Committee { f, out: path, keys } => {
