@@ -53,9 +53,9 @@ impl Approver for NoSuccessor {
     ghost use Rattle.std.specs.Prelude.{◌≡◌, None};
 
     ghost tells = { λ _. record {
-        approves = λ told. told ≡ None;
-        begins = None;
-        over = λ _ _. Unit {0};
+      approves = λ told. told ≡ None;
+      begins = None;
+      over = λ _ _. Unit {0};
     } };
 
     fn approved(&self) -> Option<[u8; 32]> {

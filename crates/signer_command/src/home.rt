@@ -89,9 +89,9 @@ impl<T: Threads + Wait + Files<File = File>, S: Sink> Approver for Home<'_, T, S
     ghost use Rattle.signer_command.specs.Approved.{IsApprovable, first_payload};
 
     ghost tells = { λ h. record {
-        approves = IsApprovable h.successor.committee.now h.successor.path;
-        begins = first_payload h.standing.now.handover;
-        over = λ _ _. Unit {0};
+      approves = IsApprovable h.successor.committee.now h.successor.path;
+      begins = first_payload h.standing.now.handover;
+      over = λ _ _. Unit {0};
     } };
 
     fn approved(&self) -> Option<[u8; 32]> {

@@ -23,11 +23,11 @@ use stable_log::Disk;
 use std::alloc::{AllocError, Global};
 use std::cell::Cell;
 use std::fs::{File, Files};
+use std::io::ErrorKind;
 use std::net::{Net, TcpListener, TcpStream};
 use std::sync::Wait;
 use std::sync::atomic::{AtomicBool, AtomicU32, Ordering};
 use std::thread::Threads;
-use std::io::ErrorKind;
 use std::time::{Clock, Duration};
 use std::{io, thread};
 use streams::Sink;
@@ -267,7 +267,11 @@ impl<
         let beside = &self.room.sockets;
         let sockets = u64::from(beside.reads.is_some()) + u64::from(beside.log.is_some());
         // Each connection that is handed out an earlier log has its file open beside.
-        let files = if self.room.words.renew { files / 2 } else { files };
+        let files = if self.room.words.renew {
+            files / 2
+        } else {
+            files
+        };
         let all = connections_at(files, u64::from(self.start.wanted), sockets);
         usize::try_from(all / u64::from(THREADS_BESIDE))
             .unwrap_or(0)

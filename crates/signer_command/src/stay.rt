@@ -18,17 +18,15 @@ use blocks::CommitteeView;
 use good_votes::{GoodVotes, SideBySide};
 use lineage_folder::Standing;
 use program_parts::SourceWord;
-use signing_service::{
-    Commits, Gate, Office, PutBack, Reception, Rules, Sources, Tallies,
-};
+use signing_service::{Commits, Gate, Office, PutBack, Reception, Rules, Sources, Tallies};
 use stable_log::{Disk, FileDisk};
 use std::alloc::{AllocError, Global};
 use std::fs::{File, Files};
 use std::hash::RandomState;
 use std::marker::Brand;
 use std::net::{Net, TcpListener, TcpStream};
-use std::sync::{Mutex, Wait};
 use std::sync::ledger::Blank;
+use std::sync::{Mutex, Wait};
 use std::thread::Threads;
 use std::time::{Clock, SystemTime, UNIX_EPOCH};
 use streams::Sink;
@@ -274,12 +272,7 @@ where
     requires replica { room.now.words.now.replica ≡ N.replica }
     ensures refused { IfErr result IsLate }
 {
-    let Ok(jobs) = jobs_of(
-        room.alloc,
-        sessions,
-        room.sockets,
-        room.words.sources.len(),
-    ) else {
+    let Ok(jobs) = jobs_of(room.alloc, sessions, room.sockets, room.words.sources.len()) else {
         return Err(Fault::Memory);
     };
     let Ok(shared) = Shared::new(room) else {
@@ -343,7 +336,11 @@ fn close<N: DeskNaming, D: Disk>(
 
 /// How many threads a stay has: one for each session, two that hand out the log, and one for each source.
 pub(crate) fn threads_of(words: &Words<'_>, sessions: u8) -> u32 {
-    let log = if words.serve.is_some() { THREADS_BESIDE } else { 0 };
+    let log = if words.serve.is_some() {
+        THREADS_BESIDE
+    } else {
+        0
+    };
     let sources = u32::try_from(words.sources.len()).unwrap_or(u32::MAX);
     sources.saturating_add(u32::from(sessions) + u32::from(log))
 }

@@ -584,12 +584,7 @@ impl<N: DeskNaming, D: Disk> Desk<N, D> {
 
     /// Takes the lock, which may wait, and looks for the lowest marked block in the chain of the held header of this id, that one among
     /// them. None where none is marked, or no header of this id is held.
-    pub fn first_marked<R: Wait>(
-        &self,
-        rt: &R,
-        id: &Id,
-        mark: &[u8; MARK_LEN],
-    ) -> Option<Header>
+    pub fn first_marked<R: Wait>(&self, rt: &R, id: &Id, mark: &[u8; MARK_LEN]) -> Option<Header>
         ensures { SomeDesk (IsDeskOf D.Disk N.committee N.replica N.opening)
             (λ d. MatchOption result (HasNoMarkedIn d.core mark.now id.now)
             (IsFirstMarkedIn d.core mark.now id.now)) }
