@@ -5,7 +5,8 @@ use Rattle.streams.proofs.Writing.{wrote_both, wrote_nothing, wrote_part}
 use Rattle.printed_lines.proofs.Pieces.{part_of_front, part_behind}
 use Rattle.std.proofs.lemmas.List.{take_all}
 use Rattle.program_parts.specs.declared.program_fault.ProgramFault.TheVariants as program
-use Rattle.signer_command.specs.Ends.{Fault, IsGivenUp, IsLate, IsPart}
+use Rattle.program_parts.specs.Writes.{CountsOutput}
+use Rattle.signer_command.specs.Ends.{Fault, IsEndBehind, IsGivenUp, IsLate, IsPart}
 use Rattle.signer_command.specs.Lines.{IsAnnounced, Places, closed_line, listening_text}
 use Rattle.signer_command.specs.declared.announcing.Announced.{Announced}
 use Rattle.signer_command.specs.declared.announcing.Announced.TheVariants.{NotBegun, Unsaid, Over}
@@ -99,3 +100,30 @@ pub all_printed : (before mid after : Option (List ℕ)) (places : Places) (coun
 all_printed before mid after places count entries listening closed is =
     subst (λ (n : ℕ). Wrote before after (listening_text places ++ closed_line n)) is
     (wrote_both before mid after (listening_text places) (closed_line count) listening closed)
+
+-- a fault that may come late is not the output's
+late_is_not_output : (fault : Fault) → IsLate fault → fault ≡ program.Output → ⊥
+late_is_not_output fault late is = subst (λ (f : Fault). IsLate f) is late
+
+-- what was printed where a signer ends behind what came of saying that calls are taken
+pub ended_part : (announced : Announced) (fault : Fault) (before after : Option (List ℕ)) (failures failures' : ℕ) (places : Places) (text : List ℕ)
+    → text ≡ listening_text places → IsAnnounced announced before after failures failures' text → IsEndBehind announced fault → IsGivenUp fault before after
+ended_part Unsaid fault before after failures failures' places text is said ends =
+    given_up_writing fault before after ends (announced_part Unsaid before after failures failures' places text is said)
+ended_part NotBegun fault before after failures failures' places text is said ends =
+    given_up_late fault before after ends (announced_part NotBegun before after failures failures' places text is said)
+ended_part Over fault before after failures failures' places text is said ends =
+    given_up_late fault before after ends (announced_part Over before after failures failures' places text is said)
+
+-- .. and which writes failed
+pub ended_counts : (announced : Announced) (fault : Fault) (before after : Option (List ℕ)) (failures failures' : ℕ) (text : List ℕ)
+    → IsAnnounced announced before after failures failures' text → IsEndBehind announced fault → CountsOutput fault failures failures'
+ended_counts Unsaid fault before after failures failures' text said ends = (λ is. said.1, λ not. absurd (not ends))
+ended_counts NotBegun fault before after failures failures' text said ends = (λ is. absurd (late_is_not_output fault ends is), λ not. said.1)
+ended_counts Over fault before after failures failures' text said ends = (λ is. absurd (late_is_not_output fault ends is), λ not. said.1)
+
+-- .. or none, where all was said
+pub over_counts : (announced : Announced) (before after : Option (List ℕ)) (failures failures' : ℕ) (text : List ℕ)
+    → announced ≡ Over → IsAnnounced announced before after failures failures' text → failures' ≡ failures
+over_counts announced before after failures failures' text over said =
+    (subst (λ (a : Announced). IsAnnounced a before after failures failures' text) over said).1

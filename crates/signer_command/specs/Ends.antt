@@ -9,6 +9,8 @@ use Rattle.replica_command.specs.declared.fault.ReplicaFile.TheVariants.{DiskFai
 use Rattle.vote_desk.specs.Receipts.{AreReceipts}
 use Rattle.vote_desk.specs.declared.parts.Closed.{Closed}
 use Rattle.signer_command.specs.Lines.{Places, closed_line, listening_text}
+use Rattle.signer_command.specs.declared.announcing.Announced.{Announced}
+use Rattle.signer_command.specs.declared.announcing.Announced.TheVariants.{NotBegun, Over, Unsaid}
 use Rattle.signer_command.specs.declared.fault.SignerFault.{SignerFault}
 use Rattle.signer_command.specs.declared.fault.SignerFault.TheVariants.{DiskFailed, Endless, FileIn, Lineage, Receipts, Store, Threads}
 use Rattle.signer_command.specs.declared.marks.MarkAt.{MarkAt}
@@ -42,6 +44,12 @@ IsLate (program.Own (DiskFailed socket)) = Unit {0}
 IsLate (program.Own (Lineage chain)) = Unit {0}
 IsLate (program.Own Endless) = Unit {0}
 IsLate fault = ⊥
+
+-- why a signer ends behind what came of saying that calls are taken: the output, or such a fault
+abbrev pub IsEndBehind : Announced → Fault → Type 0
+IsEndBehind Unsaid fault = fault ≡ program.Output
+IsEndBehind NotBegun fault = IsLate fault
+IsEndBehind Over fault = IsLate fault
 
 -- what was printed by then: nothing, but where such a fault or the output is why
 abbrev pub IsGivenUp : Fault → Option (List ℕ) → Option (List ℕ) → Type 0

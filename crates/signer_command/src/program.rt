@@ -5,7 +5,7 @@ ghost use Rattle.streams.specs.Streams.{Wrote, WrotePart};
 ghost use Rattle.printed_lines.specs.Printed.{Told};
 ghost use Rattle.program_parts.specs.FaultLines.{fault_line};
 ghost use Rattle.program_parts.specs.Writes.{CountsOutput, CountsWrites};
-ghost use Rattle.signer_command.specs.Ends.{Fault as FaultValue, IsBacked, IsGivenUp, IsLate, IsRun, IsStay, disk_fault, ended_of, fault_status, status_of};
+ghost use Rattle.signer_command.specs.Ends.{Fault as FaultValue, IsBacked, IsEndBehind, IsGivenUp, IsLate, IsRun, IsStay, disk_fault, ended_of, fault_status, status_of};
 ghost use Rattle.signer_command.specs.FaultLines.{own_line};
 ghost use Rattle.blocks.specs.Committees.{IsCommittee};
 ghost use Rattle.signer_command.specs.Lines.{IsAnnounced, closed_line, listening_text};
@@ -300,8 +300,9 @@ where
         Ok(opened) => opened,
         Err(fault) => return Err(fault),
     };
-    let Ok(text) = text_of(host.alloc, &sockets) else {
-        return Err(Fault::Memory);
+    let text = match text_of(host.alloc, &sockets) {
+        Ok(text) => text,
+        Err(_) => return Err(Fault::Memory),
     };
     let start = Start::of(threads_of(words, sessions_of(words)));
     let halls = Halls {
@@ -338,7 +339,6 @@ fn stay_and_announce<
 ) -> Result<Closed<FileDisk>, Fault<'a>>
 where
     T::Dir: Send,
-    requires ruled { AreRuled halls.now.words.now halls.now.sockets.now }
     requires text { text.now ≡ listening_text (places_of halls.now.sockets.now) }
     ensures done { IfOk result (IsStay (W.text out.old) (W.text out.new)) }
     ensures given_up { IfErr result (λ fault. IsGivenUp fault (W.text out.old) (W.text out.new)) }
@@ -350,11 +350,34 @@ where
         start: halls.start,
         while_input: halls.words.while_input,
     };
-    match joined(halls, &crew, stand, text, input, out) {
-        (_, Announced::Unsaid) => Err(Fault::Output),
-        (Err(fault), _) => Err(fault),
-        (Ok(_), Announced::NotBegun) => Err(Fault::Own(SignerFault::Threads)),
-        (Ok(closed), Announced::Over) => Ok(closed),
+    let (ended, announced) = joined(halls, &crew, stand, text, input, out);
+    match end_of_both(ended, announced) {
+        Ok(closed) => Ok(closed),
+        Err(fault) => Err(fault),
+    }
+}
+
+// What came of the stays, unless it could not be said that calls are taken.
+fn end_of_both<'a>(
+    ended: Result<Closed<FileDisk>, Fault<'a>>,
+    announced: Announced,
+) -> Result<Closed<FileDisk>, Fault<'a>>
+    requires backed { IfOk ended IsBacked }
+    requires late { IfErr ended IsLate }
+    ensures backed { IfOk result IsBacked }
+    ensures over { OnOk result (announced ≡ Announced.Over) }
+    ensures refused { IfErr result (IsEndBehind announced) }
+{
+    match announced {
+        Announced::Unsaid => Err(Fault::Output),
+        Announced::NotBegun => match ended {
+            Ok(_) => Err(Fault::Own(SignerFault::Threads)),
+            Err(fault) => Err(fault),
+        },
+        Announced::Over => match ended {
+            Ok(closed) => Ok(closed),
+            Err(fault) => Err(fault),
+        },
     }
 }
 
@@ -381,7 +404,6 @@ fn joined<
 ) -> (Result<Closed<FileDisk>, Fault<'a>>, Announced)
 where
     T::Dir: Send,
-    requires { AreRuled halls.now.words.now halls.now.sockets.now }
     ensures backed { IfOk result.0 IsBacked }
     ensures refused { IfErr result.0 IsLate }
     ensures announced { IsAnnounced result.1 (W.text out.old) (W.text out.new) (W.failed out.old)

@@ -32,6 +32,7 @@ pub(crate) struct Halls<'h, 'a, T: Wait, S: Sink> {
     pub notes: &'h Notes<'h, T, S>,
     pub sockets: &'h Sockets,
     pub start: &'h Start,
+    pub ghost ruled: { AreRuled words.now sockets.now },
 }
 
 /// What is left of a stay: what the next one stands on, or its desk as it was closed.
@@ -54,7 +55,6 @@ pub(crate) fn stay_on<
 >(halls: &Halls<'_, 'a, T, S>, stand: Option<Stand>) -> Result<Closed<FileDisk>, Fault<'a>>
 where
     T::Dir: Send,
-    requires { AreRuled halls.now.words.now halls.now.sockets.now }
     ensures backed { IfOk result IsBacked }
     ensures refused { IfErr result IsLate }
 {
@@ -76,7 +76,6 @@ fn stay_while_over<
 >(halls: &Halls<'_, 'a, T, S>, stand: Option<Stand>) -> Result<Closed<FileDisk>, Fault<'a>>
 where
     T::Dir: Send,
-    requires { AreRuled halls.now.words.now halls.now.sockets.now }
     ensures backed { IfOk result IsBacked }
     ensures refused { IfErr result IsLate }
 {
@@ -107,29 +106,11 @@ fn stay_in<
 >(halls: &Halls<'_, 'a, T, S>, stand: Stand) -> Result<After, Fault<'a>>
 where
     T::Dir: Send,
-    requires { AreRuled halls.now.words.now halls.now.sockets.now }
     ensures backed { IfOk result IsBackedAfter }
     ensures refused { IfErr result IsLate }
 {
     let Stand { at, parts, lock } = stand;
-    let left = match CommitteeView::parse(&at.committee) {
-        Ok(committee) => {
-            let room = Room {
-                rt: halls.host.rt,
-                alloc: halls.host.alloc,
-                words: halls.words,
-                committee: &committee,
-                sessions: sessions_of(halls.words),
-                sockets: halls.sockets,
-                notes: halls.notes,
-                standing: &at,
-                start: halls.start,
-            };
-            stay_once(&room, parts)
-        }
-        Err(_) => Err(Fault::Own(SignerFault::Endless)),
-    };
-    let left = match left {
+    let left = match stay_at(halls, &at, parts) {
         Ok(left) => left,
         Err(fault) => return Err(fault),
     };
@@ -145,6 +126,47 @@ where
     }
 }
 
+// The stay in this committee.
+fn stay_at<
+    'a,
+    T: Threads
+        + Wait
+        + Clock
+        + Files<File = File>
+        + Net<Listener = TcpListener, Stream = TcpStream>
+        + Sync,
+    S: Sink + Send,
+>(
+    halls: &Halls<'_, 'a, T, S>,
+    at: &Standing,
+    parts: Parts<FileDisk>,
+) -> Result<Left<FileDisk>, Fault<'a>>
+where
+    T::Dir: Send,
+    ensures backed { IfOk result (λ left. IsBacked left.closed) }
+    ensures refused { IfErr result IsLate }
+{
+    let committee = match CommitteeView::parse(&at.committee) {
+        Ok(committee) => committee,
+        Err(_) => return Err(Fault::Own(SignerFault::Endless)),
+    };
+    let room = Room {
+        rt: halls.host.rt,
+        alloc: halls.host.alloc,
+        words: halls.words,
+        committee: &committee,
+        sessions: sessions_of(halls.words),
+        sockets: halls.sockets,
+        notes: halls.notes,
+        standing: at,
+        start: halls.start,
+    };
+    match stay_once(&room, parts) {
+        Ok(left) => Ok(left),
+        Err(fault) => Err(fault),
+    }
+}
+
 // Where the signer stands behind its word.
 fn go_on<'a, T: Wait, S: Sink>(
     halls: &Halls<'_, 'a, T, S>,
@@ -153,7 +175,8 @@ fn go_on<'a, T: Wait, S: Sink>(
     parts: Parts<FileDisk>,
     next: Next,
 ) -> Result<After, Fault<'a>>
-    ensures { IfErr result IsLate }
+    ensures backed { IfOk result IsBackedAfter }
+    ensures refused { IfErr result IsLate }
 {
     let Next {
         chain,
