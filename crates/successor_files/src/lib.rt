@@ -3,6 +3,8 @@
 
 mod payload;
 mod refusal;
+mod slots;
+mod taken;
 
 pub use payload::successor_payload;
 pub use refusal::SuccessorRefusal;

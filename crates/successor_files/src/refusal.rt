@@ -14,7 +14,10 @@ pub enum SuccessorRefusal {
     NotRead,
     /// It is no committee's.
     Committee(CommitteeRefusal),
-    /// 8: the key of this number is a key of the old committee too, and it is the least such number.
+    /// 8: the key of this number is a key of the old committee too, or of one of the earlier ones, its slot is not exempt, and it
+    /// is the least such number. A slot, that is a replica by its number, is kept if the old committee and this one have it with
+    /// the same keys in the same order. It is exempt if it is kept and the old committee's slots that are not kept weigh at least
+    /// a quorum of it.
     OldKey(u16),
 }
 
