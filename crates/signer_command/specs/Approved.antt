@@ -3,11 +3,12 @@ use Rattle.std.specs.Prelude.{◌≡◌, ◌++◌, ℕ, List, Option, Some, None
 use Rattle.std.specs.Borrow.{Bor}
 use Rattle.successor_files.specs.Successors.{IsSuccessorPayload}
 
--- none without a path; else the payload of a file that is a committee's, and has no key of this one, or none
-abbrev pub IsApprovable : List ℕ → Option (Bor (List ℕ)) → Option (List ℕ) → Type 0
-IsApprovable committee None told = told ≡ None
-IsApprovable committee (Some path) (Some payload) = IsSuccessorPayload committee payload
-IsApprovable committee (Some path) None = Unit {0}
+-- none without a path; else the payload of a file that is a committee's, and has no key of this one or of an earlier one but for kept
+-- slots, or none
+abbrev pub IsApprovable : List (List ℕ) → List ℕ → Option (Bor (List ℕ)) → Option (List ℕ) → Type 0
+IsApprovable earlier committee None told = told ≡ None
+IsApprovable earlier committee (Some path) (Some payload) = IsSuccessorPayload earlier committee payload
+IsApprovable earlier committee (Some path) None = Unit {0}
 
 -- "HSO1", and the first 28 bytes of the handover block's id
 abbrev pub first_text : List ℕ → List ℕ

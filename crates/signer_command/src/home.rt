@@ -87,9 +87,10 @@ impl<T: Wait + Files<File = File>, S: Sink> Home<'_, T, S> {
 
 impl<T: Threads + Wait + Files<File = File>, S: Sink> Approver for Home<'_, T, S> {
     ghost use Rattle.signer_command.specs.Approved.{IsApprovable, first_payload};
+    ghost use Rattle.successor_files.specs.Successors.{files_of};
 
     ghost tells = { λ h. record {
-      approves = IsApprovable h.successor.committee.now h.successor.path;
+      approves = IsApprovable (files_of h.successor.earlier.now) h.successor.committee.now h.successor.path;
       begins = first_payload h.standing.now.handover;
       over = λ _ _. Unit {0};
     } };

@@ -2,7 +2,7 @@
 
 ghost use Rattle.std.specs.Prelude.{◌≡◌, ◌≢◌, IfErr, IfOk, IfSome, None};
 ghost use Rattle.signer_command.specs.Approved.{IsApprovable};
-ghost use Rattle.successor_files.specs.Successors.{IsSuccessorPayload};
+ghost use Rattle.successor_files.specs.Successors.{IsSuccessorPayload, files_of};
 
 use crate::notes::Notes;
 use crate::stay::Room;
@@ -22,6 +22,8 @@ pub(crate) struct Successor<'a, T: Wait, S: Sink> {
     pub alloc: Global,
     pub committee: &'a CommitteeView<'a>,
     pub path: Option<&'a str>,
+    /// The files of the committees before this one, whose keys may not come again.
+    pub earlier: &'a [Vec<u8>],
     pub notes: &'a Notes<'a, T, S>,
     /// Why the file was as if it were not there, as it was told last.
     told: Mutex<Option<SuccessorRefusal>>,
@@ -32,12 +34,14 @@ impl<'a, T: Wait + Files<File = File>, S: Sink> Successor<'a, T, S> {
     pub fn new(room: &Room<'a, T, S>) -> Successor<'a, T, S>
         ensures path { result.path ≡ room.now.words.now.successor }
         ensures committee { result.committee.now ≡ room.now.committee.now }
+        ensures earlier { result.earlier.now ≡ room.now.standing.now.earlier.items }
     {
         Successor {
             rt: room.rt,
             alloc: room.alloc,
             committee: room.committee,
             path: room.words.successor,
+            earlier: &room.standing.earlier,
             notes: room.notes,
             told: Mutex::new(None),
         }
@@ -46,7 +50,7 @@ impl<'a, T: Wait + Files<File = File>, S: Sink> Successor<'a, T, S> {
     // The payload that names the file at this path; none where there is no file.
     fn payload_at(&self, path: &str) -> Result<Option<[u8; 32]>, SuccessorRefusal>
         ensures { IfOk result (λ payload.
-            IfSome payload (IsSuccessorPayload self.now.committee.now)) }
+            IfSome payload (IsSuccessorPayload (files_of self.now.earlier.now) self.now.committee.now)) }
     {
         let file = match File::open(self.rt, path) {
             Ok(file) => file,
@@ -56,7 +60,7 @@ impl<'a, T: Wait + Files<File = File>, S: Sink> Successor<'a, T, S> {
         let Ok(bytes) = read_at_most(self.alloc, file, MOST_OF_A_SHORT_FILE) else {
             return Err(SuccessorRefusal::NotRead);
         };
-        match successor_payload(self.committee, &bytes) {
+        match successor_payload(self.earlier, self.committee, &bytes) {
             Ok(payload) => Ok(Some(payload)),
             Err(refusal) => Err(refusal),
         }
@@ -74,7 +78,7 @@ impl<'a, T: Wait + Files<File = File>, S: Sink> Successor<'a, T, S> {
 
     /// The payload of the block that hands over to the committee of the file as it is now; none where there is none.
     pub fn approved(&self) -> Option<[u8; 32]>
-        ensures { IsApprovable self.now.committee.now self.now.path result }
+        ensures { IsApprovable (files_of self.now.earlier.now) self.now.committee.now self.now.path result }
     {
         let Some(path) = self.path else {
             return None;
