@@ -58,20 +58,7 @@ def get_key(folder, committee, key, is_fresh=False):
     return answer["value"]
 
 
-def left_for_votes(folder, committee):
-    """How many votes the signers of some quorum have left at least, or None where too few answer to say."""
-    answers = [(number, answer["signer"]) for number, answer in ask_all(folder, committee, {"say": "status"}, 10) if answer and answer["signer"]]
-    left = sorted((min(signer["entries_left"], signer["indices_left"]), number) for number, signer in answers)
-    weight = sum(committee.weights[number] for _, number in left)
-    for votes, number in left:
-        if weight < committee.quorum:
-            return None
-        weight -= committee.weights[number]
-        if weight < committee.quorum:
-            return votes
-
-
-HEAD = ["replica", "state", "view", "vote view", "lock", "entries left", "keys left", "committed", "applied", "store", "handover"]
+HEAD = ["replica", "state", "chain", "view", "vote view", "lock", "entries left", "keys left", "committed", "applied", "store", "handover"]
 
 
 def row_of(number, answer):
@@ -81,7 +68,8 @@ def row_of(number, answer):
     state, at_signer = "signer away", ["", "", "", ""]
     if signer:
         state, at_signer = signer["state"], [signer["vote_view"], signer["lock"]["view"], signer["entries_left"], signer["indices_left"]]
-    return [number, state, answer["view"], *at_signer, answer["committed"], answer["applied"], answer["store"][:8], answer["handover"][:8]]
+    stands = [state, answer["chain"][:8], answer["view"], *at_signer, answer["committed"], answer["applied"]]
+    return [number, *stands, answer["store"][:8], answer["handover"][:8]]
 
 
 def print_status(folder, committee):
