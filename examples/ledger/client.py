@@ -64,12 +64,10 @@ HEAD = ["replica", "state", "chain", "view", "vote view", "lock", "entries left"
 def row_of(number, answer):
     if answer is None:
         return [number, "does not answer"]
-    signer = answer["signer"]
-    state, at_signer = "signer away", ["", "", "", ""]
-    if signer:
-        state, at_signer = signer["state"], [signer["vote_view"], signer["lock"]["view"], signer["entries_left"], signer["indices_left"]]
-    stands = [state, answer["chain"][:8], answer["view"], *at_signer, answer["committed"], answer["applied"]]
-    return [number, *stands, answer["store"][:8], answer["handover"][:8]]
+    signer = answer["signer"] or {"state": "signer away", "lock": {}}
+    stands = [signer["state"], answer["chain"][:8], answer["view"], signer.get("vote_view", ""), signer["lock"].get("view", "")]
+    left = [signer.get("entries_left", ""), signer.get("indices_left", "")]
+    return [number, *stands, *left, answer["committed"], answer["applied"], answer["store"][:8], answer["handover"][:8]]
 
 
 def print_status(folder, committee):
