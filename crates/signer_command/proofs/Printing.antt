@@ -1,5 +1,5 @@
 -- What was printed where a signer gives up.
-use Rattle.std.proofs.Common.{◌≡◌, ℕ, List, [], ◌++◌, Option, Some, None, refl, sym, ap, subst, ◌∙◌, ◌⊎◌, inl, inr, length, arith}
+use Rattle.std.proofs.Common.{◌≡◌, ℕ, List, [], ◌++◌, Option, Some, None, refl, sym, ap, subst, ◌∙◌, length, arith}
 use Rattle.streams.specs.Streams.{Wrote, WrotePart}
 use Rattle.streams.proofs.Writing.{wrote_both, wrote_nothing, wrote_part}
 use Rattle.printed_lines.proofs.Pieces.{part_of_front, part_behind}

@@ -1,4 +1,3 @@
-use Rattle.std.proofs.Common.{length}
 use Rattle.signer_command.proofs.staying.stay_in.Goals as goal
 
 pub returns-clause-backed : goal.returns-clause-backed
