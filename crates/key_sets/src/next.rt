@@ -85,8 +85,8 @@ impl From<io::Error> for SetFault {
     }
 }
 
-/// Draws a replica's next keys, and makes their files in its folder, `DIR`. Where DIR has a log of the chain that they come behind, or
-/// one from before logs stood by chain, they get a folder of their own, `DIR/next-CHAIN`, with no log; it is made as `DIR/next-CHAIN.new`, synced, and then takes its
+/// Draws a replica's next keys, and makes their files in its folder, `DIR`. Where DIR has keys or a log, as each has that a replica ran
+/// on, they get a folder of their own, `DIR/next-CHAIN`, with no log; it is made as `DIR/next-CHAIN.new`, synced, and then takes its
 /// name. Else they stand in DIR itself, with an empty log. Answers the public keys, 56 bytes each. After a fault `DIR/next-CHAIN.new`,
 /// or a first part of the files in DIR, may be left, of which nobody was told.
 pub fn make_next_keys<F: Files<File = File>, T: Threads + Sync, S: DrawSeed>(
@@ -99,21 +99,20 @@ pub fn make_next_keys<F: Files<File = File>, T: Threads + Sync, S: DrawSeed>(
 {
     let chain = hex::encode(host.alloc, &behind.chain[..])?;
     let secrets = draw_set(host.alloc, seeds, behind)?;
-    if has_log(host, folder, &chain)? {
+    if has_keys(host, folder)? {
         return make_beside(host, folder, &chain, &secrets);
     }
     make_in(host, folder, &secrets, Journals::IndicesAndLog)
 }
 
-// Whether the folder has a log of this chain, whose id is written in hex digits, or one from before logs stood by chain.
-fn has_log<F: Files<File = File>, T>(
+// Whether the folder has keys already, or a log, as each has that a replica ran on.
+fn has_keys<F: Files<File = File>, T>(
     host: &Host<'_, F, T>,
     folder: &str,
-    chain: &str,
 ) -> Result<bool, SetFault> {
-    let only = format!(in host.alloc; "{folder}/log.hsj")?;
-    let of_chain = format!(in host.alloc; "{folder}/chain-{chain}")?;
-    Ok(!is_nothing_at(host.files, &only)? || !is_nothing_at(host.files, &of_chain)?)
+    let seed = format!(in host.alloc; "{folder}/key.seed")?;
+    let log = format!(in host.alloc; "{folder}/log.hsj")?;
+    Ok(!is_nothing_at(host.files, &seed)? || !is_nothing_at(host.files, &log)?)
 }
 
 // Makes the keys in a folder of their own, which is new.
