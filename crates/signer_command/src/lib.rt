@@ -7,6 +7,7 @@ mod announcing;
 mod asking;
 mod dialing;
 mod fault;
+mod fitness;
 mod handing_out;
 mod heard;
 mod home;

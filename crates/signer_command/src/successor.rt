@@ -4,9 +4,11 @@ ghost use Rattle.std.specs.Prelude.{◌≡◌, ◌≢◌, IfErr, IfOk, IfSome, N
 ghost use Rattle.signer_command.specs.Approved.{IsApprovable};
 ghost use Rattle.successor_files.specs.Successors.{IsSuccessorPayload, files_of};
 
+use crate::fitness::{Means, Unfit};
 use crate::notes::Notes;
 use crate::stay::Room;
 use blocks::CommitteeView;
+use lineage_folder::LineageFolder;
 use program_parts::{MOST_OF_A_SHORT_FILE, read_at_most};
 use std::alloc::Global;
 use std::fs::{File, Files};
@@ -24,9 +26,20 @@ pub(crate) struct Successor<'a, T: Wait, S: Sink> {
     pub path: Option<&'a str>,
     /// The files of the committees before this one, whose keys may not come again.
     pub earlier: &'a [Vec<u8>],
+    /// What the signer goes over with, if it does.
+    pub means: Option<Means<'a, T>>,
     pub notes: &'a Notes<'a, T, S>,
     /// Why the file was as if it were not there, as it was told last.
-    told: Mutex<Option<SuccessorRefusal>>,
+    told: Mutex<Option<Unapproved>>,
+}
+
+/// Why a file is as if it were not there.
+#[derive(Clone, Copy, Debug, PartialEq, Eq)]
+enum Unapproved {
+    /// By its bytes.
+    Refused(SuccessorRefusal),
+    /// By the signer's own keys, or those that it asks.
+    Unfit(Unfit),
 }
 
 impl<'a, T: Wait + Files<File = File>, S: Sink> Successor<'a, T, S> {
@@ -42,38 +55,53 @@ impl<'a, T: Wait + Files<File = File>, S: Sink> Successor<'a, T, S> {
             committee: room.committee,
             path: room.words.successor,
             earlier: &room.standing.earlier,
+            means: means_of(room),
             notes: room.notes,
             told: Mutex::new(None),
         }
     }
 
     // The payload that names the file at this path; none where there is no file.
-    fn payload_at(&self, path: &str) -> Result<Option<[u8; 32]>, SuccessorRefusal>
+    fn payload_at(&self, path: &str) -> Result<Option<[u8; 32]>, Unapproved>
         ensures { IfOk result (λ payload.
             IfSome payload (IsSuccessorPayload (files_of self.now.earlier.now) self.now.committee.now)) }
     {
         let file = match File::open(self.rt, path) {
             Ok(file) => file,
             Err(error) if error.kind() == ErrorKind::NotFound => return Ok(None),
-            Err(_) => return Err(SuccessorRefusal::NotRead),
+            Err(_) => return Err(Unapproved::Refused(SuccessorRefusal::NotRead)),
         };
         let Ok(bytes) = read_at_most(self.alloc, file, MOST_OF_A_SHORT_FILE) else {
-            return Err(SuccessorRefusal::NotRead);
+            return Err(Unapproved::Refused(SuccessorRefusal::NotRead));
         };
         match successor_payload(self.earlier, self.committee, &bytes) {
-            Ok(payload) => Ok(Some(payload)),
-            Err(refusal) => Err(refusal),
+            Ok(payload) => match self.unfit(&bytes) {
+                Some(unfit) => Err(Unapproved::Unfit(unfit)),
+                None => Ok(Some(payload)),
+            },
+            Err(refusal) => Err(Unapproved::Refused(refusal)),
+        }
+    }
+
+    // Why a signer that goes over could not go over to the committee of this file: behind its handover nothing else is left to it.
+    fn unfit(&self, file: &[u8]) -> Option<Unfit> {
+        match (&self.means, CommitteeView::parse(file)) {
+            (Some(means), Ok(after)) => means.unfit(self.committee, &after),
+            _ => None,
         }
     }
 
     // Tells why the file is as if it were not there, unless that was told last.
-    fn tell(&self, refusal: SuccessorRefusal) {
+    fn tell(&self, why: Unapproved) {
         let mut told = self.told.lock(self.rt);
-        if *told == Some(refusal) {
+        if *told == Some(why) {
             return;
         }
-        *told = Some(refusal);
-        self.notes.tell(refusal.line().as_bytes());
+        *told = Some(why);
+        match why {
+            Unapproved::Refused(refusal) => self.notes.tell(refusal.line().as_bytes()),
+            Unapproved::Unfit(unfit) => self.notes.tell(unfit.line()),
+        }
     }
 
     /// The payload of the block that hands over to the committee of the file as it is now; none where there is none.
@@ -91,4 +119,23 @@ impl<'a, T: Wait + Files<File = File>, S: Sink> Successor<'a, T, S> {
             }
         }
     }
+}
+
+// What the signer goes over with, where its words say that it does.
+fn means_of<'a, T: Wait + Files<File = File>, S: Sink>(
+    room: &Room<'a, T, S>,
+) -> Option<Means<'a, T>> {
+    if !room.words.renew {
+        return None;
+    }
+    let folder = LineageFolder {
+        files: room.rt,
+        alloc: room.alloc,
+        path: room.words.folder,
+    };
+    Some(Means {
+        folder,
+        replica: room.words.replica,
+        sources: &room.words.sources,
+    })
 }
