@@ -31,6 +31,7 @@ impl<F: Files<File = File>> LineageFolder<'_, F> {
         match WordStore::recover(self.alloc, FileDisk::new(file)) {
             Ok(words) => Ok(words),
             Err((WordError::Memory, _)) => Err(LineageFault::Memory),
+            Err((WordError::Device, _)) => Err(LineageFault::Device),
             Err(_) => Err(LineageFault::Chain(*chain)),
         }
     }
@@ -69,10 +70,19 @@ impl<F: Files<File = File>> LineageFolder<'_, F> {
     /// it did not say so.
     pub fn store_next(&self, chain: &Id, file: &[u8]) -> Result<(), LineageFault> {
         let path = self.within(&self.chain_folder(chain)?, NEXT_FILE)?;
-        match replace_file(self.files, self.alloc, &path, file) {
+        match self.store(&path, file) {
             Ok(()) => Ok(()),
             Err(error) => Err(LineageFault::of(&error, chain)),
         }
+    }
+
+    // Stores a file whole, in place of what an earlier try left.
+    pub(crate) fn store(&self, path: &str, bytes: &[u8]) -> io::Result<()> {
+        let beside = format!(in self.alloc; "{path}.new")?;
+        if self.is_there(&beside)? {
+            fs::remove_file(self.files, beside.as_str())?;
+        }
+        replace_file(self.files, self.alloc, path, bytes)
     }
 
     // A folder at `PATH.new`, made if it is not there.

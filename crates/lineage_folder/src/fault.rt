@@ -16,6 +16,8 @@ pub enum LineageFault {
     /// What lies in the folder of the chain of this id is not what the words say: something is missing, or can't be read, or is of
     /// another committee.
     Chain(Id),
+    /// A disk failed where words were read: read once more they may seem whole, and not be on it.
+    Device,
     /// More committees follow one another than are gone through.
     Endless,
 }

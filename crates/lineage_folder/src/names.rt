@@ -15,6 +15,9 @@ pub const WORDS: &str = "words.hsj";
 /// The file of the committee that it goes over to, in the folder of the chain that it leaves.
 pub const NEXT_FILE: &str = "next.hsc";
 
+/// What says in DIR which chain it began with: the 64 hex digits of its id, and a line feed.
+pub(crate) const LINEAGE: &str = "lineage";
+
 /// The folder of a chain: `DIR/chain-` and the 64 hex digits of its id.
 pub(crate) fn chain_folder(alloc: Global, folder: &str, chain: &Id) -> Result<String, AllocError>
     ensures { IfOk result (λ path. string_bytes path ≡ chain_folder folder.now chain.now) }

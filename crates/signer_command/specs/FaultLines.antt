@@ -49,10 +49,11 @@ own_line (Lineage chain) = lineage_line chain
 own_line Endless = codes "fault lineage\n"
 
 -- of a folder of chains
-abbrev pub fault_of_lineage : LineageFault → ProgramFault SignerFault
-fault_of_lineage lineage.Memory = program.Memory
-fault_of_lineage (lineage.Chain chain) = program.Own (Lineage chain)
-fault_of_lineage lineage.Endless = program.Own Endless
+abbrev pub fault_of_lineage : Bor (List ℕ) → LineageFault → ProgramFault SignerFault
+fault_of_lineage path lineage.Memory = program.Memory
+fault_of_lineage path lineage.Device = program.Own (FileIn path file.DiskFailed)
+fault_of_lineage path (lineage.Chain chain) = program.Own (Lineage chain)
+fault_of_lineage path lineage.Endless = program.Own Endless
 
 -- of a replica on the folder at this path
 abbrev pub fault_in_folder : Bor (List ℕ) → ReplicaFault → ProgramFault SignerFault

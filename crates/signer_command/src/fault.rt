@@ -137,12 +137,13 @@ fn store_fault(number: u8) -> Line
     line
 }
 
-/// The fault of a folder of chains.
-pub(crate) fn of_lineage<'a>(fault: LineageFault) -> Fault<'a>
-    ensures { result ≡ fault_of_lineage fault }
+/// The fault of the folder of chains at `path`.
+pub(crate) fn of_lineage<'a>(path: &'a str, fault: LineageFault) -> Fault<'a>
+    ensures { result ≡ fault_of_lineage path.entry fault }
 {
     match fault {
         LineageFault::Memory => Fault::Memory,
+        LineageFault::Device => Fault::Own(SignerFault::FileIn(path, ReplicaFile::DiskFailed)),
         LineageFault::Chain(chain) => Fault::Own(SignerFault::Lineage(chain)),
         LineageFault::Endless => Fault::Own(SignerFault::Endless),
     }

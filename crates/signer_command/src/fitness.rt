@@ -48,6 +48,14 @@ impl<F: Files<File = File>> Means<'_, F> {
         None
     }
 
+    /// Whether DIR began already, or has the replica's keys of this committee.
+    pub fn may_begin(&self, committee: &CommitteeView<'_>) -> bool {
+        match self.folder.has_begun() {
+            Ok(true) => true,
+            _ => self.has_keys_at(self.folder.path, committee),
+        }
+    }
+
     fn has_own_keys(&self, before: &CommitteeView<'_>, after: &CommitteeView<'_>) -> bool {
         if self.replica >= after.n() {
             return false;
@@ -57,15 +65,20 @@ impl<F: Files<File = File>> Means<'_, F> {
 
     // Whether the public keys that were made behind a committee are those of the other one.
     fn has_next_keys(&self, before: &CommitteeView<'_>, after: &CommitteeView<'_>) -> bool {
-        let Ok(place) = self.folder.keys_at(KeySet::Behind(before.chain())) else {
-            return false;
-        };
-        if self.replica >= after.n() {
+        match self.folder.keys_at(KeySet::Behind(before.chain())) {
+            Ok(place) => self.has_keys_at(&place, after),
+            Err(_) => false,
+        }
+    }
+
+    // Whether the public keys in a folder are the replica's in a committee.
+    fn has_keys_at(&self, place: &str, committee: &CommitteeView<'_>) -> bool {
+        if self.replica >= committee.n() {
             return false;
         }
-        for k in 0..after.keys(self.replica) {
-            let key = after.key(self.replica, k).to_bytes();
-            if !self.is_key(&place, KeyNumber::of(k), &key) {
+        for k in 0..committee.keys(self.replica) {
+            let key = committee.key(self.replica, k).to_bytes();
+            if !self.is_key(place, KeyNumber::of(k), &key) {
                 return false;
             }
         }

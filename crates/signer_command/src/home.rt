@@ -17,10 +17,11 @@ use sha2::{Digest, Sha256};
 use signing_service::{Approver, Keeper, OverFault};
 use std::fs::{File, Files};
 use std::io;
+use std::sync::atomic::{AtomicBool, Ordering};
 use std::sync::{Mutex, Wait};
 use std::thread::Threads;
 use streams::Sink;
-use told_words::GoneOver;
+use told_words::{GoneOver, WordError};
 
 /// The file of the committee that may come next, the replica's folder, and what is ready there for the next chain.
 #[derive(Drop)]
@@ -33,6 +34,8 @@ pub(crate) struct Home<'a, T: Wait, S: Sink> {
     /// The stay that ends once it was said that it goes over.
     pub start: &'a Start,
     pub next: Mutex<Option<Next>>,
+    /// The word may be stored or not, since a disk failed: nobody is told that it goes over, or asks again.
+    pub is_unsure: AtomicBool,
 }
 
 impl<T: Wait + Files<File = File>, S: Sink> Home<'_, T, S> {
@@ -77,8 +80,11 @@ impl<T: Wait + Files<File = File>, S: Sink> Home<'_, T, S> {
         };
         match words.go_over(word) {
             Ok(()) => Ok(()),
+            Err(WordError::Memory) => Err(OverFault::Memory),
             Err(_) => {
+                self.is_unsure.store(true, Ordering::SeqCst);
                 self.successor.notes.put_down_failure();
+                self.successor.notes.tell(b"stopped over\n");
                 Err(OverFault::Stopped)
             }
         }
@@ -111,6 +117,9 @@ impl<T: Threads + Wait + Files<File = File>, S: Sink> Approver for Home<'_, T, S
         let chain = after.chain();
         let mut next = self.next.lock(self.successor.rt);
         let next = &mut *next;
+        if self.is_unsure.load(Ordering::SeqCst) {
+            return Err(OverFault::Stopped);
+        }
         match &*next {
             Some(ready) if ready.chain == chain => return Ok(chain),
             Some(ready) if ready.handover.is_some() => return Err(OverFault::Stopped),
@@ -125,7 +134,7 @@ impl<T: Threads + Wait + Files<File = File>, S: Sink> Approver for Home<'_, T, S
         let Some(ready) = &mut *next else {
             return Err(OverFault::Stopped);
         };
-        if ready.file.as_slice() != file {
+        if ready.file.as_slice() != file || self.is_unsure.load(Ordering::SeqCst) {
             return Err(OverFault::Stopped);
         }
         if ready.handover.is_none() {

@@ -5,12 +5,13 @@ ghost use Rattle.blocks.specs.Committees.{IsCommittee};
 ghost use Rattle.signer_command.specs.Ends.{IsLate};
 
 use crate::fault::{Fault, SignerFault, in_folder, of_lineage};
+use crate::fitness::Means;
 use crate::notes::Notes;
 use crate::program::{Host, disk_fault};
 use crate::words::Words;
 use blocks::{CommitteeView, Id};
 use key_index_store::IndexStore;
-use lineage_folder::{KeySet, LineageFolder, Standing};
+use lineage_folder::{KeySet, LineageFault, LineageFolder, Standing};
 use replica_command::{ReplicaFault, ReplicaFolder};
 use stable_log::FileDisk;
 use std::alloc::Global;
@@ -74,7 +75,7 @@ pub(crate) fn stand_in<'a, T: Files<File = File> + Threads + Wait + Sync, S: Sin
     ensures refused { IfErr result IsLate }
 {
     let at = if words.renew {
-        standing(host, words, first)?
+        standing(host, words, notes, first)?
     } else {
         Standing::first(host.alloc, first)
     };
@@ -82,28 +83,39 @@ pub(crate) fn stand_in<'a, T: Files<File = File> + Threads + Wait + Sync, S: Sin
     Ok(Stand { at, parts, lock })
 }
 
-fn standing<'a, T: Files<File = File>>(
+// Which chain it stands in. Where words could not be read since a disk failed that is written down, as under a desk.
+fn standing<'a, T: Files<File = File> + Wait, S: Sink>(
     host: &Host<'_, T>,
     words: &Words<'a>,
+    notes: &Notes<'_, T, S>,
     first: Vec<u8>,
 ) -> Result<Standing, Fault<'a>>
     requires { IsCommittee first.items }
     ensures at { IfOk result (λ at. IsCommittee at.committee.items) }
     ensures refused { IfErr result IsLate }
 {
-    let folder = LineageFolder {
-        files: host.rt,
-        alloc: host.alloc,
-        path: words.folder,
+    let means = Means {
+        folder: LineageFolder {
+            files: host.rt,
+            alloc: host.alloc,
+            path: words.folder,
+        },
+        replica: words.replica,
+        sources: &words.sources,
     };
-    if let Ok(committee) = CommitteeView::parse(&first)
-        && let Err(fault) = folder.begin(&committee.chain())
-    {
-        return Err(of_lineage(fault));
+    if let Ok(committee) = CommitteeView::parse(&first) {
+        // A log is moved once: not by a slip of the committee's file.
+        if !means.may_begin(&committee) {
+            return Err(Fault::Own(SignerFault::Lineage(committee.chain())));
+        }
+        if let Err(fault) = means.folder.begin(&committee.chain()) {
+            return Err(of_lineage(words.folder, fault));
+        }
     }
-    match folder.stand(first, words.replica) {
+    match means.folder.stand(first, words.replica) {
         Ok(at) => Ok(at),
-        Err(fault) => Err(of_lineage(fault)),
+        Err(LineageFault::Device) => Err(disk_fault(words, notes.put_down_failure())),
+        Err(fault) => Err(of_lineage(words.folder, fault)),
     }
 }
 

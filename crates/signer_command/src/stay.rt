@@ -25,6 +25,7 @@ use std::fs::{File, Files};
 use std::hash::RandomState;
 use std::marker::Brand;
 use std::net::{Net, TcpListener, TcpStream};
+use std::sync::atomic::AtomicBool;
 use std::sync::ledger::Blank;
 use std::sync::{Mutex, Wait};
 use std::thread::Threads;
@@ -106,6 +107,7 @@ impl<'a, N: DeskNaming, T: Wait + Clock + Files<File = File>, S: Sink, D: Disk> 
                 standing: room.standing,
                 start: room.start,
                 next: Mutex::new(None),
+                is_unsure: AtomicBool::new(false),
             },
             put_back: PutBack::new(),
             gate: Gate::new(asks(&room.words.sources)),
