@@ -48,12 +48,19 @@ impl<F: Files<File = File>> Means<'_, F> {
         None
     }
 
-    /// Whether DIR began already, or has the replica's keys of this committee.
+    /// Whether DIR began already, or has no other public keys than the replica's in this committee.
     pub fn may_begin(&self, committee: &CommitteeView<'_>) -> bool {
-        match self.folder.has_begun() {
-            Ok(true) => true,
-            _ => self.has_keys_at(self.folder.path, committee),
+        if matches!(self.folder.has_begun(), Ok(true)) || self.replica >= committee.n() {
+            return true;
         }
+        for k in 0..committee.keys(self.replica) {
+            let key = committee.key(self.replica, k).to_bytes();
+            let stored = self.public_key_at(self.folder.path, KeyNumber::of(k));
+            if stored.is_some_and(|bytes| bytes.as_slice() != &key[..]) {
+                return false;
+            }
+        }
+        true
     }
 
     fn has_own_keys(&self, before: &CommitteeView<'_>, after: &CommitteeView<'_>) -> bool {
@@ -86,18 +93,18 @@ impl<F: Files<File = File>> Means<'_, F> {
     }
 
     fn is_key(&self, place: &str, number: KeyNumber, key: &[u8; PUBLIC_KEY_LEN]) -> bool {
-        let name = KeyFile::PublicKey(number).name();
-        let Ok(path) = format!(in self.folder.alloc; "{place}/{name}") else {
-            return false;
-        };
-        let Ok(file) = File::open(self.folder.files, &path) else {
-            return false;
-        };
-        let most = PUBLIC_KEY_LEN as u64 + 1;
-        match read_at_most(self.folder.alloc, file, most) {
-            Ok(bytes) => bytes.as_slice() == &key[..],
-            Err(_) => false,
+        match self.public_key_at(place, number) {
+            Some(bytes) => bytes.as_slice() == &key[..],
+            None => false,
         }
+    }
+
+    // The bytes of the file of a public key in a folder, if it can be read.
+    fn public_key_at(&self, place: &str, number: KeyNumber) -> Option<Vec<u8>> {
+        let name = KeyFile::PublicKey(number).name();
+        let path = format!(in self.folder.alloc; "{place}/{name}").ok()?;
+        let file = File::open(self.folder.files, &path).ok()?;
+        read_at_most(self.folder.alloc, file, PUBLIC_KEY_LEN as u64 + 1).ok()
     }
 
     fn are_enough(&self, after: &CommitteeView<'_>) -> bool {
