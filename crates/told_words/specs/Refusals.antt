@@ -1,14 +1,14 @@
 -- When a word store refuses: for each call its first refusal whose case holds. `Memory` comes where a growth was
 -- refused, `Device` where the disk failed.
-use Rattle.std.specs.Prelude.{ℕ, ◌≡◌, ◌≢◌, ◌++◌, List, [], ◌∷◌, length, take, Option, Some, IfSome, IsSome, true, false}
+use Rattle.std.specs.Prelude.{ℕ, ◌≡◌, ◌≢◌, ◌++◌, ◌⊎◌, List, [], ◌∷◌, length, take, drop, Option, Some, None, IfSome, IsSome, true, false}
 use Rattle.stable_log.specs.Image.{magic, StandsFor}
 use Rattle.stable_log.specs.Refusals.{IsDamaged}
 use Rattle.told_words.specs.State.{WordState, HasOther, MustWrite}
-use Rattle.told_words.specs.Words.{IsWord, Says, kind_in, words_of}
+use Rattle.told_words.specs.Words.{Word, Endorsed, Over, IsEndorsement, IsSaid, IsWordOf, MayFollow, Said, Says, kind_in, words_of}
 use Rattle.told_words.specs.declared.word.GoneOver.{GoneOver}
-use Rattle.told_words.specs.declared.word.TheConstants.{GONE_OVER, WORD_LEN}
+use Rattle.told_words.specs.declared.word.TheConstants.{ENDORSED, GONE_OVER, WORD_LEN}
 use Rattle.told_words.specs.declared.error.WordError.{WordError}
-use Rattle.told_words.specs.declared.error.WordError.TheVariants.{Memory, Device, NotAJournal, Damaged, UnknownKind, WrongLength, SecondWord, Stopped, Other}
+use Rattle.told_words.specs.declared.error.WordError.TheVariants.{Memory, Device, NotAJournal, Damaged, UnknownKind, WrongLength, SecondWord, Stopped, Other, Gone}
 use Rattle.stable_log.specs.declared.error.JournalError.{JournalError}
 use Rattle.stable_log.specs.declared.error.JournalError.TheVariants as journal
 
@@ -23,6 +23,7 @@ word_error_number WrongLength = 6
 word_error_number SecondWord = 7
 word_error_number Stopped = 8
 word_error_number Other = 9
+word_error_number Gone = 10
 
 -- what a refusal of the journal means to the store; it is never full, no word is too long, and none is asked for
 -- that is not there
@@ -39,25 +40,29 @@ IsWordCreateRefusal told Device = Unit {0}
 IsWordCreateRefusal told NotAJournal = IfSome told (λ bytes. bytes ≢ [])
 IsWordCreateRefusal told _ = ⊥
 
--- an entry is no word: it has no kind that is known, or not the length of its kind
-abbrev pub IsEntryRefusal : List ℕ → WordError → Type 0
-IsEntryRefusal entry UnknownKind = kind_in entry ≢ GONE_OVER
-IsEntryRefusal entry WrongLength = (kind_in entry ≡ GONE_OVER) × (length entry ≢ WORD_LEN)
-IsEntryRefusal entry _ = ⊥
+-- an entry of a known kind has not a length of its kind
+abbrev pub HasWrongLength : List ℕ → Type 0
+HasWrongLength entry = ((kind_in entry ≡ ENDORSED) × (IsEndorsement (drop 1 entry) → ⊥)) ⊎ ((kind_in entry ≡ GONE_OVER) × (length entry ≢ WORD_LEN))
 
--- an entry can not be taken behind this word or none: it is no word, or a second one
-abbrev pub IsNextRefusal : Option GoneOver → List ℕ → WordError → Type 0
-IsNextRefusal before entry SecondWord = (kind_in entry ≡ GONE_OVER) × (length entry ≡ WORD_LEN) × IsSome before
-IsNextRefusal before entry e = IsEntryRefusal entry e
+-- an entry is a word that may not be said next
+abbrev pub IsSecondWord : Said → List ℕ → Type 0
+IsSecondWord before entry = (word : Word) × IsWordOf entry word × (MayFollow before word → ⊥)
 
--- these payloads begin with a word or none, and the entry behind it is the first that can not be taken
+-- an entry can not be taken behind these words: it is no word, or it may not be said next
+abbrev pub IsNextRefusal : Said → List ℕ → WordError → Type 0
+IsNextRefusal before entry UnknownKind = (kind_in entry ≢ ENDORSED) × (kind_in entry ≢ GONE_OVER)
+IsNextRefusal before entry WrongLength = HasWrongLength entry
+IsNextRefusal before entry SecondWord = IsSecondWord before entry
+IsNextRefusal before entry _ = ⊥
+
+-- these payloads begin with words, and the entry behind them is the first that can not be taken
 pub record IsFirstRefused (payloads : List (List ℕ)) (e : WordError) : Type 0 where
-  pub gone : Option GoneOver
-  pub whole : IfSome gone IsWord
+  pub said : Said
+  pub whole : IsSaid said
   pub entry : List ℕ
   pub rest : List (List ℕ)
-  pub split : payloads ≡ words_of gone ++ entry ∷ rest
-  pub refused : IsNextRefusal gone entry e
+  pub split : payloads ≡ words_of said ++ entry ∷ rest
+  pub refused : IsNextRefusal said entry e
 
 -- the bytes are a journal of such payloads
 abbrev pub HasRefused : WordError → List ℕ → Type 0
@@ -74,20 +79,35 @@ IsWordRecoverRefusal told WrongLength = IfSome told (HasRefused WrongLength)
 IsWordRecoverRefusal told SecondWord = IfSome told (HasRefused SecondWord)
 IsWordRecoverRefusal told _ = ⊥
 
--- what `recover` refuses, but for want of memory and a fault, says neither a word nor that there is none
+-- what `recover` refuses, but for want of memory and a fault, says nothing: neither any words nor that there are none
 abbrev pub WhatIsRefusedSaysNothing : Type 0
 WhatIsRefusedSaysNothing =
-    (bytes : List ℕ) (e : WordError) (gone : Option GoneOver) → IsWordRecoverRefusal (Some bytes) e → e ≢ Memory → e ≢ Device → Says bytes gone → ⊥
+    (bytes : List ℕ) (e : WordError) (said : Said) → IsWordRecoverRefusal (Some bytes) e → e ≢ Memory → e ≢ Device → Says bytes said → ⊥
+
+-- `endorse` by these bytes
+abbrev pub IsEndorseRefusal : {D : Type 0} → WordState D → List ℕ → WordError → Type 0
+IsEndorseRefusal store bytes Memory = MustWrite store (Endorsed bytes)
+IsEndorseRefusal store bytes Device = MustWrite store (Endorsed bytes)
+IsEndorseRefusal store bytes WrongLength = (store.stopped ≡ false) × MayFollow store.said (Endorsed bytes) × (IsEndorsement bytes → ⊥)
+IsEndorseRefusal store bytes Stopped = store.stopped ≡ true
+IsEndorseRefusal store bytes Other = (store.stopped ≡ false) × HasOther store.said (Endorsed bytes)
+IsEndorseRefusal store bytes Gone = (store.stopped ≡ false) × (store.said.endorsed ≡ None) × IsSome store.said.gone
+IsEndorseRefusal store bytes _ = ⊥
 
 -- `go_over` to this word
 abbrev pub IsGoOverRefusal : {D : Type 0} → WordState D → GoneOver → WordError → Type 0
-IsGoOverRefusal store word Memory = MustWrite store
-IsGoOverRefusal store word Device = MustWrite store
+IsGoOverRefusal store word Memory = MustWrite store (Over word)
+IsGoOverRefusal store word Device = MustWrite store (Over word)
 IsGoOverRefusal store word Stopped = store.stopped ≡ true
-IsGoOverRefusal store word Other = (store.stopped ≡ false) × HasOther store.gone word
+IsGoOverRefusal store word Other = (store.stopped ≡ false) × HasOther store.said (Over word)
 IsGoOverRefusal store word _ = ⊥
 
 -- ---- parts of these calls
+
+-- taking an entry behind these words fails
+abbrev pub IsTakeRefusal : Said → List ℕ → WordError → Type 0
+IsTakeRefusal before entry Memory = Unit {0}
+IsTakeRefusal before entry e = IsNextRefusal before entry e
 
 -- reading the words of a journal with these payloads fails
 abbrev pub IsWordsRefusal : Option (List ℕ) → List (List ℕ) → WordError → Type 0

@@ -1,35 +1,42 @@
 -- What contracts see of a word store, and what it keeps.
-use Rattle.std.specs.Prelude.{ℕ, ◌≡◌, ◌⊎◌, List, length, Bool, true, false, Option, Some, None, IfSome}
-use Rattle.told_words.specs.Words.{IsWord, LeavesWord, words_of}
+use Rattle.std.specs.Prelude.{ℕ, ◌≡◌, ◌⊎◌, List, length, Bool, true, false, Option, Some, None, IfSome, option_map}
+use Rattle.told_words.specs.Words.{Word, Endorsed, Over, Said, Has, IsSaid, IsWord, Leaves, LeavesWord, MayFollow, words_of}
 use Rattle.told_words.specs.declared.word.GoneOver.{GoneOver}
+use Rattle.told_words.specs.declared.said.SaidWords.{SaidWords}
 
--- its disk, the word that the signer has gone over, and whether it is stopped
+-- its disk, what the signer has said, and whether it is stopped
 pub record WordState (D : Type 0) : Type 0 where
   pub disk : D
-  pub gone : Option GoneOver
+  pub said : Said
   pub stopped : Bool
 
--- there is no word yet, or it is this one
-abbrev pub IsFreeFor : Option GoneOver → GoneOver → Type 0
-IsFreeFor gone word = (gone ≡ None) ⊎ (gone ≡ Some word)
+-- what the words in memory are
+abbrev pub said_in : SaidWords → Said
+said_in words = record { endorsed = option_map (λ v. v.items) words.endorsed; gone = words.gone }
 
--- the word that is there is another one
-abbrev pub HasOther : Option GoneOver → GoneOver → Type 0
-HasOther gone word = (there : GoneOver) × (gone ≡ Some there) × (there ≡ word → ⊥)
+-- this word is there, or may be said next
+abbrev pub IsFreeFor : Said → Word → Type 0
+IsFreeFor said word = Has said word ⊎ (MayFollow said word × IsWord word)
+
+-- the word of this kind that is there is another one
+abbrev pub HasOther : Said → Word → Type 0
+HasOther said (Endorsed bytes) = (there : List ℕ) × (said.endorsed ≡ Some there) × (there ≡ bytes → ⊥)
+HasOther said (Over word) = (there : GoneOver) × (said.gone ≡ Some there) × (there ≡ word → ⊥)
 
 -- the store runs, and takes this word or has it
-abbrev pub MayGoOver : {D : Type 0} → WordState D → GoneOver → Type 0
-MayGoOver store word = (store.stopped ≡ false) × IsFreeFor store.gone word
+abbrev pub MaySay : {D : Type 0} → WordState D → Word → Type 0
+MaySay store word = (store.stopped ≡ false) × IsFreeFor store.said word
 
--- the store runs and has no word, so that one is written
-abbrev pub MustWrite : {D : Type 0} → WordState D → Type 0
-MustWrite store = (store.stopped ≡ false) × (store.gone ≡ None)
+-- the store runs and takes this word, which is written
+abbrev pub MustWrite : {D : Type 0} → WordState D → Word → Type 0
+MustWrite store word = (store.stopped ≡ false) × MayFollow store.said word × IsWord word
 
--- what a store keeps: its journal has the word or none, and while it runs so has whatever a crash leaves; only one
--- without a word is stopped
-pub record IsStore (told : Option (List ℕ)) (images : List ℕ → Type 0) (payloads : List (List ℕ)) (gone : Option GoneOver) (stopped : Bool) : Type 0 where
-  pub whole : IfSome gone IsWord
-  pub counted : length payloads ≡ length (words_of gone)
-  pub listed : IfSome told (λ _. payloads ≡ words_of gone)
-  pub durable : stopped ≡ false → IfSome told (λ _. LeavesWord images gone)
-  pub unsaid : stopped ≡ true → gone ≡ None
+-- what a store keeps: its journal has just what was said, and while it runs so has whatever a crash leaves; an endorsement
+-- is in whatever a crash leaves at any time; only one that has not gone over is stopped
+pub record IsStore (told : Option (List ℕ)) (images : List ℕ → Type 0) (payloads : List (List ℕ)) (said : Said) (stopped : Bool) : Type 0 where
+  pub whole : IsSaid said
+  pub counted : length payloads ≡ length (words_of said)
+  pub listed : IfSome told (λ _. payloads ≡ words_of said)
+  pub durable : stopped ≡ false → IfSome told (λ _. Leaves images said)
+  pub endorsed : IfSome said.endorsed (λ bytes. IfSome told (λ _. LeavesWord images (Endorsed bytes)))
+  pub unsaid : stopped ≡ true → said.gone ≡ None

@@ -2,8 +2,10 @@
 
 ghost use Rattle.std.specs.Prelude.{◌≡◌};
 ghost use Rattle.told_words.specs.Refusals.{word_error, word_error_number};
+ghost use Rattle.told_words.specs.declared.error.WordError.TheVariants.{Memory};
 
 use stable_log::JournalError;
+use std::alloc::AllocError;
 
 /// Why a word store refuses. The numbers are fixed.
 #[derive(Clone, Copy, Debug, PartialEq, Eq)]
@@ -16,16 +18,20 @@ pub enum WordError {
     NotAJournal = 3,
     /// An open gate without a whole entry behind it, no gate, or more than 4,096 entries.
     Damaged = 4,
-    /// The first entry that can not be taken begins with another byte than 5.
+    /// The first entry that can not be taken begins with another byte than 5 and 6.
     UnknownKind = 5,
-    /// The first entry that can not be taken begins with 5 and has not 65 bytes.
+    /// `recover`: the first entry that can not be taken begins with 5 and has not 65 bytes, or with 6 and has not one byte more
+    /// than an endorsement. `endorse`: the bytes have no length of an endorsement.
     WrongLength = 6,
-    /// There are two entries or more, and the first two are words.
+    /// The first entry that can not be taken is a word after one of its kind, or an endorsement after the word that the signer
+    /// has gone over.
     SecondWord = 7,
-    /// The disk failed in an earlier `go_over`: take it out and recover it.
+    /// The disk failed in an earlier `endorse` or `go_over`: take it out and recover it.
     Stopped = 8,
-    /// `go_over`: another word is there.
+    /// `endorse`: another endorsement is there. `go_over`: another word that the signer has gone over is there.
     Other = 9,
+    /// `endorse`: there is none, and the signer has gone over.
+    Gone = 10,
 }
 
 impl WordError {
@@ -37,7 +43,7 @@ impl WordError {
     }
 }
 
-// A store has one entry at most, of 65 bytes, and asks for none that is not there: so the last three do not come.
+// A store has two entries at most, of 1,717 bytes at most, and asks for none that is not there: so the last three do not come.
 impl From<JournalError> for WordError {
     ghost from_gives = { λ refusal e. e ≡ word_error refusal };
 
@@ -52,5 +58,13 @@ impl From<JournalError> for WordError {
             | JournalError::TooLong
             | JournalError::NoSuchEntry => WordError::Damaged,
         }
+    }
+}
+
+impl From<AllocError> for WordError {
+    ghost from_gives = { λ _ e. e ≡ Memory };
+
+    fn from(_: AllocError) -> WordError {
+        WordError::Memory
     }
 }

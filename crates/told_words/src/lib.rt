@@ -4,6 +4,7 @@
 
 mod error;
 mod laws;
+mod said;
 mod store;
 mod word;
 
@@ -13,4 +14,6 @@ pub use laws::{
     what_is_refused_says_nothing, words_have_one_spelling,
 };
 pub use store::WordStore;
-pub use word::{GONE_OVER, GoneOver, WORD_LEN, words_are_those_of_the_format};
+pub use word::{
+    ENDORSED, ENDORSEMENT_LENS, GONE_OVER, GoneOver, WORD_LEN, words_are_those_of_the_format,
+};

@@ -5,54 +5,56 @@ ghost use Rattle.streams.specs.Counting.{HasFailed};
 ghost use Rattle.stable_log.specs.Crash.{Follows, Only, Torn};
 ghost use Rattle.stable_log.specs.Devices.{AtAnyMoment, Untouched};
 ghost use Rattle.stable_log.specs.Image.{empty_journal};
-ghost use Rattle.told_words.specs.Words.{IsBeforeOrAfterWord, IsWord, LeavesWord, Says, word_text, words_of};
-ghost use Rattle.told_words.specs.State.{MayGoOver};
-ghost use Rattle.told_words.specs.Refusals.{IsGoOverRefusal, IsWordCreateRefusal, IsWordRecoverRefusal, IsWordsRefusal};
+ghost use Rattle.told_words.specs.Words.{Endorsed, Over, Has, IsBeforeOrAfterWord, IsSaid, Leaves, LeavesWord, Said, Says, nothing, with_word, words_of};
+ghost use Rattle.told_words.specs.State.{MaySay, said_in};
+ghost use Rattle.told_words.specs.Refusals.{IsEndorseRefusal, IsGoOverRefusal, IsWordCreateRefusal, IsWordRecoverRefusal, IsWordsRefusal};
 
-use crate::word::{read_word, write_word};
+use crate::said::SaidWords;
+use crate::word::{is_endorsement, write_endorsement, write_word};
 use crate::{GoneOver, WordError};
 use stable_log::{Disk, Journal};
 use std::alloc::Global;
 use std::marker::Model;
 
-/// What a signer has said of its chain, on a disk: so far the one word that it has gone over to another committee. It is
-/// said once: from then on the store takes no other, and no crash takes it away.
+/// What a signer has said of its chain, on a disk: that it endorsed its next keys, and that it has gone over to another
+/// committee. Each is said once, an endorsement only before the signer has gone over: from then on the store takes no other
+/// word of that kind, and no crash takes it away.
 ///
-/// The disk holds a journal of at most one entry, the word's 65 bytes.
+/// The disk holds a journal of at most two entries: the endorsement's, and after it the 65 bytes of the word that the signer
+/// has gone over.
 ///
-/// Contracts see the disk, the word if there is one, and whether the store is stopped. They speak of images where the
-/// disk tells its bytes.
+/// Contracts see the disk, what was said, and whether the store is stopped. They speak of images where the disk tells its
+/// bytes.
 #[derive(Drop)]
 pub struct WordStore<D: Disk> {
+    alloc: Global,
     journal: Journal<D>,
-    gone: Option<GoneOver>,
+    said: SaidWords,
 }
 
 impl<D: Disk> Model for WordStore<D> {
-    ghost use Rattle.told_words.specs.State.{IsStore, WordState};
+    ghost use Rattle.told_words.specs.State.{IsStore, WordState, said_in};
 
     ghost Value = { WordState D };
 
     ghost view = { λ s. record {
       disk = s.journal.disk;
-      gone = s.gone;
+      said = said_in s.said;
       stopped = s.journal.stopped;
     } };
 
     ghost invariant = { λ s. IsStore (D.bytes s.journal.disk)
-        (D.images s.journal.disk) s.journal.payloads s.gone s.journal.stopped };
+        (D.images s.journal.disk) s.journal.payloads (said_in s.said) s.journal.stopped };
 }
 
-// The word of a journal, where it has at most one and nothing else.
-fn read_words<D: Disk>(
-    alloc: Global,
-    journal: &mut Journal<D>,
-) -> Result<Option<GoneOver>, WordError>
+// The words of a journal, where it has them in their order and nothing else.
+fn read_words<D: Disk>(alloc: Global, journal: &mut Journal<D>) -> Result<SaidWords, WordError>
     requires { journal.old.stopped ≡ false }
-    ensures ok { IfOk result (λ gone. IfSome (D.bytes journal.old.disk) (λ _.
-        journal.old.payloads ≡ words_of gone)) }
-    ensures counted { IfOk result (λ gone. length journal.old.payloads ≡ length (words_of gone)) }
-    ensures whole { IfOk result (λ gone. IfSome gone IsWord) }
+    ensures ok { IfOk result (λ words. IfSome (D.bytes journal.old.disk) (λ _.
+        journal.old.payloads ≡ words_of (said_in words))) }
+    ensures counted { IfOk result (λ words.
+        length journal.old.payloads ≡ length (words_of (said_in words))) }
+    ensures whole { IfOk result (λ words. IsSaid (said_in words)) }
     ensures same { (journal.new.payloads ≡ journal.old.payloads) × (journal.new.stopped ≡ false)
         × Untouched D.Disk journal.old.disk journal.new.disk }
     ensures no_failure { OnOk result (D.failed journal.new.disk ≡ D.failed journal.old.disk) }
@@ -63,17 +65,13 @@ fn read_words<D: Disk>(
     ensures kept { IfErr result (λ e. e ≢ WordError.Device →
         D.failed journal.new.disk ≡ D.failed journal.old.disk) }
 {
-    let mut gone = None;
+    let mut words = SaidWords::none();
     let mut entry = Vec::new(alloc);
     for k in 0..journal.count() {
         journal.entry(k, &mut entry)?;
-        let word = read_word(&entry)?;
-        if gone.is_some() {
-            return Err(WordError::SecondWord);
-        }
-        gone = Some(word);
+        words.take(alloc, &entry)?;
     }
-    Ok(gone)
+    Ok(words)
 }
 
 impl<D: Disk> WordStore<D> {
@@ -81,12 +79,12 @@ impl<D: Disk> WordStore<D> {
     /// written to, and after `Device` an empty one may hold any part of the 9 bytes of an empty journal. In this order:
     /// `Device`, `NotAJournal`.
     pub fn create(alloc: Global, disk: D) -> Result<WordStore<D>, (WordError, D)>
-        ensures ok { IfOk result (λ s. (s.gone ≡ None) × (s.stopped ≡ false)) }
+        ensures ok { IfOk result (λ s. (s.said ≡ nothing) × (s.stopped ≡ false)) }
         ensures exact { OnOk result (IfSome (D.bytes disk) (λ bytes. bytes ≡ [])) }
         ensures told { IfOk result (λ s.
             D.bytes s.disk ≡ option_map (λ _. empty_journal) (D.bytes disk)) }
         ensures durable { IfOk result (λ s.
-            IfSome (D.bytes disk) (λ _. LeavesWord (D.images s.disk) None)) }
+            IfSome (D.bytes disk) (λ _. Leaves (D.images s.disk) nothing)) }
         ensures no_failure { IfOk result (λ s. D.failed s.disk ≡ D.failed disk) }
 
         ensures first_refusal { IfErr result (λ e. IsWordCreateRefusal (D.bytes disk) e.0) }
@@ -100,8 +98,9 @@ impl<D: Disk> WordStore<D> {
     {
         match Journal::create(alloc, disk) {
             Ok(journal) => Ok(WordStore {
+                alloc,
                 journal,
-                gone: None,
+                said: SaidWords::none(),
             }),
             Err((refusal, disk)) => Err((WordError::from(refusal), disk)),
         }
@@ -111,9 +110,9 @@ impl<D: Disk> WordStore<D> {
     /// hands the disk back. In this order: `Memory`, `Device`, `NotAJournal`, `Damaged`, and then `UnknownKind`,
     /// `WrongLength` or `SecondWord`, by the first entry that can not be taken.
     pub fn recover(alloc: Global, disk: D) -> Result<WordStore<D>, (WordError, D)>
-        ensures ok { IfOk result (λ s. IfSome (D.bytes disk) (λ bytes. Says bytes s.gone)) }
-        ensures only { IfOk result (λ s. IfSome (D.bytes disk) (λ bytes. (gone : Option GoneOver)
-            → Says bytes gone → gone ≡ s.gone)) }
+        ensures ok { IfOk result (λ s. IfSome (D.bytes disk) (λ bytes. Says bytes s.said)) }
+        ensures only { IfOk result (λ s. IfSome (D.bytes disk) (λ bytes. (said : Said)
+            → Says bytes said → said ≡ s.said)) }
         ensures running { IfOk result (λ s. s.stopped ≡ false) }
         ensures durable { IfOk result (λ s.
             IfSome (D.bytes disk) (λ bytes. Only bytes (D.images s.disk))) }
@@ -131,31 +130,38 @@ impl<D: Disk> WordStore<D> {
             Err((refusal, disk)) => return Err((WordError::from(refusal), disk)),
         };
         match read_words(alloc, &mut journal) {
-            Ok(gone) => Ok(WordStore { journal, gone }),
+            Ok(said) => Ok(WordStore {
+                alloc,
+                journal,
+                said,
+            }),
             Err(e) => Err((e, journal.into_disk())),
         }
     }
 
-    /// Says that the signer has gone over. At `Ok` the word is durable: from then on each crash leaves it. Where the same
-    /// word is there already the answer is `Ok` again, and nothing is written. After `Device` the store is stopped,
-    /// without a word: take the disk out and recover it, and it has the word or none. Any other refusal changes nothing.
-    /// In this order: `Stopped`, `Other`, `Memory`, `Device`.
-    pub fn go_over(&mut self, word: GoneOver) -> Result<(), WordError>
-        ensures ok { OnOk result ((self.new.gone ≡ Some word) × (self.new.stopped ≡ false)) }
-        ensures exact { OnOk result (MayGoOver self.old word) }
-        ensures again { self.old.gone ≡ Some word → IsOk result × (self.new ≡ self.old) }
+    /// Says that the signer has endorsed its next keys, by these bytes, of which no more is looked at than their length. At `Ok` they
+    /// are durable: from then on each crash leaves them. Where the same bytes are there already the answer is `Ok` again, and
+    /// nothing is written. After `Device` the store is stopped, without them: take the disk out and recover it, and it has them or
+    /// no endorsement. Any other refusal changes nothing. In this order: `Stopped`, `Other`, `Gone`, `WrongLength`, `Memory`,
+    /// `Device`.
+    pub fn endorse(&mut self, endorsement: &[u8]) -> Result<(), WordError>
+        ensures ok { OnOk result ((self.new.stopped ≡ false)
+            × (self.new.said ≡ with_word self.old.said (Endorsed endorsement.now))) }
+        ensures exact { OnOk result (MaySay self.old (Endorsed endorsement.now)) }
+        ensures again { self.old.stopped ≡ false → Has self.old.said (Endorsed endorsement.now)
+            → IsOk result × (self.new ≡ self.old) }
         ensures durable { OnOk result (IfSome (D.bytes self.old.disk) (λ _.
-            LeavesWord (D.images self.new.disk) (Some word))) }
+            Leaves (D.images self.new.disk) self.new.said)) }
         ensures no_failure { OnOk result (D.failed self.new.disk ≡ D.failed self.old.disk) }
         ensures tells { IsSome (D.bytes self.new.disk) ↔ IsSome (D.bytes self.old.disk) }
 
-        // A crash at any moment of the call leaves what was there, or the whole word where there was none.
+        // A crash at any moment of the call leaves what was there, or the endorsement too where there was no word.
         ensures any_moment { self.old.stopped ≡ false → IfSome (D.bytes self.old.disk) (λ _.
             AtAnyMoment D.Disk self.old.disk self.new.disk
-            (IsBeforeOrAfterWord self.old.gone word)) }
+            (IsBeforeOrAfterWord self.old.said (Endorsed endorsement.now))) }
 
-        ensures first_refusal { IfErr result (IsGoOverRefusal self.old word) }
-        ensures device { IsErrOf result WordError.Device → (self.new.gone ≡ None)
+        ensures first_refusal { IfErr result (IsEndorseRefusal self.old endorsement.now) }
+        ensures device { IsErrOf result WordError.Device → (self.new.said ≡ nothing)
             × (self.new.stopped ≡ true) }
         ensures err { IfErr result (λ e. e ≢ WordError.Device → self.new ≡ self.old) }
         ensures cause { IsErrOf result WordError.Device →
@@ -164,7 +170,57 @@ impl<D: Disk> WordStore<D> {
         if self.journal.stopped() {
             return Err(WordError::Stopped);
         }
-        if let Some(there) = self.gone {
+        if let Some(there) = &self.said.endorsed {
+            return if there.as_slice() == endorsement {
+                Ok(())
+            } else {
+                Err(WordError::Other)
+            };
+        }
+        if self.said.gone.is_some() {
+            return Err(WordError::Gone);
+        }
+        if !is_endorsement(endorsement) {
+            return Err(WordError::WrongLength);
+        }
+        let kept = endorsement.to_vec(self.alloc)?;
+        let entry = write_endorsement(self.alloc, endorsement)?;
+        // It is on the disk before it is told.
+        self.journal.append(&entry)?;
+        self.said.endorsed = Some(kept);
+        Ok(())
+    }
+
+    /// Says that the signer has gone over. At `Ok` the word is durable: from then on each crash leaves it. Where the same
+    /// word is there already the answer is `Ok` again, and nothing is written. After `Device` the store is stopped,
+    /// without the word: take the disk out and recover it, and it has the word or not. Any other refusal changes nothing. The
+    /// endorsement stays as it is. In this order: `Stopped`, `Other`, `Memory`, `Device`.
+    pub fn go_over(&mut self, word: GoneOver) -> Result<(), WordError>
+        ensures ok { OnOk result ((self.new.stopped ≡ false)
+            × (self.new.said ≡ with_word self.old.said (Over word))) }
+        ensures exact { OnOk result (MaySay self.old (Over word)) }
+        ensures again { Has self.old.said (Over word) → IsOk result × (self.new ≡ self.old) }
+        ensures durable { OnOk result (IfSome (D.bytes self.old.disk) (λ _.
+            Leaves (D.images self.new.disk) self.new.said)) }
+        ensures no_failure { OnOk result (D.failed self.new.disk ≡ D.failed self.old.disk) }
+        ensures tells { IsSome (D.bytes self.new.disk) ↔ IsSome (D.bytes self.old.disk) }
+
+        // A crash at any moment of the call leaves what was there, or the whole word too where there was none.
+        ensures any_moment { self.old.stopped ≡ false → IfSome (D.bytes self.old.disk) (λ _.
+            AtAnyMoment D.Disk self.old.disk self.new.disk
+            (IsBeforeOrAfterWord self.old.said (Over word))) }
+
+        ensures first_refusal { IfErr result (IsGoOverRefusal self.old word) }
+        ensures device { IsErrOf result WordError.Device → (self.new.said ≡ self.old.said)
+            × (self.new.stopped ≡ true) }
+        ensures err { IfErr result (λ e. e ≢ WordError.Device → self.new ≡ self.old) }
+        ensures cause { IsErrOf result WordError.Device →
+            HasFailed (D.failed self.old.disk) (D.failed self.new.disk) }
+    {
+        if self.journal.stopped() {
+            return Err(WordError::Stopped);
+        }
+        if let Some(there) = self.said.gone {
             return if there == word {
                 Ok(())
             } else {
@@ -173,24 +229,40 @@ impl<D: Disk> WordStore<D> {
         }
         // The word is on the disk before it is told.
         self.journal.append(&write_word(&word))?;
-        self.gone = Some(word);
+        self.said.gone = Some(word);
         Ok(())
+    }
+
+    /// The endorsement that was said, if one was. Whatever a crash leaves has it, and, unless the store is stopped, has none
+    /// where there is none.
+    pub fn endorsed(&self) -> Option<&[u8]>
+        ensures value { option_map (λ bytes. bytes.now) result ≡ self.now.said.endorsed }
+        ensures durable { self.now.stopped ≡ false → IfSome (D.bytes self.now.disk) (λ _.
+            Leaves (D.images self.now.disk) self.now.said) }
+        ensures kept { IfSome self.now.said.endorsed (λ bytes. IfSome (D.bytes self.now.disk) (λ _.
+            LeavesWord (D.images self.now.disk) (Endorsed bytes))) }
+    {
+        match &self.said.endorsed {
+            Some(bytes) => Some(bytes.as_slice()),
+            None => None,
+        }
     }
 
     /// The word that the signer has gone over, if it was said. Whatever a crash leaves has it, and has none where there
     /// is none, unless the store is stopped.
     pub fn gone(&self) -> Option<GoneOver>
-        ensures value { result ≡ self.now.gone }
+        ensures value { result ≡ self.now.said.gone }
         ensures durable { self.now.stopped ≡ false → IfSome (D.bytes self.now.disk) (λ _.
-            LeavesWord (D.images self.now.disk) self.now.gone) }
+            Leaves (D.images self.now.disk) self.now.said) }
     {
-        self.gone
+        self.said.gone
     }
 
-    /// Whether the disk failed in a `go_over`. A stopped store has no word; a crash may leave one.
+    /// Whether the disk failed in an `endorse` or a `go_over`. A stopped store has not gone over, and may have an endorsement
+    /// from before; a crash may leave the word that failed too.
     pub fn stopped(&self) -> bool
         ensures value { result ≡ self.now.stopped }
-        ensures unsaid { self.now.stopped ≡ true → self.now.gone ≡ None }
+        ensures unsaid { self.now.stopped ≡ true → self.now.said.gone ≡ None }
     {
         self.journal.stopped()
     }
@@ -199,7 +271,11 @@ impl<D: Disk> WordStore<D> {
     pub fn into_disk(self) -> D
         ensures { result ≡ self.disk }
     {
-        let WordStore { journal, gone: _ } = self;
+        let WordStore {
+            alloc: _,
+            journal,
+            said: _,
+        } = self;
         journal.into_disk()
     }
 }

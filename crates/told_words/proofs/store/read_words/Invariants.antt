@@ -1,6 +1,7 @@
-use Rattle.std.proofs.Common.{◌≡◌, List, ℕ, length, take, false, Some, IfSome}
+use Rattle.std.proofs.Common.{◌≡◌, List, ℕ, length, take, false, Some}
 use Rattle.stable_log.specs.Crash.{Unwritten}
-use Rattle.told_words.specs.Words.{IsWord, words_of}
+use Rattle.told_words.specs.State.{said_in}
+use Rattle.told_words.specs.Words.{IsSaid, words_of}
 use Rattle.told_words.proofs.store.read_words.Given as goal
 
 abbrev pub invariant-loop-k : goal.invariant-loop-k
@@ -9,7 +10,7 @@ invariant-loop-k g l = record {
   running : l.journal.stopped ≡ false;
   unwritten : Unwritten g.D.Disk.bytes g.D.Disk.images g.D.Disk.moment g.D.Disk.images_since l.fn.journal.disk l.journal.disk;
   no_failure : g.D.Disk.failed l.journal.disk ≡ g.D.Disk.failed l.fn.journal.disk;
-  counted : l.k ≡ length (words_of l.gone);
-  whole : IfSome l.gone IsWord;
-  read : (bs : List ℕ) → g.D.Disk.bytes l.fn.journal.disk ≡ Some bs → take l.k l.fn.journal.payloads ≡ words_of l.gone;
+  counted : l.k ≡ length (words_of (said_in l.words));
+  whole : IsSaid (said_in l.words);
+  read : (bs : List ℕ) → g.D.Disk.bytes l.fn.journal.disk ≡ Some bs → take l.k l.fn.journal.payloads ≡ words_of (said_in l.words);
 }
