@@ -4,10 +4,12 @@
 
 mod behind;
 mod drawing;
+mod growing;
 mod making;
 mod next;
 
 pub use behind::Behind;
 pub use drawing::draw_set;
+pub use growing::{Growth, grow_all, grow_gently};
 pub use making::{Journals, make_key_set};
-pub use next::{Host, SetFault, make_next_keys};
+pub use next::{Host, SetFault, make_gently, make_next_keys};

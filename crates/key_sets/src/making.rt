@@ -43,9 +43,28 @@ pub fn make_key_set<R: Threads + Sync, D: MakeFolder>(
         (files_of_set secrets.now journals)) }
 {
     let keys = public_keys(rt, alloc, secrets)?;
-    make_keys(folder, secrets, &keys)?;
-    make_journals(folder, journals)?;
+    make_files(folder, secrets, &keys, journals)?;
     Ok(keys)
+}
+
+// The files of these keys, and then their journals.
+pub(crate) fn make_files<D: MakeFolder>(
+    folder: &mut D,
+    secrets: &[PrivateSeed],
+    keys: &[[u8; PUBLIC_KEY_LEN]],
+    journals: Journals,
+) -> Result<(), KeyFault>
+    requires few { length secrets.now ≤ MOST_KEYS }
+    requires keys { keys.now ≡ map public_key secrets.now }
+    ensures files { OnOk result (Made (D.files folder.old) (D.files folder.new)
+        (files_of_set secrets.now journals)) }
+    ensures no_failure { OnOk result (D.failed folder.new ≡ D.failed folder.old) }
+    ensures err { IfErr result (λ fault. IsStop fault (D.files folder.old) (D.files folder.new)
+        (D.failed folder.old) (D.failed folder.new) (files_of_set secrets.now journals)) }
+{
+    make_keys(folder, secrets, keys)?;
+    make_journals(folder, journals)?;
+    Ok(())
 }
 
 // The public keys of these seeds.

@@ -1,22 +1,26 @@
 //! A replica's next keys, made in its folder.
 
-ghost use Rattle.std.specs.Prelude.{◌≡◌, ◌≤◌, IfOk, length, map};
+ghost use Rattle.std.specs.Prelude.{◌≡◌, ◌≤◌, IfOk, IfSome, length, map};
 ghost use Rattle.wire.specs.declared.limits.TheConstants.{MOST_KEYS};
-ghost use Rattle.key_sets.specs.Drawing.{AreNextKeys};
+ghost use Rattle.key_sets.specs.Drawing.{AreDrawn, AreNextKeys};
 ghost use Rattle.key_sets.specs.KeySets.{public_key};
 
 use crate::behind::Behind;
 use crate::drawing::draw_set;
-use crate::making::{Journals, make_key_set};
-use key_files::{DrawSeed, KeyFault, SystemFolder};
+use crate::growing::{Growth, grow_all, keys_of};
+use crate::making::{Journals, make_files, make_key_set};
+use blocks::Id;
+use key_files::{DrawSeed, KeyFault, KeyFile, SystemFolder};
 use lmots::PrivateSeed;
-use lms_tree::PUBLIC_KEY_LEN;
+use lms_tree::{PUBLIC_KEY_LEN, SigningTree};
 use safe_files::{is_nothing_at, sync_folder};
 use std::alloc::{AllocError, AllocFailed, Global};
 use std::fs::{File, Files};
 use std::io::ErrorKind;
 use std::thread::Threads;
+use std::time::Clock;
 use std::{fs, io};
+use wire::{KeyNumber, MOST_KEYS};
 
 /// What keys are made with.
 #[derive(Clone, Copy)]
@@ -103,6 +107,86 @@ pub fn make_next_keys<F: Files<File = File>, T: Threads + Sync, S: DrawSeed>(
         return make_beside(host, folder, &chain, &secrets);
     }
     make_in(host, folder, &secrets, Journals::IndicesAndLog)
+}
+
+/// Draws a replica's next keys, computes them beside other work, and makes their files in `DIR/next-CHAIN`, with no log. Answers the
+/// trees, or none where it was to end before; then nothing was made. The folder is made as `DIR/next-CHAIN.making`, in the place of
+/// what an earlier try left there, of which nobody was told; it is synced, and then takes its name. After a fault
+/// `DIR/next-CHAIN.making` may be left. Refused where `DIR/next-CHAIN` is there.
+pub fn make_gently<F: Files<File = File>, T: Clock, S: DrawSeed>(
+    host: &Host<'_, F, T>,
+    growth: &Growth<'_, T>,
+    seeds: &S,
+    folder: &str,
+    behind: &Behind,
+) -> Result<Option<Vec<SigningTree>>, SetFault>
+    ensures { IfOk result (λ grown. IfSome grown (λ trees.
+        AreDrawn (S.draws seeds.now) behind.now trees.items)) }
+{
+    let secrets = draw_set(host.alloc, seeds, behind)?;
+    let Some(trees) = grow_all(growth, host.alloc, &secrets)? else {
+        return Ok(None);
+    };
+    let keys = keys_of(host.alloc, &trees)?;
+    store_next_keys(host, folder, &behind.chain, &secrets, &keys)?;
+    Ok(Some(trees))
+}
+
+// Makes the files of these keys in `DIR/next-CHAIN`.
+fn store_next_keys<F: Files<File = File>, T>(
+    host: &Host<'_, F, T>,
+    folder: &str,
+    chain: &Id,
+    secrets: &[PrivateSeed],
+    keys: &[[u8; PUBLIC_KEY_LEN]],
+) -> Result<(), SetFault>
+    requires few { length secrets.now ≤ MOST_KEYS }
+    requires keys { keys.now ≡ map public_key secrets.now }
+{
+    let chain = hex::encode(host.alloc, &chain[..])?;
+    let path = format!(in host.alloc; "{folder}/next-{chain}")?;
+    if !is_nothing_at(host.files, &path)? {
+        return Err(SetFault::Folder);
+    }
+    let making = format!(in host.alloc; "{path}.making")?;
+    match fs::create_dir(host.files, making.as_str()) {
+        Ok(()) => {}
+        Err(error) if error.kind() == ErrorKind::AlreadyExists => clear_keys(host, &making)?,
+        Err(error) => return Err(SetFault::from(error)),
+    }
+    let mut made = SystemFolder::new(host.files, host.alloc, &making);
+    make_files(&mut made, secrets, keys, Journals::Indices)?;
+    sync_folder(host.files, &making);
+    fs::rename(host.files, making.as_str(), path.as_str())?;
+    sync_folder(host.files, folder);
+    Ok(())
+}
+
+// Removes the files of a key set, of which some may be there.
+fn clear_keys<F: Files<File = File>, T>(
+    host: &Host<'_, F, T>,
+    folder: &str,
+) -> Result<(), SetFault> {
+    for k in 0..MOST_KEYS {
+        let number = KeyNumber::of(k);
+        clear_file(host, folder, KeyFile::Seed(number))?;
+        clear_file(host, folder, KeyFile::PublicKey(number))?;
+    }
+    clear_file(host, folder, KeyFile::Indices)
+}
+
+fn clear_file<F: Files<File = File>, T>(
+    host: &Host<'_, F, T>,
+    folder: &str,
+    file: KeyFile,
+) -> Result<(), SetFault> {
+    let name = file.name();
+    let path = format!(in host.alloc; "{folder}/{name}")?;
+    match fs::remove_file(host.files, path.as_str()) {
+        Ok(()) => Ok(()),
+        Err(error) if error.kind() == ErrorKind::NotFound => Ok(()),
+        Err(error) => Err(SetFault::from(error)),
+    }
 }
 
 // Whether the folder has keys already, or a log, as each has that a replica ran on.

@@ -1,15 +1,8 @@
 use Rattle.std.proofs.Common.{rules}
-use Rattle.key_sets.specs.KeySets.{journals_of}
-use Rattle.key_sets.proofs.Stopping.{set_stops, stop_first, stop_second}
+use Rattle.key_sets.proofs.Stopping.{set_stops}
 use Rattle.key_sets.proofs.making.make_key_set.Goals as goal
 
-pub returns-in_err-make_keys-clause-err : goal.returns-in_err-make_keys-clause-err
-returns-in_err-make_keys-clause-err g c =
-    let stop = set_stops c.in_err-make_keys.field-0.0 _ _ _ _ _ (stop_first c.in_err-make_keys.field-0.0 _ _ _ _ _ (journals_of c.args.journals) c.in_err-make_keys.ensures.err) in
-    search rules
-
-pub returns-in_err-make_journals-clause-err : goal.returns-in_err-make_journals-clause-err
-returns-in_err-make_journals-clause-err g c =
-    let stop = set_stops c.in_err-make_journals.field-0.0 _ _ _ _ _
-    (stop_second c.in_err-make_journals.field-0.0 _ _ _ _ _ _ _ _ c.in_ok-make_keys.ensures.ok c.in_ok-make_keys.ensures.no_failure c.in_err-make_journals.ensures.err) in
+pub returns-in_err-make_files-clause-err : goal.returns-in_err-make_files-clause-err
+returns-in_err-make_files-clause-err g c =
+    let stop = set_stops c.in_err-make_files.field-0.0 _ _ _ _ _ c.in_err-make_files.ensures.err in
     search rules
