@@ -21,7 +21,7 @@ none_good : (o : Option Endorsement) (P : Endorsement → Type 0) → o ≡ None
 none_good (Some e) P is p = absurd cc
 none_good None P is p = p
 
-not_signed : (refusal : RenewalRefusal) (old new : List ℕ) (r : Renewal) (s : ℕ) → IsUnsignedBy refusal old new r s → IsSigned old new r s → ⊥
+pub not_signed : (refusal : RenewalRefusal) (old new : List ℕ) (r : Renewal) (s : ℕ) → IsUnsignedBy refusal old new r s → IsSigned old new r s → ⊥
 not_signed (Unsigned t) old new r s why is = none_good (signature_of r s) (IsGoodFor old new s) why.2 (is.signed why.1)
 not_signed (KeyNumber t) old new r s why is = no_good (signature_of r s) _ (IsGoodFor old new s) (λ e p q. let key = q.key in omega arith) why.2 (is.signed why.1)
 not_signed (Signature t) old new r s why is = no_good (signature_of r s) _ (IsGoodFor old new s) (λ e p q. p.1 q.verifies) why.2 (is.signed why.1)

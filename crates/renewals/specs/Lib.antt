@@ -4,3 +4,4 @@ pub mod Slots
 pub mod Renewing
 pub mod RenewalRefusals
 pub mod RenewalLaws
+pub mod SlotKinds

@@ -40,3 +40,13 @@ form_refusal_number View = 4
 form_refusal_number Length = 5
 form_refusal_number Order = 6
 form_refusal_number Count = 7
+
+-- its name, as it is printed
+abbrev pub form_refusal_name : RenewalFormRefusal → List ℕ
+form_refusal_name Memory = codes "Memory"
+form_refusal_name Short = codes "Short"
+form_refusal_name Magic = codes "Magic"
+form_refusal_name View = codes "View"
+form_refusal_name Length = codes "Length"
+form_refusal_name Order = codes "Order"
+form_refusal_name Count = codes "Count"

@@ -1,7 +1,7 @@
 //! Renewals and their bytes.
 
-ghost use Rattle.std.specs.Prelude.{◌≡◌, ◌≢◌, Ok, Err, IfOk, IsOk};
-ghost use Rattle.renewals.specs.RenewalReading.{form_refusal_number, of_form, renewal_in};
+ghost use Rattle.std.specs.Prelude.{◌≡◌, ◌≢◌, ◌≤◌, Ok, Err, IfOk, IsOk, length};
+ghost use Rattle.renewals.specs.RenewalReading.{form_refusal_name, form_refusal_number, of_form, renewal_in};
 ghost use Rattle.renewals.specs.Renewals.{Renewal as RenewalValue, IsRenewal, renewal_text};
 
 use blocks::Id;
@@ -44,6 +44,22 @@ impl RenewalFormRefusal {
         ensures { result ≡ form_refusal_number self }
     {
         self as u8
+    }
+
+    /// Its name, as it is printed.
+    pub fn name(self) -> &'static str
+        ensures name { result.now ≡ form_refusal_name self }
+        ensures short { length result.now ≤ 6 }
+    {
+        match self {
+            RenewalFormRefusal::Memory => "Memory",
+            RenewalFormRefusal::Short => "Short",
+            RenewalFormRefusal::Magic => "Magic",
+            RenewalFormRefusal::View => "View",
+            RenewalFormRefusal::Length => "Length",
+            RenewalFormRefusal::Order => "Order",
+            RenewalFormRefusal::Count => "Count",
+        }
     }
 }
 

@@ -175,10 +175,10 @@ fn has_ids(old: &CommitteeView, new: &CommitteeView, s: u16) -> bool
     is_kept(old, new, s) || has_bound_ids(old, new, s)
 }
 
-// Whether each of its keys has.
-fn has_bound_ids(old: &CommitteeView, new: &CommitteeView, s: u16) -> bool
+/// Whether each of its keys has.
+pub(crate) fn has_bound_ids(old: &CommitteeView, new: &CommitteeView, s: u16) -> bool
     requires place { s < n_of old.now }
-    requires size { n_of new.now ≡ n_of old.now }
+    requires still { s < n_of new.now }
     requires count { HasCount old.now new.now s }
     ensures { IsTrue result ↔ AreBound old.now new.now s (keys_of old.now s) }
 {
@@ -223,7 +223,7 @@ fn signature_of(renewal: &Renewal, s: u16) -> Option<SignedVote>
 // Whether it verifies under the key that it names of the slot in the old committee, on the statement of the slot's keys in the new one.
 fn verifies(old: &CommitteeView, new: &CommitteeView, s: u16, vote: &SignedVote) -> bool
     requires place { s < n_of old.now }
-    requires size { n_of new.now ≡ n_of old.now }
+    requires still { s < n_of new.now }
     requires key { vote.now.key < keys_of old.now s }
     ensures { IsTrue result ↔ VerifiesUnder old.now new.now s vote.now.key vote.now.signature }
 {
@@ -231,15 +231,15 @@ fn verifies(old: &CommitteeView, new: &CommitteeView, s: u16, vote: &SignedVote)
     verify(&old.key(s, vote.key), statement.as_bytes(), &vote.signature).is_ok()
 }
 
-// Why a slot is not signed.
-fn unsigned_by(
+/// Why a slot is not signed.
+pub(crate) fn unsigned_by(
     old: &CommitteeView,
     new: &CommitteeView,
     renewal: &Renewal,
     s: u16,
 ) -> Option<RenewalRefusal>
     requires place { s < n_of old.now }
-    requires size { n_of new.now ≡ n_of old.now }
+    requires still { s < n_of new.now }
     requires count { HasCount old.now new.now s }
     ensures none { IfNone result (IsSigned old.now new.now renewal.now s) }
     ensures some { IfSome result (λ refusal. IsUnsignedBy refusal old.now new.now renewal.now s) }

@@ -4,12 +4,14 @@
 
 mod format;
 mod judging;
+mod kinds;
 mod laws;
 mod slot_statement;
 mod slots;
 
 pub use format::{RENEWAL_HEAD_LEN, Renewal, RenewalFormRefusal};
 pub use judging::{RenewalRefusal, renews};
+pub use kinds::{SlotKind, slot_kind};
 pub use laws::{
     a_renewal_keeps_the_weight, each_slot_is_kept_or_signed_for, new_keys_have_one_place,
 };
