@@ -2,7 +2,7 @@
 
 use crate::fault::LineageFault;
 use crate::folder::LineageFolder;
-use crate::names::{LOG, NEXT_FILE, WORDS};
+use crate::names::{LOG, NEXT_FILE, NEXT_RENEWAL, WORDS};
 use blocks::Id;
 use safe_files::{replace_file, sync_folder};
 use stable_log::{FileDisk, Journal};
@@ -71,6 +71,15 @@ impl<F: Files<File = File>> LineageFolder<'_, F> {
     pub fn store_next(&self, chain: &Id, file: &[u8]) -> Result<(), LineageFault> {
         let path = self.within(&self.chain_folder(chain)?, NEXT_FILE)?;
         match self.store(&path, file) {
+            Ok(()) => Ok(()),
+            Err(error) => Err(LineageFault::of(&error, chain)),
+        }
+    }
+
+    /// Stores the renewal by which that committee follows this chain's, before the signer says that it goes over.
+    pub fn store_renewal(&self, chain: &Id, renewal: &[u8]) -> Result<(), LineageFault> {
+        let path = self.within(&self.chain_folder(chain)?, NEXT_RENEWAL)?;
+        match self.store(&path, renewal) {
             Ok(()) => Ok(()),
             Err(error) => Err(LineageFault::of(&error, chain)),
         }

@@ -11,5 +11,5 @@ mod standing;
 
 pub use fault::LineageFault;
 pub use folder::LineageFolder;
-pub use names::{LOG, NEXT_FILE, WORDS};
+pub use names::{LOG, NEXT_FILE, NEXT_RENEWAL, WORDS};
 pub use standing::{KeySet, Standing, has_keys_of};

@@ -15,6 +15,9 @@ pub const WORDS: &str = "words.hsj";
 /// The file of the committee that it goes over to, in the folder of the chain that it leaves.
 pub const NEXT_FILE: &str = "next.hsc";
 
+/// The renewal by which it follows, where there is one, beside it.
+pub const NEXT_RENEWAL: &str = "next.hsr";
+
 /// What says in DIR which chain it began with: the 64 hex digits of its id, and a line feed.
 pub(crate) const LINEAGE: &str = "lineage";
 
