@@ -1,4 +1,5 @@
 pub mod Ids
 pub mod Parameters
+pub mod Pairs
 pub mod VoteReading
 pub mod OneReading

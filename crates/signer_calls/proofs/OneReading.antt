@@ -13,7 +13,7 @@ use Rattle.certificates.specs.declared.vote.TheConstants.{VOTE_LEN}
 use Rattle.replica_answers.specs.Requests.{IsOfBlock}
 use Rattle.replica_answers.specs.declared.request.Request.{Request as Asked}
 use Rattle.replica_answers.specs.declared.request.Request.TheVariants as asks
-use Rattle.signer_calls.specs.Asking.{ARequestHasOneReading, HasContentType, HasGoodTarget, HasNoOrigin, HasRightMethod, IsAdmitted, IsAskedAt, IsAskedOf, IsHeldTo, IsRefusedAt, IsThere, NamesHost, OverAsked, OverFrom, PartAsked, PassesDoor, SuccessorAsked, TimeoutAsked, VoteAsked, no_renewal, query_in}
+use Rattle.signer_calls.specs.Asking.{ARequestHasOneReading, EndorseAsked, HasContentType, HasGoodTarget, HasNoOrigin, HasRightMethod, IsAdmitted, IsAskedAs, IsAskedAt, IsAskedOf, IsAskedPlace, IsHeldTo, IsRefusedAt, IsThere, NamesHost, OverAsked, OverFrom, PartAsked, PassesDoor, RenewAsked, SuccessorAsked, TimeoutAsked, VoteAsked, query_in}
 use Rattle.signer_calls.specs.Places.{HasNoArgument, HasNoName, IsIdOf, IsNamedPlace, IsNumberOf, IsPlace, methods_of}
 use Rattle.signer_calls.specs.SpelledVotes.{IsVote, SpellsVote}
 use Rattle.signer_calls.specs.declared.call.Call.{Call}
@@ -25,6 +25,7 @@ use Rattle.signer_calls.specs.declared.place.Place.TheVariants as place
 use Rattle.signer_calls.specs.declared.query.Query.{Query}
 use Rattle.signer_calls.specs.declared.rules.Rules.{Rules}
 use Rattle.signer_calls.proofs.Ids.{one_spelled}
+use Rattle.signer_calls.proofs.Pairs.{one_pair}
 use Rattle.signer_calls.proofs.Parameters.{one_query}
 
 -- ---- a path names one place
@@ -36,6 +37,7 @@ named path =
     else if bytes_eq path (codes "/vote") then place.Vote
     else if bytes_eq path (codes "/certificate") then place.Certificate
     else if bytes_eq path (codes "/over") then place.Over
+    else if bytes_eq path (codes "/endorse") then place.Endorse
     else if bytes_eq path (codes "/successor") then place.Successor
     else if bytes_eq path (codes "/log") then place.Log
     else if bytes_eq path (codes "/status") then place.Status
@@ -52,6 +54,7 @@ is_named path place.Block is = inl (ap named is, λ none. none.block is)
 is_named path place.Vote is = inl (ap named is, λ none. none.vote is)
 is_named path place.Certificate is = inl (ap named is, λ none. none.certificate is)
 is_named path place.Over is = inl (ap named is, λ none. none.over is)
+is_named path place.Endorse is = inl (ap named is, λ none. none.endorse is)
 is_named path place.Successor is = inl (ap named is, λ none. none.successor is)
 is_named path place.Log is = inl (ap named is, λ none. none.log is)
 is_named path place.Status is = inl (ap named is, λ none. none.status is)
@@ -59,6 +62,7 @@ is_named path place.Live is = inl (ap named is, λ none. none.live is)
 is_named path place.Health is = inl (ap named is, λ none. none.health is)
 is_named path place.Metrics is = inl (ap named is, λ none. none.metrics is)
 is_named path place.Nowhere none = inr (refl, none)
+is_named path place.Renewal never = absurd never
 is_named path (place.Timeout view) never = absurd never
 is_named path (place.VoteIn view) never = absurd never
 is_named path (place.Header id) never = absurd never
@@ -100,6 +104,8 @@ names path place.Block is = without path place.Block is
 names path place.Vote is = without path place.Vote is
 names path place.Certificate is = without path place.Certificate is
 names path place.Over is = without path place.Over is
+names path place.Endorse is = without path place.Endorse is
+names path place.Renewal is = without path place.Renewal is
 names path place.Successor is = without path place.Successor is
 names path place.Log is = without path place.Log is
 names path place.Status is = without path place.Status is
@@ -144,6 +150,19 @@ one_of_names path p q (inr (inr (inr (none, of)))) (inr (inr (inr (none', of')))
 
 one_place : (path : List ℕ) (p q : Place) → IsPlace path p → IsPlace path q → p ≡ q
 one_place path p q is is' = one_of_names path p q (names path p is) (names path q is')
+
+-- ---- a request asks one place
+
+one_asked_as : (rules : Rules) (r : Request (List ℕ)) (named p q : Place) → IsAskedAs rules r named p → IsAskedAs rules r named q → p ≡ q
+one_asked_as rules r named p q (inl (posts, is)) (inl (posts', is')) = is ∙ sym is'
+one_asked_as rules r named p q (inl (posts, is)) (inr (not, is')) = absurd (not posts)
+one_asked_as rules r named p q (inr (not, is)) (inl (posts, is')) = absurd (not posts)
+one_asked_as rules r named p q (inr (not, is)) (inr (not', is')) = is ∙ sym is'
+
+one_asked_place : (rules : Rules) (r : Request (List ℕ)) (p q : Place) → IsAskedPlace rules r p → IsAskedPlace rules r q → p ≡ q
+one_asked_place rules r p q (n, is, of) (m, is', of') =
+    let same = one_place _ n m is is' in
+    one_asked_as rules r m p q (subst (λ (x : Place). IsAskedAs rules r x p) same of) of'
 
 -- ---- a body spells one block
 
@@ -219,6 +238,8 @@ vote_case body (call.Judge v) is = inl (v, refl, is)
 vote_case body (call.Replica x) is = inr is
 vote_case body (call.Certificate x) is = inr is
 vote_case body (call.Over x) is = inr is
+vote_case body call.Endorse is = inr is
+vote_case body (call.Renew x) is = inr is
 vote_case body (call.VoteIn x) is = inr is
 vote_case body (call.Header x) is = inr is
 vote_case body (call.Successor x) is = inr is
@@ -257,17 +278,33 @@ one_successor : (payload : Option (List ℕ)) (a b : Call) → SuccessorAsked pa
 one_successor (Some payload) a b is is' = is ∙ sym is'
 one_successor None a b is is' = is ∙ sym is'
 
-one_over_from : (chain : Option (List ℕ)) (file : List ℕ) (a b : Call) → OverFrom chain file a → OverFrom chain file b → a ≡ b
-one_over_from (Some chain) file a b is is' = is ∙ sym is'
-one_over_from None file a b is is' = is ∙ sym is'
+one_over_from : (chain : Option (List ℕ)) (renewal file : List ℕ) (a b : Call) → OverFrom chain renewal file a → OverFrom chain renewal file b → a ≡ b
+one_over_from (Some chain) renewal file a b is is' = is ∙ sym is'
+one_over_from None renewal file a b is is' = is ∙ sym is'
 
 one_over : (chain : Option (List ℕ)) (body : List ℕ) (a b : Call) → OverAsked chain body a → OverAsked chain body b → a ≡ b
-one_over chain body a b (inl (f, at, is)) (inl (g, at', is')) =
-    let same = append_cancel_left no_renewal f g (sym at ∙ at') in
-    one_over_from chain g a b (subst (λ (x : List ℕ). OverFrom chain x a) same is) is'
-one_over chain body a b (inl (f, at, is)) (inr (none, is')) = absurd (none f at)
-one_over chain body a b (inr (none, is)) (inl (f, at, is')) = absurd (none f at)
+one_over chain body a b (inl (r, f, at, is)) (inl (r', f', at', is')) =
+    let same = one_pair body r f r' f' at at' in
+    let renewals = subst (λ (x : List ℕ). OverFrom chain x f a) same.0 is in
+    one_over_from chain r' f' a b (subst (λ (x : List ℕ). OverFrom chain r' x a) same.1 renewals) is'
+one_over chain body a b (inl (r, f, at, is)) (inr (none, is')) = absurd (none r f at)
+one_over chain body a b (inr (none, is)) (inl (r, f, at, is')) = absurd (none r f at)
 one_over chain body a b (inr (none, is)) (inr (none', is')) = is ∙ sym is'
+
+one_endorse : (body : List ℕ) (a b : Call) → EndorseAsked body a → EndorseAsked body b → a ≡ b
+one_endorse body a b (inl (empty, is)) (inl (empty', is')) = is ∙ sym is'
+one_endorse body a b (inl (empty, is)) (inr (not, is')) = absurd (not empty)
+one_endorse body a b (inr (not, is)) (inl (empty, is')) = absurd (not empty)
+one_endorse body a b (inr (not, is)) (inr (not', is')) = is ∙ sym is'
+
+one_renew : (body : List ℕ) (a b : Call) → RenewAsked body a → RenewAsked body b → a ≡ b
+one_renew body a b (inl (r, f, at, is)) (inl (r', f', at', is')) =
+    let same = one_pair body r f r' f' at at' in
+    is ∙ ap (λ (x : List ℕ). call.Renew (record { renewal = x; file = f })) same.0
+    ∙ ap (λ (x : List ℕ). call.Renew (record { renewal = r'; file = x })) same.1 ∙ sym is'
+one_renew body a b (inl (r, f, at, is)) (inr (none, is')) = absurd (none r f at)
+one_renew body a b (inr (none, is)) (inl (r, f, at, is')) = absurd (none r f at)
+one_renew body a b (inr (none, is)) (inr (none', is')) = is ∙ sym is'
 
 one_asked : (r : Request (List ℕ)) (p : Place) (q : Query) (a b : Call) → IsAskedAt r p q a → IsAskedAt r p q b → a ≡ b
 one_asked r place.Block q a b (x, is, of) (y, is', of') = is ∙ ap (λ (z : Asked). call.Replica z) (one_block (body_of r) x y of of') ∙ sym is'
@@ -276,6 +313,8 @@ one_asked r (place.Timeout None) q a b is is' = is ∙ sym is'
 one_asked r place.Vote q a b of of' = one_vote_call (body_of r) a b (vote_case (body_of r) a of) (vote_case (body_of r) b of')
 one_asked r place.Certificate q a b is is' = is ∙ sym is'
 one_asked r place.Over q a b of of' = one_over q.chain (body_of r) a b of of'
+one_asked r place.Endorse q a b of of' = one_endorse (body_of r) a b of of'
+one_asked r place.Renewal q a b of of' = one_renew (body_of r) a b of of'
 one_asked r (place.VoteIn (Some view)) q a b is is' = is ∙ sym is'
 one_asked r (place.VoteIn None) q a b is is' = is ∙ sym is'
 one_asked r (place.Header (Some id)) q a b is is' = is ∙ sym is'
@@ -397,5 +436,5 @@ one_of_place rules committee r p a b (inr (x, is, at)) (inr (y, is', at')) =
 
 pub one_reading : ARequestHasOneReading
 one_reading rules committee r a b x y =
-    let same = one_place _ x.place y.place x.named y.named in
+    let same = one_asked_place rules r x.place y.place x.is y.is in
     one_of_place rules committee r y.place a b (subst (λ (p : Place). Reads rules committee r p a) same x.reads) y.reads

@@ -1,5 +1,5 @@
 -- What a request asks for: one call, or the first thing that is wrong with it.
-use Rattle.std.specs.Prelude.{◌≡◌, ◌≢◌, ◌⊎◌, ◌++◌, ◌∷◌, ℕ, true, false, List, [], Option, Some, None, codes, length}
+use Rattle.std.specs.Prelude.{◌≡◌, ◌≢◌, ◌⊎◌, ℕ, true, false, List, [], Option, Some, None, codes, length}
 use Rattle.blocks.specs.Genesis.{chain_id_of}
 use Rattle.certificates.specs.CertificateReading.{certificate_in}
 use Rattle.certificates.specs.declared.vote.TheConstants.{VOTE_LEN}
@@ -13,7 +13,8 @@ use Rattle.replica_answers.specs.declared.request.Request.TheVariants as asks
 use Rattle.host_rule.specs.HostRules.{HasGoodHost}
 use Rattle.signer_calls.specs.Doors.{HasBytesType}
 use Rattle.signer_calls.specs.LogParts.{part_of}
-use Rattle.signer_calls.specs.Places.{IsPlace, has_no_id, is_nowhere, is_over, is_posted, methods_of, queries_of}
+use Rattle.signer_calls.specs.Pairs.{SpellsNoPair, SpellsPair}
+use Rattle.signer_calls.specs.Places.{IsPlace, has_no_id, is_nowhere, is_of_renewal, is_posted, methods_of, queries_of}
 use Rattle.signer_calls.specs.Queries.{HasGoodQuery, IsQuery}
 use Rattle.signer_calls.specs.SpelledVotes.{SpellsVote}
 use Rattle.signer_calls.specs.declared.call.Call.{Call}
@@ -26,6 +27,22 @@ use Rattle.signer_calls.specs.declared.place.Place.{Place}
 use Rattle.signer_calls.specs.declared.place.Place.TheVariants as place
 use Rattle.signer_calls.specs.declared.query.Query.{Query}
 use Rattle.signer_calls.specs.declared.rules.Rules.{Rules}
+
+-- ---- the place
+
+-- what is posted at `/successor` of a signer that goes over is a renewal
+pub record PostsRenewal (rules : Rules) (r : Request (List ℕ)) (named : Place) : Type 0 where
+  pub renews : rules.renews ≡ true
+  pub successor : named ≡ place.Successor
+  pub method : (head_of r).method ≡ codes "POST"
+
+-- as what the place that the path names is asked
+abbrev pub IsAskedAs : Rules → Request (List ℕ) → (named asked : Place) → Type 0
+IsAskedAs rules r named asked = (PostsRenewal rules r named × (asked ≡ place.Renewal)) ⊎ ((PostsRenewal rules r named → ⊥) × (asked ≡ named))
+
+-- the place that a request asks
+abbrev pub IsAskedPlace : Rules → Request (List ℕ) → Place → Type 0
+IsAskedPlace rules r asked = (named : Place) × IsPlace (uri_path (head_of r).uri) named × IsAskedAs rules r named asked
 
 -- ---- the tests
 
@@ -60,7 +77,7 @@ IsNotPosted r p = (is_posted (methods_of p) ≡ false) × ((head_of r).method �
 pub record IsThere (rules : Rules) (r : Request (List ℕ)) (p : Place) : Type 0 where
   pub somewhere : is_nowhere p ≡ false
   pub read : rules.reads_only ≡ true → IsNotPosted r p
-  pub renews : is_over p ≡ true → rules.renews ≡ true
+  pub renews : is_of_renewal p ≡ true → rules.renews ≡ true
 
 abbrev pub IsOneOf : Methods → List ℕ → Type 0
 IsOneOf Post method = method ≡ codes "POST"
@@ -118,19 +135,25 @@ SuccessorAsked None asked = asked ≡ call.Refused refused.Number
 abbrev pub CertificateAsked : List ℕ → Call → Type 0
 CertificateAsked body asked = asked ≡ call.Certificate (certificate_in body)
 
--- a renewal of no bytes
-abbrev pub no_renewal : List ℕ
-no_renewal = 0 ∷ 0 ∷ 0 ∷ 0 ∷ []
-
--- to go over to the committee of the file that stands behind it, from the chain that is named
-abbrev pub OverFrom : Option (List ℕ) → List ℕ → Call → Type 0
-OverFrom (Some chain) file asked = asked ≡ call.Over (record { chain = chain; file = file })
-OverFrom None file asked = asked ≡ call.Refused refused.Chain
+-- to go over to the committee of a file, with its renewal, from the chain that is named
+abbrev pub OverFrom : Option (List ℕ) → List ℕ → List ℕ → Call → Type 0
+OverFrom (Some chain) renewal file asked = asked ≡ call.Over (record { chain = chain; renewal = renewal; file = file })
+OverFrom None renewal file asked = asked ≡ call.Refused refused.Chain
 
 abbrev pub OverAsked : Option (List ℕ) → List ℕ → Call → Type 0
 OverAsked chain body asked =
-    ((file : List ℕ) × (body ≡ no_renewal ++ file) × OverFrom chain file asked)
-    ⊎ (((file : List ℕ) → body ≢ no_renewal ++ file) × (asked ≡ call.Refused refused.Length))
+    ((renewal file : List ℕ) × SpellsPair body renewal file × OverFrom chain renewal file asked)
+    ⊎ (SpellsNoPair body × (asked ≡ call.Refused refused.Length))
+
+-- the body to endorse is empty
+abbrev pub EndorseAsked : List ℕ → Call → Type 0
+EndorseAsked body asked = ((body ≡ []) × (asked ≡ call.Endorse)) ⊎ ((body ≢ []) × (asked ≡ call.Refused refused.Length))
+
+-- whether a file's committee renews this one: of the renewal and the file nothing is judged
+abbrev pub RenewAsked : List ℕ → Call → Type 0
+RenewAsked body asked =
+    ((renewal file : List ℕ) × SpellsPair body renewal file × (asked ≡ call.Renew (record { renewal = renewal; file = file })))
+    ⊎ (SpellsNoPair body × (asked ≡ call.Refused refused.Length))
 
 -- what is asked of a place by a request that is admitted, and whose query names this
 abbrev pub IsAskedAt : Request (List ℕ) → Place → Query → Call → Type 0
@@ -139,6 +162,8 @@ IsAskedAt r (place.Timeout (Some view)) query asked = TimeoutAsked view (body_of
 IsAskedAt r place.Vote query asked = VoteAsked (body_of r) asked
 IsAskedAt r place.Certificate query asked = CertificateAsked (body_of r) asked
 IsAskedAt r place.Over query asked = OverAsked query.chain (body_of r) asked
+IsAskedAt r place.Endorse query asked = EndorseAsked (body_of r) asked
+IsAskedAt r place.Renewal query asked = RenewAsked (body_of r) asked
 IsAskedAt r (place.VoteIn (Some view)) query asked = asked ≡ call.VoteIn view
 IsAskedAt r (place.Header (Some id)) query asked = asked ≡ call.Header id
 IsAskedAt r place.Log query asked = PartAsked query asked
@@ -180,11 +205,10 @@ IsAskedOf rules committee r p asked =
 
 -- ---- the whole
 
--- the request's path names a place, and the request asks a signer of the committee for this there, or is refused at the first test
--- that it fails
+-- the request asks a place, and a signer of the committee for this there, or is refused at the first test that it fails
 pub record AsksFor (rules : Rules) (committee : List ℕ) (r : Request (List ℕ)) (asked : Call) : Type 0 where
   pub place : Place
-  pub named : IsPlace (uri_path (head_of r).uri) place
+  pub is : IsAskedPlace rules r place
   pub reads : (IsAdmitted rules r place × IsAskedOf rules committee r place asked)
       ⊎ ((refusal : CallRefusal) × (asked ≡ call.Refused refusal) × IsRefusedAt rules r place refusal)
 

@@ -2,7 +2,7 @@
 use Rattle.std.specs.Prelude.{◌≡◌, ◌≢◌, ◌<◌, ◌^◌, ◌++◌, ℕ, Bool, true, false, List, Option, Some, None, codes, decimal, length}
 use Rattle.hex.specs.Hex.{IsBytes, encode_lower}
 use Rattle.signer_calls.specs.declared.place.Place.{Place}
-use Rattle.signer_calls.specs.declared.place.Place.TheVariants.{Block, Timeout, Vote, Certificate, Over, VoteIn, Header, Successor, Log, Status, Live, Health, Metrics, Nowhere}
+use Rattle.signer_calls.specs.declared.place.Place.TheVariants.{Block, Timeout, Vote, Certificate, Over, Endorse, Renewal, VoteIn, Header, Successor, Log, Status, Live, Health, Metrics, Nowhere}
 use Rattle.signer_calls.specs.declared.place.Methods.{Methods}
 use Rattle.signer_calls.specs.declared.place.Methods.TheVariants.{Post, Get}
 use Rattle.signer_calls.specs.declared.place.Queries.{Queries}
@@ -28,6 +28,7 @@ pub record HasNoName (path : List ℕ) : Type 0 where
   pub vote : path ≢ codes "/vote"
   pub certificate : path ≢ codes "/certificate"
   pub over : path ≢ codes "/over"
+  pub endorse : path ≢ codes "/endorse"
   pub successor : path ≢ codes "/successor"
   pub log : path ≢ codes "/log"
   pub status : path ≢ codes "/status"
@@ -41,6 +42,7 @@ IsNamedPlace path Block = path ≡ codes "/block"
 IsNamedPlace path Vote = path ≡ codes "/vote"
 IsNamedPlace path Certificate = path ≡ codes "/certificate"
 IsNamedPlace path Over = path ≡ codes "/over"
+IsNamedPlace path Endorse = path ≡ codes "/endorse"
 IsNamedPlace path Successor = path ≡ codes "/successor"
 IsNamedPlace path Log = path ≡ codes "/log"
 IsNamedPlace path Status = path ≡ codes "/status"
@@ -70,6 +72,8 @@ methods_of (Timeout view) = Post
 methods_of Vote = Post
 methods_of Certificate = Post
 methods_of Over = Post
+methods_of Endorse = Post
+methods_of Renewal = Post
 methods_of _ = Get
 
 abbrev pub is_posted : Methods → Bool
@@ -85,6 +89,8 @@ queries_of (Timeout view) = Chain
 queries_of Vote = Chain
 queries_of Certificate = Chain
 queries_of Over = Chain
+queries_of Endorse = Chain
+queries_of Renewal = Chain
 queries_of (VoteIn view) = Chain
 queries_of (Header id) = Chain
 queries_of _ = Nothing
@@ -94,9 +100,12 @@ abbrev pub has_no_id : Place → Bool
 has_no_id (Header None) = true
 has_no_id _ = false
 
-abbrev pub is_over : Place → Bool
-is_over Over = true
-is_over _ = false
+-- whether it is there only where the signer goes over from one committee to the next
+abbrev pub is_of_renewal : Place → Bool
+is_of_renewal Over = true
+is_of_renewal Endorse = true
+is_of_renewal Renewal = true
+is_of_renewal _ = false
 
 abbrev pub is_nowhere : Place → Bool
 is_nowhere Nowhere = true

@@ -1,14 +1,15 @@
 //! What a request asks for.
 
-ghost use Rattle.std.specs.Prelude.{◌≡◌, ◌↔◌, ◌++◌, ℕ, List, IfOk, IsTrue, MatchOption, option_copied};
+ghost use Rattle.std.specs.Prelude.{◌≡◌, ◌↔◌, IfOk, IsTrue, MatchOption, option_copied};
 ghost use Rattle.http.specs.Request.{head_of};
-ghost use Rattle.signer_calls.specs.Asking.{AsksFor, CertificateAsked, HasContentType, HasGoodTarget, HasNoOrigin, HasRightMethod, IsAdmitted, IsAnother, IsAskedAt, IsAskedOf, IsHeldTo, IsOfChain, IsRefusedAt, IsThere, NamesHost, OverAsked, PartAsked, PassesDoor, SuccessorAsked, VoteAsked, no_renewal};
+ghost use Rattle.signer_calls.specs.Asking.{AsksFor, CertificateAsked, EndorseAsked, HasContentType, HasGoodTarget, HasNoOrigin, HasRightMethod, IsAdmitted, IsAnother, IsAskedAt, IsAskedOf, IsAskedPlace, IsHeldTo, IsOfChain, IsRefusedAt, IsThere, NamesHost, OverAsked, PartAsked, PassesDoor, PostsRenewal, RenewAsked, SuccessorAsked, VoteAsked};
 ghost use Rattle.signer_calls.specs.Places.{queries_of};
 ghost use Rattle.signer_calls.specs.Queries.{HasGoodQuery, IsChainAlone};
 
 use crate::call::{Call, CallRefusal, Over};
 use crate::door::has_bytes_type;
 use crate::log_part::part_of;
+use crate::pair::pair_in;
 use crate::place::{Methods, Place, Queries, behind, id_in, is_same, place_of};
 use crate::query::{Query, named_in, names_payload};
 use crate::rules::Rules;
@@ -21,9 +22,6 @@ use http::Request;
 use replica_answers::{Request as Asked, block_in};
 use std::alloc::{AllocError, Global};
 
-/// How a body to go over begins: the length of a renewal, of which there is none.
-const NO_RENEWAL: [u8; 4] = [0; 4];
-
 /// What a request asks of this committee's signer, or the first thing that is wrong with it: `AllocError` where memory was refused.
 pub fn call_of(
     alloc: Global,
@@ -33,12 +31,32 @@ pub fn call_of(
 ) -> Result<Call, AllocError>
     ensures { IfOk result (AsksFor rules.now committee.now request.now) }
 {
-    let place = place_of(request.uri().path().as_bytes());
+    let place = asked_place(rules, request);
     if let Some(refusal) = refused_at(rules, request, place)? {
         return Ok(Call::Refused(refusal));
     }
     let call = asked_of(alloc, rules, committee, request, place)?;
     Ok(call)
+}
+
+// The place that a request asks.
+fn asked_place(rules: &Rules, request: &Request<Bytes>) -> Place
+    ensures { IsAskedPlace rules.now request.now result }
+{
+    let named = place_of(request.uri().path().as_bytes());
+    if posts_renewal(rules, request, named) {
+        return Place::Renewal;
+    }
+    named
+}
+
+fn posts_renewal(rules: &Rules, request: &Request<Bytes>, named: Place) -> bool
+    ensures { IsTrue result ↔ PostsRenewal rules.now request.now named }
+{
+    match named {
+        Place::Successor => rules.renews && has_method(request, b"POST"),
+        _ => false,
+    }
 }
 
 // The first thing that is wrong with a request, before its arguments are read.
@@ -116,6 +134,8 @@ fn asked_at(
         Place::Vote => Ok(vote_asked(body)),
         Place::Certificate => certificate_asked(alloc, body),
         Place::Over => over_asked(&query.chain, request.body()),
+        Place::Endorse => Ok(endorse_asked(body)),
+        Place::Renewal => renew_asked(request.body()),
         Place::VoteIn(Some(view)) => Ok(Call::VoteIn(view)),
         Place::Header(Some(id)) => Ok(Call::Header(id)),
         Place::Successor => Ok(successor_asked(query)),
@@ -165,24 +185,39 @@ fn certificate_asked(alloc: Global, body: &[u8]) -> Result<Call, AllocError>
     }
 }
 
-// To go over to the committee of the file behind a renewal of no bytes, from the chain that is named.
+// To go over to the committee of a file, with its renewal, from the chain that is named.
 fn over_asked(chain: &Option<Id>, body: &Bytes) -> Result<Call, AllocError>
     ensures { IfOk result (OverAsked chain.now body.now) }
 {
-    if !has_no_renewal(body.as_slice()) {
+    let Some(pair) = pair_in(body)? else {
         return Ok(Call::Refused(CallRefusal::Length));
-    }
+    };
     let Some(chain) = *chain else {
         return Ok(Call::Refused(CallRefusal::Chain));
     };
-    let file = body.slice(NO_RENEWAL.len()..)?;
-    Ok(Call::Over(Over { chain, file }))
+    Ok(Call::Over(Over {
+        chain,
+        renewal: pair.renewal,
+        file: pair.file,
+    }))
 }
 
-fn has_no_renewal(body: &[u8]) -> bool
-    ensures { IsTrue result ↔ ((file : List ℕ) × (body.now ≡ no_renewal ++ file)) }
+fn renew_asked(body: &Bytes) -> Result<Call, AllocError>
+    ensures { IfOk result (RenewAsked body.now) }
 {
-    body.starts_with(&NO_RENEWAL)
+    match pair_in(body)? {
+        Some(pair) => Ok(Call::Renew(pair)),
+        None => Ok(Call::Refused(CallRefusal::Length)),
+    }
+}
+
+fn endorse_asked(body: &[u8]) -> Call
+    ensures { EndorseAsked body.now result }
+{
+    if !body.is_empty() {
+        return Call::Refused(CallRefusal::Length);
+    }
+    Call::Endorse
 }
 
 // The call, but where it is for one chain and names another.
@@ -280,7 +315,7 @@ fn is_there(rules: &Rules, request: &Request<Bytes>, place: Place) -> bool
     if place.is_nowhere() {
         return false;
     }
-    if place.is_over() && !rules.renews {
+    if place.is_of_renewal() && !rules.renews {
         return false;
     }
     !rules.reads_only || !(place.is_posted() || has_method(request, b"POST"))

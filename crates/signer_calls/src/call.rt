@@ -11,11 +11,22 @@ use certificates::{Certificate, CertificateRefusal, SignedVote};
 use http::StatusCode;
 use replica_answers::Request;
 
-/// What a call to go over names: the chain that is left, and the file of the committee that follows.
+/// What a call to go over names: the chain that is left, and the file of the committee that follows, with its renewal.
 #[derive(Drop)]
 pub struct Over {
     /// The chain that the call names.
     pub chain: Id,
+    /// The bytes of the renewal, which may be none.
+    pub renewal: Bytes,
+    /// The bytes of the file.
+    pub file: Bytes,
+}
+
+/// A renewal, and the file of a committee that it may be for.
+#[derive(Drop)]
+pub struct Renewing {
+    /// The bytes of the renewal, which may be none.
+    pub renewal: Bytes,
     /// The bytes of the file.
     pub file: Bytes,
 }
@@ -31,6 +42,10 @@ pub enum Call {
     Certificate(Result<Certificate, CertificateRefusal>),
     /// To go over to the next committee: `POST /over`. Whether it is from this chain is not looked at here.
     Over(Over),
+    /// The statement of this replica's next keys, signed: `POST /endorse`.
+    Endorse,
+    /// Whether a file's committee renews this one: `POST /successor`. Nothing is read of either here.
+    Renew(Renewing),
     /// The log's vote in this view: `GET /vote/V`.
     VoteIn(u64),
     /// Whether the header of this id is held: `GET /block/ID`.

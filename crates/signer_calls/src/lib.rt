@@ -6,13 +6,14 @@ mod call;
 mod door;
 mod laws;
 mod log_part;
+mod pair;
 mod place;
 mod query;
 mod rules;
 mod vote_reading;
 
 pub use asking::call_of;
-pub use call::{Call, CallRefusal, Over};
+pub use call::{Call, CallRefusal, Over, Renewing};
 pub use laws::a_request_has_one_reading;
 pub use log_part::{LogPart, MOST_ENTRIES_AT_ONCE};
 pub use place::{Methods, Place};

@@ -1,12 +1,12 @@
 //! What the path of a call names.
 
 ghost use Rattle.std.specs.Prelude.{◌≡◌, ◌≢◌, ◌↔◌, ◌++◌, ℕ, List, IsTrue, MatchOption};
-ghost use Rattle.signer_calls.specs.Places.{IsIdOf, IsNamedPlace, IsPlace, has_no_id, is_nowhere, is_over, is_posted, methods_of, queries_of};
+ghost use Rattle.signer_calls.specs.Places.{IsIdOf, IsNamedPlace, IsPlace, has_no_id, is_nowhere, is_of_renewal, is_posted, methods_of, queries_of};
 
 use blocks::Id;
 use printed_lines::{id_digits, number_in};
 
-/// What the path of a call names.
+/// What a call is about: what its path names, and at `/successor` its method, too.
 #[derive(Clone, Copy, Debug, PartialEq, Eq)]
 pub enum Place {
     /// `/block`
@@ -19,6 +19,10 @@ pub enum Place {
     Certificate,
     /// `/over`
     Over,
+    /// `/endorse`
+    Endorse,
+    /// `/successor`, when something is posted there to a signer that goes over: no path alone names it.
+    Renewal,
     /// `/vote/V`, if V is a number of 64 bits as it is printed.
     VoteIn(Option<u64>),
     /// `/block/ID`, if ID is 64 hex digits in lower case.
@@ -66,9 +70,8 @@ impl Place {
         ensures { result ≡ methods_of self }
     {
         match self {
-            Place::Block | Place::Timeout(_) | Place::Vote | Place::Certificate | Place::Over => {
-                Methods::Post
-            }
+            Place::Block | Place::Timeout(_) | Place::Vote | Place::Certificate => Methods::Post,
+            Place::Over | Place::Endorse | Place::Renewal => Methods::Post,
             _ => Methods::Get,
         }
     }
@@ -90,7 +93,8 @@ impl Place {
             Place::Log => Queries::Part,
             Place::Successor => Queries::Payload,
             Place::Block | Place::Timeout(_) | Place::Vote | Place::Certificate => Queries::Chain,
-            Place::Over | Place::VoteIn(_) | Place::Header(_) => Queries::Chain,
+            Place::Over | Place::Endorse | Place::Renewal => Queries::Chain,
+            Place::VoteIn(_) | Place::Header(_) => Queries::Chain,
             _ => Queries::Nothing,
         }
     }
@@ -105,11 +109,12 @@ impl Place {
         }
     }
 
-    pub(crate) fn is_over(self) -> bool
-        ensures { result ≡ is_over self }
+    // Whether it is there only where the signer goes over from one committee to the next.
+    pub(crate) fn is_of_renewal(self) -> bool
+        ensures { result ≡ is_of_renewal self }
     {
         match self {
-            Place::Over => true,
+            Place::Over | Place::Endorse | Place::Renewal => true,
             _ => false,
         }
     }
@@ -155,6 +160,9 @@ fn named_place(path: &[u8]) -> Place
     }
     if is_same(path, b"/over") {
         return Place::Over;
+    }
+    if is_same(path, b"/endorse") {
+        return Place::Endorse;
     }
     if is_same(path, b"/successor") {
         return Place::Successor;

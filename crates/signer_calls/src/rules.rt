@@ -10,7 +10,8 @@ pub struct Rules {
     pub hosts: Vec<String>,
     /// Nothing can be posted.
     pub reads_only: bool,
-    /// The signer goes over from one committee to the next: each call that is for one chain names it, and there is `/over`.
+    /// The signer goes over from one committee to the next: each call that is for one chain names it, and one can post to `/over`,
+    /// `/endorse` and `/successor`.
     pub renews: bool,
     /// How far above the desk's vote view a block's view, or a timeout's, may lie.
     pub furthest: u64,
