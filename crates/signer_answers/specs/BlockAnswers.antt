@@ -1,10 +1,11 @@
 -- What may come of a request where some blocks are not voted for, and a log that was put back is found out.
-use Rattle.std.specs.Prelude.{◌≡◌, ◌≢◌, ◌⊎◌, ℕ, List, Option}
+use Rattle.std.specs.Prelude.{◌≡◌, ◌≢◌, ◌≤◌, ◌⊎◌, ℕ, List, Option, true}
 use Rattle.blocks.specs.Headers.{Header}
 use Rattle.blocks.specs.Replica.{Stored}
-use Rattle.handover.specs.Handovers.{handover_mark}
+use Rattle.handover.specs.Handovers.{IsHandover, handover_mark}
 use Rattle.certificates.specs.BlockChecks.{IsBlockRefusal, IsChecked}
 use Rattle.certificates.specs.Certificates.{Certificate}
+use Rattle.replica_core.specs.Marks.{IsFirstMarkedIn}
 use Rattle.replica_core.specs.declared.plan.Act.TheVariants.{Vote}
 use Rattle.stable_log.specs.declared.disk.Disk.{Ghosts}
 use Rattle.vote_log.specs.declared.log_error.LogError.{LogError}
@@ -13,8 +14,10 @@ use Rattle.vote_desk.specs.DeskRefusals.{from_log}
 use Rattle.vote_desk.specs.Desks.{DeskView, left_of}
 use Rattle.vote_desk.specs.Firsts.{RefusesOnce, RepliesOnce}
 use Rattle.vote_desk.specs.Holding.{IsHeldOnly, RefusesHold}
+use Rattle.vote_desk.specs.Sparing.{RefusesSparing, RepliesSparing}
 use Rattle.vote_desk.specs.SomeDesk.{IsDeskOf, RefusesUnvoted, RepliesUnvoted, SomeDesk, SomeDeskMoves}
 use Rattle.vote_desk.specs.declared.desk_error.DeskError.{DeskError}
+use Rattle.vote_desk.specs.declared.parts.Left.{Left}
 use Rattle.vote_desk.specs.declared.reply.Answer.{Answer}
 use Rattle.vote_desk.specs.declared.reply.Answer.TheVariants.{Held}
 use Rattle.vote_desk.specs.declared.reply.Receipt.{Receipt}
@@ -25,7 +28,10 @@ use Rattle.replica_answers.specs.declared.request.Request.{Request}
 use Rattle.replica_answers.specs.declared.request.Request.TheVariants as asks
 use Rattle.replica_answers.specs.Answers.{IsAnswerTo, block_of}
 use Rattle.signer_answers.specs.Approvals.{IsApproved, IsWithheld, Telling}
+use Rattle.signer_answers.specs.Sparings.{last_spare, ordinary_spare}
 use Rattle.signer_answers.specs.Guards.{IsNotVotedBefore, IsUndecided, IsPutBack, IsRemembered, IsUnreadAs, IsUnreadable, IsVotedBefore}
+use Rattle.signer_answers.specs.declared.sparing.Way.{Way}
+use Rattle.signer_answers.specs.declared.sparing.Way.TheVariants as way
 use Rattle.signer_answers.specs.declared.told.Told.{Told}
 use Rattle.signer_answers.specs.declared.told.Told.TheVariants as told
 
@@ -34,28 +40,73 @@ module _ {D : Type 0} (disk : Ghosts D) (committee : List ℕ) (replica : ℕ) (
   abbrev pub SomeMove : ((old new : DeskView D) → Type 0) → Type 0
   SomeMove Moves = SomeDeskMoves (IsDeskOf disk committee replica opening) Moves
 
+  -- some such desk is so
+  abbrev pub SomeOne : (DeskView D → Type 0) → Type 0
+  SomeOne Is = SomeDesk (IsDeskOf disk committee replica opening) Is
+
   -- ---- a block
 
   -- some desk's log has no room for an entry
   abbrev pub IsFull : Type 0
-  IsFull = SomeDesk (IsDeskOf disk committee replica opening) (λ d. (left_of d).entries ≡ 0)
+  IsFull = SomeOne (λ d. (left_of d).entries ≡ 0)
 
-  -- the block is approved, and some desk moved by its one event with this reply, which is no vote for a handover above another; or
-  -- it is withheld, and that desk gave up on its view before, so that the reply is no vote; or the log is full, and the block was held
-  -- and no more
+  -- the block stands on genesis, or on some desk a block below it in its chain hands over
+  abbrev pub IsBeside : Header → Type 0
+  IsBeside header =
+      (header.parent_view ≡ 0)
+      ⊎ ((h : Header) × SomeOne (λ d. IsFirstMarkedIn d.core handover_mark header.parent h))
+
+  -- what is spared for later by a block that does not hand over
+  abbrev pub IsSpareFor : Header → Left → Type 0
+  IsSpareFor header spare = (spare ≡ ordinary_spare) ⊎ (IsBeside header × (spare ≡ last_spare))
+
+  -- the signer spares for later, the block hands over, and some desk has no more than the last indices left
+  pub record IsTooLate (tells : Telling) (header : Header) : Type 0 where
+    pub spares : tells.spares ≡ true
+    pub marked : IsHandover header
+    pub low : SomeOne (λ d. (left_of d).indices ≤ last_spare.indices)
+
+  -- the block is withheld, or comes too late: it is not voted for
+  abbrev pub IsUnvoted : Telling → Header → Type 0
+  IsUnvoted tells header = IsWithheld tells header ⊎ IsTooLate tells header
+
+  -- the block is approved, and hands over where the signer spares for later
+  pub record IsUnspared (tells : Telling) (header : Header) : Type 0 where
+    pub approved : IsApproved committee tells header
+    pub marked : tells.spares ≡ true → IsHandover header
+
+  -- the block is approved and does not hand over, and so much is spared for later
+  pub record IsSpared (tells : Telling) (header : Header) (spare : Left) : Type 0 where
+    pub spares : tells.spares ≡ true
+    pub approved : IsApproved committee tells header
+    pub unmarked : IsHandover header → ⊥
+    pub is_spare : IsSpareFor header spare
+
+  -- how a block is delivered
+  abbrev pub IsWay : Telling → Header → Way → Type 0
+  IsWay tells header way.Unvoted = IsUnvoted tells header
+  IsWay tells header way.Once = IsUnspared tells header
+  IsWay tells header (way.Sparing spare) = IsSpared tells header spare
+
+  -- the block is approved, and some desk moved by its one event with this reply, which is no vote for a handover above another, nor one
+  -- for which too little is left; or it is not voted for, and that desk gave up on its view before, so that the reply is no vote; or the
+  -- log is full, and the block was held and no more
   abbrev pub IsReplied : Telling → Header → Certificate → Reply → Type 0
   IsReplied tells header certificate reply =
-      (IsApproved tells header × SomeMove (RepliesOnce disk committee replica handover_mark (block_of committee header certificate) reply))
-      ⊎ ((IsWithheld tells header × (act_of reply.act ≢ Vote)
+      (IsUnspared tells header × SomeMove (RepliesOnce disk committee replica handover_mark (block_of committee header certificate) reply))
+      ⊎ ((IsUnvoted tells header × (act_of reply.act ≢ Vote)
       × SomeMove (RepliesUnvoted disk committee replica (block_of committee header certificate) reply))
-      ⊎ (IsFull × (reply.act ≡ Held) × SomeMove (IsHeldOnly header reply)))
+      ⊎ ((IsFull × (reply.act ≡ Held) × SomeMove (IsHeldOnly header reply))
+      ⊎ ((spare : Left) × IsSpared tells header spare
+      × SomeMove (RepliesSparing disk committee replica spare (block_of committee header certificate) reply))))
 
   -- .. and some desk refuses it so, and is left so
   abbrev pub IsRefused : Telling → Header → DeskError → Type 0
   IsRefused tells header refusal =
-      (IsApproved tells header × SomeMove (RefusesOnce disk handover_mark header refusal))
-      ⊎ ((IsWithheld tells header × SomeMove (RefusesUnvoted disk header refusal))
-      ⊎ (IsFull × SomeMove (RefusesHold header refusal)))
+      (IsUnspared tells header × SomeMove (RefusesOnce disk handover_mark header refusal))
+      ⊎ ((IsUnvoted tells header × SomeMove (RefusesUnvoted disk header refusal))
+      ⊎ ((IsFull × SomeMove (RefusesHold header refusal))
+      ⊎ ((spare : Left) × IsSpared tells header spare × SomeMove (RefusesSparing disk spare header refusal))))
 
   -- the certificate is good and remembered, and the desk replies so
   pub record IsReplyWithin (tells : Telling) (receipts : List Receipt) (header : Header) (certificate : Certificate) (reply : Reply) : Type 0 where

@@ -1,4 +1,5 @@
 pub mod Approvals
+pub mod Sparings
 pub mod Showings
 pub mod Guards
 pub mod BlockAnswers

@@ -1,11 +1,9 @@
 //! What comes of a request.
 
-ghost use Rattle.std.specs.Prelude.{◌≡◌, IfErr, IfOk, IsFalse, IsTrue, None, Some};
-ghost use Rattle.handover.specs.Handovers.{IsHandover};
+ghost use Rattle.std.specs.Prelude.{◌≡◌, IfErr, IfOk, None};
 ghost use Rattle.vote_desk.specs.Deliveries.{with_receipt};
 ghost use Rattle.vote_desk.specs.declared.reply.Answer.TheVariants.{Held};
-ghost use Rattle.signer_answers.specs.Approvals.{IsApproved, IsOtherFirst, IsUnapproved, IsWithheld, MayBegin};
-ghost use Rattle.signer_answers.specs.BlockAnswers.{IsBlockTold, IsFull, IsRefusalWithin, IsReplyWithin, IsSignerAnswer};
+ghost use Rattle.signer_answers.specs.BlockAnswers.{IsBlockTold, IsFull, IsRefusalWithin, IsReplyWithin, IsSignerAnswer, IsSpared, IsUnspared, IsUnvoted};
 ghost use Rattle.signer_answers.specs.Guards.{IsRemembered};
 ghost use Rattle.signer_answers.specs.Tellings.{IsShownBy, receipts_behind};
 ghost use Rattle.replica_answers.specs.declared.request.Request.TheVariants.{Block};
@@ -15,14 +13,15 @@ use crate::caller::Caller;
 use crate::guard::{forgets, refusal_of, stop, vote_for};
 use crate::keeper::Keeper;
 use crate::office::Office;
+use crate::sparing::{Way, way_of};
 use crate::told::Told;
 use blocks::Header;
 use certificates::{Certificate, CheckedBlock, Verifier, check_block};
-use handover::{HANDOVER_MARK, is_handover};
+use handover::HANDOVER_MARK;
 use replica_answers::{Outcome, Request, time_out};
 use stable_log::Disk;
 use std::sync::Wait;
-use vote_desk::{Answer, DeskError, DeskNaming, Receipt, Reply, Session};
+use vote_desk::{Answer, DeskError, DeskNaming, Left, Receipt, Reply, Session};
 
 /// What comes of a request. What asks for nothing of the desk is answered by what is wrong with it. Only a block may need
 /// memory: where it is refused, the desk's refusal says so. The keeper is asked of each block that hands over, once its
@@ -175,8 +174,8 @@ fn hold<N: DeskNaming, T: Wait, D: Disk, K: Approver + Keeper>(
     }
 }
 
-// Delivers a block, to be voted for only if it may be: no handover is that is not approved, or above another in its chain.
-#[tactic(auto, using(crate::proofs::Unvoted::unvoted_adds_none))]
+// Delivers a block, to be voted for only if it may be: no handover that is not approved, or above another in its chain, and none where
+// too little is left.
 fn deliver_in_room<N: DeskNaming, T: Wait, D: Disk, K: Approver + Keeper>(
     rt: &T,
     office: &Office<'_, N, D, K>,
@@ -194,50 +193,98 @@ fn deliver_in_room<N: DeskNaming, T: Wait, D: Disk, K: Approver + Keeper>(
         session.new.receipts.items ≡ with_receipt session.old.receipts.items reply.act) }
     ensures err { IfErr result (λ e. session.new.receipts.items ≡ session.old.receipts.items) }
 {
-    if is_withheld(office.keeper, block.header()) {
-        match office.desk.deliver_unvoted(rt, session, block) {
-            Ok(reply) => Ok(reply),
-            Err(refusal) => Err(refusal),
-        }
-    } else {
-        match office
-            .desk
-            .deliver_marked_once(rt, session, block, HANDOVER_MARK)
-        {
-            Ok(reply) => Ok(reply),
-            Err(refusal) => Err(refusal),
-        }
+    match way_of(rt, office, block.header()) {
+        Way::Unvoted => deliver_unvoted(rt, office, session, block),
+        Way::Once => deliver_once(rt, office, session, block),
+        Way::Sparing(spare) => deliver_sparing(rt, office, session, block, &spare),
     }
 }
 
-// Whether the block hands over to a committee that is not approved, or begins the chain and is not the one that may.
-fn is_withheld<K: Approver>(keeper: &K, block: &Header) -> bool
-    ensures withheld { IsTrue result → IsWithheld (K.tells keeper.now) block.now }
-    ensures approved { IsFalse result → IsApproved (K.tells keeper.now) block.now }
+// Delivers a block that is not voted for.
+#[tactic(auto, using(crate::proofs::Unvoted::unvoted_adds_none))]
+fn deliver_unvoted<N: DeskNaming, T: Wait, D: Disk, K: Approver + Keeper>(
+    rt: &T,
+    office: &Office<'_, N, D, K>,
+    session: &mut Session<N>,
+    block: CheckedBlock,
+) -> Result<Reply, DeskError>
+    requires committee { block.committee ≡ N.committee }
+    requires remembered { IsRemembered D.Disk N.committee N.replica N.opening
+        session.old.receipts.items block.certificate }
+    requires unvoted { IsUnvoted D.Disk N.committee N.replica N.opening
+        (K.tells office.now.keeper.now) block.header }
+    ensures reply { IfOk result (IsReplyWithin D.Disk N.committee N.replica N.opening
+        (K.tells office.now.keeper.now) session.old.receipts.items block.entry.header block.entry.certificate) }
+    ensures refused { IfErr result (IsRefusalWithin D.Disk N.committee N.replica N.opening
+        (K.tells office.now.keeper.now) session.old.receipts.items block.entry.header block.entry.certificate) }
+    ensures receipt { IfOk result (λ reply.
+        session.new.receipts.items ≡ with_receipt session.old.receipts.items reply.act) }
+    ensures err { IfErr result (λ e. session.new.receipts.items ≡ session.old.receipts.items) }
 {
-    is_other_first(keeper, block) || is_unapproved(keeper, block)
-}
-
-fn is_other_first<K: Approver>(keeper: &K, block: &Header) -> bool
-    ensures other { IsTrue result → IsOtherFirst (K.tells keeper.now).begins block.now }
-    ensures begins { IsFalse result → MayBegin (K.tells keeper.now).begins block.now }
-{
-    match keeper.begins() {
-        Some(payload) => block.parent_view == 0 && block.payload != payload,
-        None => false,
+    // For the proof: the block's certificate is good.
+    let _header = block.header();
+    match office.desk.deliver_unvoted(rt, session, block) {
+        Ok(reply) => Ok(reply),
+        Err(refusal) => Err(refusal),
     }
 }
 
-fn is_unapproved<K: Approver>(keeper: &K, block: &Header) -> bool
-    ensures unapproved { IsTrue result → IsUnapproved (K.tells keeper.now) block.now }
-    ensures told { IsFalse result → IsHandover block.now
-        → (K.tells keeper.now).approves (Some block.now.payload) }
+// Delivers a block that may be voted for where more is left than is to be spared.
+fn deliver_sparing<N: DeskNaming, T: Wait, D: Disk, K: Approver + Keeper>(
+    rt: &T,
+    office: &Office<'_, N, D, K>,
+    session: &mut Session<N>,
+    block: CheckedBlock,
+    spare: &Left,
+) -> Result<Reply, DeskError>
+    requires committee { block.committee ≡ N.committee }
+    requires remembered { IsRemembered D.Disk N.committee N.replica N.opening
+        session.old.receipts.items block.certificate }
+    requires spared { IsSpared D.Disk N.committee N.replica N.opening
+        (K.tells office.now.keeper.now) block.header spare.now }
+    ensures reply { IfOk result (IsReplyWithin D.Disk N.committee N.replica N.opening
+        (K.tells office.now.keeper.now) session.old.receipts.items block.entry.header block.entry.certificate) }
+    ensures refused { IfErr result (IsRefusalWithin D.Disk N.committee N.replica N.opening
+        (K.tells office.now.keeper.now) session.old.receipts.items block.entry.header block.entry.certificate) }
+    ensures receipt { IfOk result (λ reply.
+        session.new.receipts.items ≡ with_receipt session.old.receipts.items reply.act) }
+    ensures err { IfErr result (λ e. session.new.receipts.items ≡ session.old.receipts.items) }
 {
-    if !is_handover(block) {
-        return false;
+    // For the proof: the block's certificate is good.
+    let _header = block.header();
+    match office.desk.deliver_sparing(rt, session, block, spare) {
+        Ok(reply) => Ok(reply),
+        Err(refusal) => Err(refusal),
     }
-    match keeper.approved() {
-        Some(payload) => payload != block.payload,
-        None => true,
+}
+
+// Delivers a block that may be voted for, unless it hands over above another one that does.
+fn deliver_once<N: DeskNaming, T: Wait, D: Disk, K: Approver + Keeper>(
+    rt: &T,
+    office: &Office<'_, N, D, K>,
+    session: &mut Session<N>,
+    block: CheckedBlock,
+) -> Result<Reply, DeskError>
+    requires committee { block.committee ≡ N.committee }
+    requires remembered { IsRemembered D.Disk N.committee N.replica N.opening
+        session.old.receipts.items block.certificate }
+    requires unspared { IsUnspared D.Disk N.committee N.replica N.opening
+        (K.tells office.now.keeper.now) block.header }
+    ensures reply { IfOk result (IsReplyWithin D.Disk N.committee N.replica N.opening
+        (K.tells office.now.keeper.now) session.old.receipts.items block.entry.header block.entry.certificate) }
+    ensures refused { IfErr result (IsRefusalWithin D.Disk N.committee N.replica N.opening
+        (K.tells office.now.keeper.now) session.old.receipts.items block.entry.header block.entry.certificate) }
+    ensures receipt { IfOk result (λ reply.
+        session.new.receipts.items ≡ with_receipt session.old.receipts.items reply.act) }
+    ensures err { IfErr result (λ e. session.new.receipts.items ≡ session.old.receipts.items) }
+{
+    // For the proof: the block's certificate is good.
+    let _header = block.header();
+    match office
+        .desk
+        .deliver_marked_once(rt, session, block, HANDOVER_MARK)
+    {
+        Ok(reply) => Ok(reply),
+        Err(refusal) => Err(refusal),
     }
 }

@@ -1,10 +1,11 @@
 //! Who says which committee may come next, and has the signer go over to it.
 
-ghost use Rattle.std.specs.Prelude.{◌≡◌, ◌≢◌, ℕ, List, IfOk, None, OnOk};
+ghost use Rattle.std.specs.Prelude.{◌≡◌, ◌≢◌, ℕ, List, IfOk, IfSome, IsTrue, None, OnOk};
 ghost use Rattle.blocks.specs.Genesis.{chain_id_of};
 ghost use Rattle.signer_answers.specs.Approvals.{Telling};
 
-use blocks::{CommitteeRefusal, Id};
+use blocks::{CommitteeRefusal, CommitteeView, Id};
+use std::alloc::AllocError;
 
 /// Why a signer does not go over to the committee of a file.
 #[derive(Clone, Copy, Debug, PartialEq, Eq)]
@@ -17,6 +18,54 @@ pub enum OverFault {
     NotMine,
     /// What the replica would go on with, or its word, can't be read or stored.
     Stopped,
+}
+
+/// Why a replica's next keys can't be told.
+#[derive(Clone, Copy, Debug, PartialEq, Eq)]
+pub enum NextFault {
+    /// Memory was refused.
+    Memory,
+    /// They are still made.
+    Making,
+    /// There are none: they can't be made or read, or are not the ones that it endorsed, or its endorsement can't be read or stored.
+    Stopped,
+}
+
+impl From<AllocError> for NextFault {
+    ghost use Rattle.std.specs.Prelude.{◌≡◌};
+    ghost use Rattle.signer_answers.specs.declared.approver.NextFault.TheVariants.{Memory};
+
+    ghost from_gives = { λ _ fault. fault ≡ Memory };
+
+    fn from(_error: AllocError) -> NextFault {
+        NextFault::Memory
+    }
+}
+
+/// How far a replica's next keys are.
+#[derive(Clone, Copy, Debug, PartialEq, Eq)]
+pub enum NextKeys {
+    /// None are made.
+    None,
+    /// They are made now.
+    Making,
+    /// They are there.
+    Made,
+    /// The replica endorsed them.
+    Endorsed,
+    /// They can't be made or read, or are not the ones that it endorsed.
+    Stopped,
+}
+
+/// How far a signer is that goes over from committee to committee.
+#[derive(Clone, Copy, Debug, PartialEq, Eq)]
+pub struct Progress {
+    /// How far its next keys are.
+    pub next: NextKeys,
+    /// How many committees it was in, this one among them.
+    pub committees: u32,
+    /// In how many of them, up to the one before this, it had the keys that it has.
+    pub kept: u32,
 }
 
 /// Who says which committee the ledger may be handed over to, and has the signer go over to it.
@@ -32,9 +81,28 @@ pub trait Approver {
     fn begins(&self) -> Option<[u8; 32]>
         ensures { result ≡ (tells self.now).begins };
 
-    /// Makes ready what the signer goes on with in the chain of the committee of this file, and answers that chain's id. A fault leaves
-    /// it as it is.
-    fn prepare(&self, file: &[u8]) -> Result<Id, OverFault>
+    /// Whether indices and room in the log are spared for the blocks by which the ledger goes over, and for endorsements.
+    fn spares(&self) -> bool
+        ensures { result ≡ (tells self.now).spares };
+
+    /// Whether the replica has its present keys in this committee, or the next ones that it endorsed.
+    fn has_keys_in(&self, after: &CommitteeView) -> Result<bool, NextFault>
+        ensures { IfOk result (λ has. IsTrue has → (tells self.now).has_keys after.now) };
+
+    /// The endorsement of its next keys that it said before, if it did.
+    fn endorsed(&self) -> Result<Option<Vec<u8>>, NextFault>
+        ensures { IfOk result (λ said. IfSome said (λ bytes. (tells self.now).endorsed bytes.items)) };
+
+    /// The statement of its next keys.
+    fn statement(&self) -> Result<Vec<u8>, NextFault>;
+
+    /// Says this endorsement for good, unless it said another one before. Answers the one that is said.
+    fn endorse(&self, endorsement: &[u8]) -> Result<Vec<u8>, NextFault>
+        ensures { IfOk result (λ said. (tells self.now).endorsed said.items) };
+
+    /// Makes ready what the signer goes on with in the chain of the committee of this file, and answers that chain's id. The renewal by
+    /// which it follows is kept with it, where it is one; without any bytes there is none. A fault leaves it as it is.
+    fn prepare(&self, renewal: &[u8], file: &[u8]) -> Result<Id, OverFault>
         ensures { IfOk result (λ chain. chain ≡ chain_id_of file.now) };
 
     /// Says for good that it goes over by the handover block of this id to the committee of this file, for which it made all ready.
@@ -43,18 +111,24 @@ pub trait Approver {
 
     /// The digest of the file of the committee that it went over to from this chain, if it did.
     fn left_for(&self, chain: &Id) -> Result<Option<[u8; 32]>, OverFault>;
+
+    /// How far it is.
+    fn progress(&self) -> Progress;
 }
 
-/// No committee is approved or gone over to, and nothing is put down.
+/// No committee is approved or gone over to, no keys come next, and nothing is put down.
 #[derive(Clone, Copy, Debug, Default)]
 pub struct NoSuccessor;
 
 impl Approver for NoSuccessor {
-    ghost use Rattle.std.specs.Prelude.{◌≡◌, None};
+    ghost use Rattle.std.specs.Prelude.{◌≡◌, None, false};
 
     ghost tells = { λ _. record {
       approves = λ told. told ≡ None;
       begins = None;
+      spares = false;
+      has_keys = λ _. Unit {0};
+      endorsed = λ _. Unit {0};
       over = λ _ _. Unit {0};
     } };
 
@@ -66,7 +140,27 @@ impl Approver for NoSuccessor {
         None
     }
 
-    fn prepare(&self, _file: &[u8]) -> Result<Id, OverFault> {
+    fn spares(&self) -> bool {
+        false
+    }
+
+    fn has_keys_in(&self, _after: &CommitteeView) -> Result<bool, NextFault> {
+        Ok(false)
+    }
+
+    fn endorsed(&self) -> Result<Option<Vec<u8>>, NextFault> {
+        Ok(None)
+    }
+
+    fn statement(&self) -> Result<Vec<u8>, NextFault> {
+        Err(NextFault::Stopped)
+    }
+
+    fn endorse(&self, _endorsement: &[u8]) -> Result<Vec<u8>, NextFault> {
+        Err(NextFault::Stopped)
+    }
+
+    fn prepare(&self, _renewal: &[u8], _file: &[u8]) -> Result<Id, OverFault> {
         Err(OverFault::NotMine)
     }
 
@@ -76,5 +170,13 @@ impl Approver for NoSuccessor {
 
     fn left_for(&self, _chain: &Id) -> Result<Option<[u8; 32]>, OverFault> {
         Ok(None)
+    }
+
+    fn progress(&self) -> Progress {
+        Progress {
+            next: NextKeys::None,
+            committees: 1,
+            kept: 0,
+        }
     }
 }

@@ -1,4 +1,4 @@
-use Rattle.std.proofs.Common.{ℕ, List, inr, subst}
+use Rattle.std.proofs.Common.{ℕ, List, inl, inr, subst}
 use Rattle.certificates.specs.BlockChecks.{IsChecked}
 use Rattle.signer_answers.proofs.answering.hold.Goals as goal
 
@@ -9,7 +9,7 @@ returns-in-Ok-clause-reply g c =
       checked = subst (λ (committee : List ℕ). IsChecked committee b.header b.certificate) c.requires.committee c.header-header.ensures.is_checked;
       remembered = c.requires.remembered;
       good = c.in-Ok.ensures.reply;
-      event = inr (inr (c.requires.full, c.in-Ok.ensures.held, c.in-Ok.ensures.event));
+      event = inr (inr (inl (c.requires.full, c.in-Ok.ensures.held, c.in-Ok.ensures.event)));
     }
 
 pub returns-in-Err-clause-refused : goal.returns-in-Err-clause-refused
@@ -18,5 +18,5 @@ returns-in-Err-clause-refused g c =
     record {
       checked = subst (λ (committee : List ℕ). IsChecked committee b.header b.certificate) c.requires.committee c.header-header.ensures.is_checked;
       remembered = c.requires.remembered;
-      refused = inr (inr (c.requires.full, c.in-Err.ensures.refused));
+      refused = inr (inr (inl (c.requires.full, c.in-Err.ensures.refused)));
     }
