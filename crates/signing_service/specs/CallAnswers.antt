@@ -1,5 +1,5 @@
 -- What is answered to a call.
-use Rattle.std.specs.Prelude.{◌≡◌, ◌≢◌, ◌⊎◌, ◌<◌, ◌≤◌, ◌+◌, ◌++◌, [], ◌∷◌, ℕ, List, Bool, true, false, Option, Some, None, IfSome, IsSome, MatchOption, codes, min}
+use Rattle.std.specs.Prelude.{◌≡◌, ◌≢◌, ◌⊎◌, ◌<◌, ◌≤◌, ◌+◌, ◌++◌, [], ◌∷◌, ℕ, List, Bool, true, false, Option, Some, None, IfSome, IsSome, MatchOption, Result, codes, min}
 use Rattle.blocks.specs.Genesis.{chain_id_of}
 use Rattle.blocks.specs.Headers.{Header, header_id}
 use Rattle.blocks.specs.Replica.{Stored}
@@ -16,6 +16,7 @@ use Rattle.vote_log.specs.declared.export_error.ExportError.TheVariants as expor
 use Rattle.vote_log.specs.declared.log_error.LogError.{LogError}
 use Rattle.vote_log.specs.declared.log_error.LogError.TheVariants as log
 use Rattle.vote_desk.specs.Desks.{DeskView, HoldsId, status_of}
+use Rattle.vote_desk.specs.Endorsing.{RefusesToEndorse}
 use Rattle.vote_desk.specs.Exports.{IsOut, RefusesExport}
 use Rattle.replica_core.specs.Marks.{HasNoMarkedIn, IsFirstMarkedIn}
 use Rattle.vote_desk.specs.SomeDesk.{IsDeskOf, SomeDesk, SomeDeskMoves, TimesOut}
@@ -49,10 +50,12 @@ use Rattle.signing_service.specs.Judging.{IsCertificateTold, IsJudgementTold}
 use Rattle.signing_service.specs.Metrics.{IsMetricsTold}
 use Rattle.signing_service.specs.Refusals.{IsRefusalTold}
 use Rattle.signing_service.specs.Responses.{IsLine, IsPassing, fields_of_kind}
-use Rattle.signing_service.specs.Statuses.{IsStatusTold}
+use Rattle.signing_service.specs.Renewing.{IsNextFaultTold, IsRenewingTold, IsShown}
+use Rattle.signing_service.specs.Statuses.{IsGoing, IsStatusTold}
 use Rattle.signing_service.specs.Successors.{IsSuccessorTold}
-use Rattle.signing_service.specs.ToldLines.{asking_line, block_asked, desk_status, named_desk_line, outcome_status, put_back_line, reply_line, told_line, unread_line}
+use Rattle.signing_service.specs.ToldLines.{IsDeskTold, asking_line, block_asked, outcome_status, put_back_line, reply_line, told_line, unread_line}
 use Rattle.signer_calls.specs.declared.call.Over.{Over}
+use Rattle.signer_calls.specs.declared.call.Renewing.{Renewing as RenewCall}
 use Rattle.signer_calls.specs.declared.call.Call.{Call}
 use Rattle.signer_calls.specs.declared.call.Call.TheVariants as call
 use Rattle.signer_calls.specs.declared.call.CallRefusal.TheVariants as refused
@@ -62,17 +65,17 @@ use Rattle.signing_service.specs.Crossings.{gone_line, no_commit_line, not_mine_
 use Rattle.signing_service.specs.declared.crossing.Crossing.{Crossing}
 use Rattle.signing_service.specs.declared.crossing.Crossing.TheVariants as crossing
 use Rattle.signing_service.specs.declared.crossing.TheConstants.{MOST_VIEW}
+use Rattle.signing_service.specs.declared.endorsing.Endorsing.{Endorsing}
+use Rattle.signing_service.specs.declared.endorsing.Endorsing.TheVariants as endorsing
+use Rattle.signing_service.specs.declared.going.Going.{Going}
 use Rattle.signing_service.specs.declared.halt.Halt.{Halt}
 use Rattle.signing_service.specs.declared.halt.Halt.TheVariants as halt
 use Rattle.signing_service.specs.declared.metrics.Measured.{Measured}
+use Rattle.signing_service.specs.declared.renewing.NotRenewing.{NotRenewing}
+use Rattle.signing_service.specs.declared.renewing.Renewing.{Renewing}
 use Rattle.signing_service.specs.declared.writing.Kind.TheVariants.{Octets}
 
 -- ---- lines
-
--- the response tells this refusal of the desk: memory may be there again soon, and all others stay as they are
-abbrev pub IsDeskTold : DeskError → Response → Type 0
-IsDeskTold desk.Memory response = IsPassing (named_desk_line desk.Memory) response
-IsDeskTold refusal response = IsLine (desk_status refusal) (named_desk_line refusal) response
 
 -- the response tells that what the log has can't be read
 abbrev pub IsUnreadTold : LogError → Response → Type 0
@@ -183,6 +186,20 @@ IsGoneTo file (crossing.Gone chain) = chain ≡ chain_id_of file
 IsGoneTo file (crossing.Refused refusal) = Unit {0}
 IsGoneTo file _ = ⊥
 
+-- ---- the next keys
+
+-- the response tells what came of a call to endorse them
+abbrev pub IsEndorsingTold : Endorsing → Response → Type 0
+IsEndorsingTold (endorsing.Said bytes) response = IsResponse 200 (fields_of_kind Octets) bytes.items response
+IsEndorsingTold (endorsing.Next fault) response = IsNextFaultTold fault response
+IsEndorsingTold (endorsing.Desk refusal) response = IsDeskTold refusal response
+IsEndorsingTold (endorsing.Halted halted) response = IsHaltTold halted response
+
+-- .. or of a committee that is shown with a renewal
+abbrev pub IsRenewalTold : List ℕ → Telling → RenewCall → Response → Type 0
+IsRenewalTold committee tells shown response =
+    (it : Result Renewing NotRenewing) × IsShown committee tells shown.renewal shown.file it × IsRenewingTold it response
+
 -- ---- by some desk
 
 module _ {D : Type 0} (disk : Ghosts D) (committee : List ℕ) (replica : ℕ) (opening : List Stored) where
@@ -269,22 +286,36 @@ module _ {D : Type 0} (disk : Ghosts D) (committee : List ℕ) (replica : ℕ) (
 
   -- what a desk is at, why no block or timeout is taken if none is, and a block that some block with a good certificate commits,
   -- or none that is known
-  abbrev pub IsDeskStatusTold : Bool → Option Showing → Response → Type 0
-  IsDeskStatusTold asks shown response =
-      (status : DeskStatus) × (halted : Option Halt) × (committed : Option Ballot) × SomeOne (λ d. status ≡ status_of d)
-      × IsHalted asks shown halted × IfSome committed (IsCommitOf committee)
-      × IsStatusTold committee replica status halted committed response
+  abbrev pub IsDeskStatusTold : Bool → Telling → Option Showing → Response → Type 0
+  IsDeskStatusTold asks tells shown response =
+      (status : DeskStatus) × (halted : Option Halt) × (committed : Option Ballot) × (going : Going) × SomeOne (λ d. status ≡ status_of d)
+      × IsHalted asks shown halted × IfSome committed (IsCommitOf committee) × IsGoing tells status going
+      × IsStatusTold committee replica status halted committed going response
 
   -- .. and some numbers of what was told, and of the sources that were heard; and that the log was put back, to who was shown that
-  pub record IsMeasured (asks : Bool) (shown : Option Showing) (m : Measured) : Type 0 where
+  pub record IsMeasured (asks : Bool) (tells : Telling) (shown : Option Showing) (m : Measured) : Type 0 where
     pub status : SomeOne (λ d. m.status ≡ status_of d)
     pub put_back : IfSome m.put_back (WasPutBack disk committee replica opening)
     pub stops : IsSome shown → IsSome m.put_back
     pub committed : IfSome m.committed (IsCommitOf committee)
     pub asking : IsShut asks m.is_asking
+    pub going : IsGoing tells m.status m.going
 
-  abbrev pub IsDeskMetricsTold : Bool → Option Showing → Response → Type 0
-  IsDeskMetricsTold asks shown response = (m : Measured) × IsMeasured asks shown m × IsMetricsTold m response
+  abbrev pub IsDeskMetricsTold : Bool → Telling → Option Showing → Response → Type 0
+  IsDeskMetricsTold asks tells shown response = (m : Measured) × IsMeasured asks tells shown m × IsMetricsTold m response
+
+  -- ---- the next keys
+
+  -- what comes of a call to endorse them: why no block is taken; the endorsement that is said; why the next keys can't be told; or some
+  -- desk's refusal to sign
+  abbrev pub IsEndorsingOf : Bool → Telling → Option Showing → Endorsing → Type 0
+  IsEndorsingOf asks tells shown (endorsing.Said bytes) = IsHalted asks shown None × tells.endorsed bytes.items
+  IsEndorsingOf asks tells shown (endorsing.Next fault) = IsHalted asks shown None
+  IsEndorsingOf asks tells shown (endorsing.Desk refusal) = IsHalted asks shown None × SomeMove (RefusesToEndorse disk refusal)
+  IsEndorsingOf asks tells shown (endorsing.Halted halted) = IsHalted asks shown (Some halted)
+
+  abbrev pub IsEndorsementTold : Bool → Telling → Option Showing → Response → Type 0
+  IsEndorsementTold asks tells shown response = (it : Endorsing) × IsEndorsingOf asks tells shown it × IsEndorsingTold it response
 
   -- ---- a call to go over
 
@@ -346,12 +377,14 @@ module _ {D : Type 0} (disk : Ghosts D) (committee : List ℕ) (replica : ℕ) (
   IsCallTold rules asks tells receipts shown (call.Over over) told response = (told ≡ None) × IsOverTold asks tells shown over response
   IsCallTold rules asks tells receipts shown (call.VoteIn view) told response = (told ≡ None) × IsVoteTold view response
   IsCallTold rules asks tells receipts shown (call.Header id) told response = (told ≡ None) × IsHeaderTold id response
-  IsCallTold rules asks tells receipts shown (call.Successor payload) told response = (told ≡ None) × IsSuccessorTold tells payload response
+  IsCallTold rules asks tells receipts shown (call.Successor payload) told response = (told ≡ None) × IsSuccessorTold committee tells payload response
+  IsCallTold rules asks tells receipts shown call.Endorse told response = (told ≡ None) × IsEndorsementTold asks tells shown response
+  IsCallTold rules asks tells receipts shown (call.Renew it) told response = (told ≡ None) × IsRenewalTold committee tells it response
   IsCallTold rules asks tells receipts shown (call.Log part) told response = (told ≡ None) × IsPartTold part response
-  IsCallTold rules asks tells receipts shown call.Status told response = (told ≡ None) × IsDeskStatusTold asks shown response
+  IsCallTold rules asks tells receipts shown call.Status told response = (told ≡ None) × IsDeskStatusTold asks tells shown response
   IsCallTold rules asks tells receipts shown call.Live told response = (told ≡ None) × IsLine 200 (codes "ok\n") response
   IsCallTold rules asks tells receipts shown call.Health told response = (told ≡ None) × IsDeskHealthTold asks shown response
-  IsCallTold rules asks tells receipts shown call.Metrics told response = (told ≡ None) × IsDeskMetricsTold asks shown response
+  IsCallTold rules asks tells receipts shown call.Metrics told response = (told ≡ None) × IsDeskMetricsTold asks tells shown response
   IsCallTold rules asks tells receipts shown (call.Refused refusal) told response = (told ≡ None) × IsRefusalTold refusal response
 
   -- the response tells what the call is told, and the receipt of a new vote is added to the session; who was shown before that the

@@ -12,3 +12,4 @@ pub mod Metrics
 pub mod Witnesses
 pub mod CallAnswers
 pub mod Crossings
+pub mod Renewing

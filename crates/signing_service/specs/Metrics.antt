@@ -4,7 +4,12 @@ use Rattle.blocks.specs.declared.ballot.Ballot.{Ballot}
 use Rattle.http_server.specs.declared.response.Response.{Response}
 use Rattle.http_server.specs.Response.{IsResponse}
 use Rattle.vote_desk.specs.declared.parts.DeskStatus.{DeskStatus}
+use Rattle.signer_answers.specs.declared.approver.NextKeys.{NextKeys}
+use Rattle.signer_answers.specs.declared.approver.NextKeys.TheVariants as keys
+use Rattle.signer_answers.specs.declared.sparing.Reserve.{Reserve}
+use Rattle.signer_answers.specs.declared.sparing.Reserve.TheVariants as reserve
 use Rattle.signing_service.specs.Responses.{field_text, fields_of_kind}
+use Rattle.signing_service.specs.declared.going.Going.{Going}
 use Rattle.signing_service.specs.declared.metrics.Measured.{Measured}
 use Rattle.signing_service.specs.declared.tallies.Numbers.{Numbers}
 use Rattle.signing_service.specs.declared.writing.Kind.TheVariants.{Metrics}
@@ -82,6 +87,36 @@ abbrev pub asking_text : ℕ → List ℕ
 asking_text asking =
     field_text (codes "\n# HELP hs_signer_asking Whether others are still asked for votes of this replica.\n# TYPE hs_signer_asking gauge\nhs_signer_asking ") asking
 
+-- ---- going over
+
+abbrev pub next_number : NextKeys → ℕ
+next_number keys.None = 0
+next_number keys.Making = 1
+next_number keys.Made = 2
+next_number keys.Endorsed = 3
+next_number keys.Stopped = 4
+
+abbrev pub next_text : ℕ → List ℕ
+next_text next =
+    field_text (codes "\n# HELP hs_signer_next How far the next keys are: 0 none are made, 1 they are made now, 2 made, 3 endorsed, 4 stopped.\n# TYPE hs_signer_next gauge\nhs_signer_next ") next
+
+abbrev pub reserve_number : Reserve → ℕ
+reserve_number reserve.None = 0
+reserve_number reserve.Ordinary = 1
+reserve_number reserve.Handover = 2
+
+abbrev pub reserve_text : ℕ → List ℕ
+reserve_text reserve =
+    field_text (codes "\n# HELP hs_signer_reserve For which blocks too little is left: 0 none, 1 ordinary ones, 2 all.\n# TYPE hs_signer_reserve gauge\nhs_signer_reserve ") reserve
+
+abbrev pub committees_text : (committees kept : ℕ) → List ℕ
+committees_text committees kept =
+    field_text (codes "\n# HELP hs_signer_committees_total How many committees the signer was in, this one among them.\n# TYPE hs_signer_committees_total counter\nhs_signer_committees_total ") committees
+    ++ field_text (codes "\n# HELP hs_signer_kept_committees In how many committees before this one it had the keys that it has.\n# TYPE hs_signer_kept_committees gauge\nhs_signer_kept_committees ") kept
+
+abbrev pub going_text : Going → List ℕ
+going_text it = next_text (next_number it.progress.next) ++ reserve_text (reserve_number it.reserve) ++ committees_text it.progress.committees it.progress.kept
+
 -- ---- the sources
 
 abbrev pub source_text : ℕ → Bool → List ℕ
@@ -106,15 +141,15 @@ is_stopped status (Some ballot) = true
 is_stopped status None = status.stopped
 
 -- the parts but for the sources, one behind the other
-unfoldable pub signer_text : Numbers → DeskStatus → (committed stopped asking : ℕ) → List ℕ
-signer_text numbers status committed stopped asking =
+unfoldable pub signer_text : Numbers → DeskStatus → (committed stopped asking : ℕ) → Going → List ℕ
+signer_text numbers status committed stopped asking going =
     answers_text numbers ++ refusals_text numbers ++ times_text numbers ++ calls_text numbers
     ++ doors_text numbers ++ arguments_text numbers ++ views_text status committed
-    ++ rooms_text status stopped ++ asking_text asking ++ process_text numbers
+    ++ rooms_text status stopped ++ asking_text asking ++ going_text going ++ process_text numbers
 
 abbrev pub metrics_text : Measured → List ℕ
 metrics_text m =
-    signer_text m.numbers m.status (committed_view m.committed) (number_of (is_stopped m.status m.put_back)) (number_of m.is_asking)
+    signer_text m.numbers m.status (committed_view m.committed) (number_of (is_stopped m.status m.put_back)) (number_of m.is_asking) m.going
     ++ sources_text m.heard.items
 
 abbrev pub IsMetricsTold : Measured → Response → Type 0

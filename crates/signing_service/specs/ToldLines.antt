@@ -21,8 +21,9 @@ use Rattle.replica_answers.specs.declared.outcome.Outcome.TheVariants as came
 use Rattle.replica_answers.specs.declared.request.Request.{Request as Asked}
 use Rattle.replica_answers.specs.declared.request.Request.TheVariants as asks
 use Rattle.replica_lines.specs.OutcomeLines.{answer_text, commit_text, numbered_line}
+use Rattle.http_server.specs.declared.response.Response.{Response}
 use Rattle.signing_service.specs.Names.{block_refusal_name, certificate_refusal_name, core_refusal_name, desk_error_name, header_refusal_name, log_error_name}
-use Rattle.signing_service.specs.Responses.{named_line}
+use Rattle.signing_service.specs.Responses.{IsLine, IsPassing, named_line}
 
 -- ---- refusals
 
@@ -104,3 +105,8 @@ outcome_status (came.RefusedHeader refusal) = 400
 outcome_status (came.RefusedCertificate refusal) = 400
 outcome_status (came.RefusedBlock refusal) = 422
 outcome_status (came.RefusedByDesk refusal) = desk_status refusal
+
+-- the response tells this refusal of the desk: memory may be there again soon, and all others stay as they are
+abbrev pub IsDeskTold : DeskError → Response → Type 0
+IsDeskTold desk.Memory response = IsPassing (named_desk_line desk.Memory) response
+IsDeskTold refusal response = IsLine (desk_status refusal) (named_desk_line refusal) response

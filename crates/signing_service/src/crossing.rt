@@ -120,7 +120,7 @@ fn tell_other_file(response: &mut Response, payload: &[u8; 32])
     put(&mut response.body, b"\n");
 }
 
-fn tell_committee(response: &mut Response, refusal: CommitteeRefusal)
+pub(crate) fn tell_committee(response: &mut Response, refusal: CommitteeRefusal)
     requires { IsReady (fields_of_kind Text) response.old }
     ensures { IsLine 422 (refused_committee_line refusal) response.new }
 {

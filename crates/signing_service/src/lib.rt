@@ -5,6 +5,8 @@
 mod approving;
 mod commits;
 mod crossing;
+mod endorsing;
+mod going;
 mod halt;
 mod health;
 mod judging;
@@ -14,6 +16,7 @@ mod names;
 mod put_back;
 mod reception;
 mod refusing;
+mod renewing;
 mod serving;
 mod signer;
 mod sources;
@@ -30,7 +33,8 @@ pub use reception::Reception;
 pub use serving::serve_calls;
 pub use signer::Signer;
 pub use signer_answers::{
-    Approver, Caller, Gate, Heard, Keeper, NoSuccessor, Office, OverFault, PutBack, look_through,
+    Approver, Caller, Gate, Heard, Keeper, NextFault, NextKeys, NoSuccessor, Office, OverFault,
+    Progress, PutBack, Renewed, look_through,
 };
 pub use signer_calls::{CallRefusal, Rules};
 pub use sources::Sources;

@@ -1,19 +1,21 @@
 //! The metrics of a signer, as Prometheus reads them.
 
 ghost use Rattle.std.specs.Prelude.{◌≡◌, ◌≤◌, ◌+◌, ◌++◌, [], OnOk};
-ghost use Rattle.signing_service.specs.Metrics.{IsMetricsTold, answers_text, arguments_text, asking_text, calls_text, committed_view, doors_text, is_stopped, number_of, process_text, refusals_text, rooms_text, signer_text, source_text, sources_text, times_text, views_text};
+ghost use Rattle.signing_service.specs.Metrics.{IsMetricsTold, answers_text, arguments_text, asking_text, calls_text, committed_view, committees_text, doors_text, going_text, is_stopped, next_number, next_text, reserve_number, reserve_text, number_of, process_text, refusals_text, rooms_text, signer_text, source_text, sources_text, times_text, views_text};
 ghost use Rattle.signing_service.specs.Responses.{HasRoom, fields_of_kind};
 
+use crate::going::Going;
 use crate::tallies::Numbers;
 use crate::writing::{Kind, put, put_field};
 use blocks::Ballot;
 use bytes::BufMut;
 use http_server::{Response, Rope};
+use signer_answers::{NextKeys, Reserve};
 use std::alloc::AllocError;
 use vote_desk::DeskStatus;
 
 // How much room the metrics take at the most, but for the sources.
-pub(crate) const METRICS_ROOM: usize = 12_288;
+pub(crate) const METRICS_ROOM: usize = 13_312;
 
 // How much room a source's line takes at the most.
 const SOURCE_ROOM: usize = 128;
@@ -28,6 +30,7 @@ pub(crate) struct Measured {
     pub committed: Option<Ballot>,
     /// Whether others are still asked.
     pub is_asking: bool,
+    pub going: Going,
     /// Of each source that is asked, whether its log was read whole.
     pub heard: Vec<bool>,
 }
@@ -44,6 +47,7 @@ pub(crate) fn tell_metrics(response: &mut Response, measured: &Measured) -> Resu
         view_of(&measured.committed),
         number_of(is_stopped(&measured.status, &measured.put_back)),
         number_of(measured.is_asking),
+        &measured.going,
     );
     put_sources(&mut response.body, &measured.heard)
 }
@@ -56,9 +60,11 @@ fn put_signer(
     committed: u64,
     stopped: u8,
     asking: u8,
+    going: &Going,
 )
     requires { (body.old.items ≡ []) × (METRICS_ROOM ≤ body.old.spare) }
-    ensures { body.new.items ≡ signer_text numbers.now status.now committed stopped asking }
+    ensures { body.new.items ≡ signer_text numbers.now status.now committed stopped asking
+        going.now }
 {
     put_answers(body, numbers);
     put_refusals(body, numbers);
@@ -69,6 +75,7 @@ fn put_signer(
     put_views(body, status, committed);
     put_rooms(body, status, stopped);
     put_asking(body, asking);
+    put_going(body, going);
     put_process(body, numbers);
 }
 
@@ -320,6 +327,106 @@ fn put_asking(body: &mut Rope, asking: u8)
         body,
         b"\n# HELP hs_signer_asking Whether others are still asked for votes of this replica.\n# TYPE hs_signer_asking gauge\nhs_signer_asking ",
         asking,
+    );
+}
+
+fn put_going(body: &mut Rope, going: &Going)
+    requires { 1200 ≤ body.old.spare }
+    ensures items { body.new.items ≡ body.old.items ++ going_text going.now }
+    ensures spare { body.old.spare ≤ body.new.spare + 1200 }
+{
+    put_next_of(body, going);
+    put_reserve_of(body, going);
+    put_committees_of(body, going);
+}
+
+fn put_next_of(body: &mut Rope, going: &Going)
+    requires { 300 ≤ body.old.spare }
+    ensures items { body.new.items ≡ body.old.items
+        ++ next_text (next_number going.now.progress.next) }
+    ensures spare { body.old.spare ≤ body.new.spare + 300 }
+{
+    put_next(body, next_number(going.progress.next));
+}
+
+fn put_reserve_of(body: &mut Rope, going: &Going)
+    requires { 300 ≤ body.old.spare }
+    ensures items { body.new.items ≡ body.old.items
+        ++ reserve_text (reserve_number going.now.reserve) }
+    ensures spare { body.old.spare ≤ body.new.spare + 300 }
+{
+    put_reserve(body, reserve_number(going.reserve));
+}
+
+fn put_committees_of(body: &mut Rope, going: &Going)
+    requires { 600 ≤ body.old.spare }
+    ensures items { body.new.items ≡ body.old.items
+        ++ committees_text going.now.progress.committees going.now.progress.kept }
+    ensures spare { body.old.spare ≤ body.new.spare + 600 }
+{
+    put_committees(body, going.progress.committees, going.progress.kept);
+}
+
+fn next_number(next: NextKeys) -> u8
+    ensures { result ≡ next_number next }
+{
+    match next {
+        NextKeys::None => 0,
+        NextKeys::Making => 1,
+        NextKeys::Made => 2,
+        NextKeys::Endorsed => 3,
+        NextKeys::Stopped => 4,
+    }
+}
+
+fn put_next(body: &mut Rope, next: u8)
+    requires { 300 ≤ body.old.spare }
+    ensures items { body.new.items ≡ body.old.items ++ next_text next }
+    ensures spare { body.old.spare ≤ body.new.spare + 300 }
+{
+    put_field(
+        body,
+        b"\n# HELP hs_signer_next How far the next keys are: 0 none are made, 1 they are made now, 2 made, 3 endorsed, 4 stopped.\n# TYPE hs_signer_next gauge\nhs_signer_next ",
+        next,
+    );
+}
+
+fn reserve_number(reserve: Reserve) -> u8
+    ensures { result ≡ reserve_number reserve }
+{
+    match reserve {
+        Reserve::None => 0,
+        Reserve::Ordinary => 1,
+        Reserve::Handover => 2,
+    }
+}
+
+fn put_reserve(body: &mut Rope, reserve: u8)
+    requires { 300 ≤ body.old.spare }
+    ensures items { body.new.items ≡ body.old.items ++ reserve_text reserve }
+    ensures spare { body.old.spare ≤ body.new.spare + 300 }
+{
+    put_field(
+        body,
+        b"\n# HELP hs_signer_reserve For which blocks too little is left: 0 none, 1 ordinary ones, 2 all.\n# TYPE hs_signer_reserve gauge\nhs_signer_reserve ",
+        reserve,
+    );
+}
+
+fn put_committees(body: &mut Rope, committees: u32, kept: u32)
+    requires { 600 ≤ body.old.spare }
+    ensures items { body.new.items ≡ body.old.items ++ committees_text committees kept }
+    ensures spare { body.old.spare ≤ body.new.spare + 600 }
+{
+    put_field(
+        body,
+        b"\n# HELP hs_signer_committees_total How many committees the signer was in, this one among them.\n# TYPE hs_signer_committees_total counter\nhs_signer_committees_total ",
+        committees,
+    );
+    put_field(
+        body,
+        b"\n# HELP hs_signer_kept_committees In how many committees before this one it had the keys that it has.\n# TYPE hs_signer_kept_committees gauge\nhs_signer_kept_committees ",
+        kept,
     );
 }
 

@@ -1,24 +1,29 @@
 //! One caller's side of a desk, as a service.
 
-ghost use Rattle.std.specs.Prelude.{◌≡◌, ◌≢◌, ◌<◌, ◌≤◌, ◌+◌, IfOk, IfSome, IsFalse, IsSome, IsTrue, MatchOption, OnErr, OnOk, Option, codes};
+ghost use Rattle.std.specs.Prelude.{◌≡◌, ◌≢◌, ◌<◌, ◌≤◌, ◌+◌, IfOk, IfSome, IsFalse, IsSome, IsTrue, MatchOption, None, OnErr, OnOk, Option, codes};
 ghost use Rattle.blocks.specs.Genesis.{chain_id_of};
 ghost use Rattle.blocks.specs.declared.ballot.Ballot.{Ballot as BallotValue};
 ghost use Rattle.http_server.specs.Response.{IsBlank};
 ghost use Rattle.signer_answers.specs.Guards.{WasPutBack};
-ghost use Rattle.signing_service.specs.CallAnswers.{IsCallServed, IsCrossingOf, IsDeskHealthTold, IsDeskMetricsTold, IsDeskStatusTold, IsFar, IsGoneTo, IsHalted, IsHandedOver, IsHeaderTold, IsMeasured, IsNear, IsNoneHandedOver, IsOfFile, IsOutcomeOf, IsOverTold, IsPartTold, IsServed, IsShut, IsStopTo, IsVoteJudged, IsVoteTold, SomeOne, committed_by, from_export, parent_view_of, receipts_told};
+ghost use Rattle.signing_service.specs.CallAnswers.{IsCallServed, IsCrossingOf, IsDeskHealthTold, IsDeskMetricsTold, IsDeskStatusTold, IsEndorsementTold, IsEndorsingOf, IsFar, IsGoneTo, IsHalted, IsHandedOver, IsHeaderTold, IsMeasured, IsNear, IsNoneHandedOver, IsOfFile, IsOutcomeOf, IsOverTold, IsPartTold, IsRenewalTold, IsServed, IsShut, IsStopTo, IsVoteJudged, IsVoteTold, SomeOne, committed_by, from_export, parent_view_of, receipts_told};
+ghost use Rattle.signer_answers.specs.Sparings.{reserve_of};
 ghost use Rattle.signing_service.specs.Judging.{IsCertificateTold};
 ghost use Rattle.signing_service.specs.Refusals.{IsRefusalTold, refusal_fields};
+ghost use Rattle.signing_service.specs.Renewing.{IsShown};
 ghost use Rattle.signing_service.specs.Responses.{IsLine, IsReady};
 ghost use Rattle.signing_service.specs.ToldLines.{block_asked};
 
 use crate::approving::tell_successor;
 use crate::crossing::{Crossing, MOST_VIEW, tell_crossing};
+use crate::endorsing::{Endorsing, tell_endorsing};
+use crate::going::Going;
 use crate::halt::{Halt, tell_halt, tell_unhealthy};
 use crate::health::tell_health;
 use crate::judging::{tell_certificate, tell_judgement};
 use crate::metrics::{METRICS_ROOM, Measured, tell_metrics};
 use crate::reception::Reception;
 use crate::refusing::{refuse, tell_refused};
+use crate::renewing::{NotRenewing, Renewing as Renewed, judge_renewal, tell_renewing};
 use crate::status::tell_status;
 use crate::telling::{tell_log, tell_receipt, tell_text, tell_told};
 use crate::witness::{Witness, seen_of};
@@ -30,16 +35,19 @@ use good_votes::{Checker, Known};
 use handover::{HANDOVER_MARK, handover_payload};
 use http::Request;
 use http_server::{Response, Service};
+use next_keys::{NextKeysView, write_endorsement};
 use replica_answers::{Outcome, Request as Asked};
-use signer_answers::{Approver, Caller, Keeper, Office, OverFault, Told, answer};
-use signer_calls::{Call, CallRefusal, LogPart, Over, call_of};
+use signer_answers::{
+    Approver, Caller, Keeper, NextFault, Office, OverFault, Told, answer, reserve_of,
+};
+use signer_calls::{Call, CallRefusal, LogPart, Over, Renewing, call_of};
 use stable_log::Disk;
 use std::alloc::{AllocError, Global};
 use std::io;
 use std::sync::Wait;
 use std::time::{Clock, Instant};
 use streams::MemorySink;
-use vote_desk::{DeskNaming, Session};
+use vote_desk::{DeskNaming, Left, Session};
 use vote_log::{ExportError, LogError};
 
 /// A replica's desk as one caller sees it: each call is answered at once, by what the desk answers.
@@ -423,7 +431,8 @@ impl<
             (K.tells self.now.office.now.keeper.now) self.now.caller.shown over.now result }
     {
         let file = over.file.as_slice();
-        let chain = match self.office.keeper.prepare(file) {
+        let renewal = over.renewal.as_slice();
+        let chain = match self.office.keeper.prepare(renewal, file) {
             Ok(chain) => chain,
             Err(fault) => return Crossing::Refused(fault),
         };
@@ -467,12 +476,117 @@ impl<
         Ok(())
     }
 
+    // Endorses the replica's next keys, once: what was said before is told again.
+    fn endorse(&self) -> Endorsing
+        ensures { IsEndorsingOf D.Disk N.committee N.replica N.opening
+            self.now.reception.now.gate.now.asks (K.tells self.now.office.now.keeper.now)
+            self.now.caller.shown result }
+    {
+        if let Some(halt) = self.halt() {
+            return Endorsing::Halted(halt);
+        }
+        match self.office.keeper.endorsed() {
+            Ok(Some(said)) => Endorsing::Said(said),
+            Ok(None) => self.endorse_now(),
+            Err(fault) => Endorsing::Next(fault),
+        }
+    }
+
+    // Signs the statement of the next keys, and says the endorsement, unless another was said meanwhile.
+    fn endorse_now(&self) -> Endorsing
+        requires { IsHalted D.Disk N.committee N.replica N.opening
+            self.now.reception.now.gate.now.asks self.now.caller.shown None }
+        ensures { IsEndorsingOf D.Disk N.committee N.replica N.opening
+            self.now.reception.now.gate.now.asks (K.tells self.now.office.now.keeper.now)
+            self.now.caller.shown result }
+    {
+        let statement = match self.office.keeper.statement() {
+            Ok(statement) => statement,
+            Err(fault) => return Endorsing::Next(fault),
+        };
+        let Ok(statement) = NextKeysView::parse(&statement) else {
+            return Endorsing::Next(NextFault::Stopped);
+        };
+        let seal = match self.office.desk.endorse(self.rt, &statement) {
+            Ok(seal) => seal,
+            Err(refusal) => return Endorsing::Desk(refusal),
+        };
+        let Ok(text) = write_endorsement(self.alloc, &statement, seal.key, &seal.signature) else {
+            return Endorsing::Next(NextFault::Memory);
+        };
+        match self.office.keeper.endorse(&text) {
+            Ok(said) => Endorsing::Said(said),
+            Err(fault) => Endorsing::Next(fault),
+        }
+    }
+
+    // Tells what comes of a call to endorse.
+    fn tell_endorsement(&self, response: &mut Response) -> Result<(), AllocError>
+        requires { IsBlank response.old }
+        ensures { OnOk result (IsEndorsementTold D.Disk N.committee N.replica N.opening
+            self.now.reception.now.gate.now.asks (K.tells self.now.office.now.keeper.now)
+            self.now.caller.shown response.new) }
+    {
+        let endorsing = self.endorse();
+        tell_endorsing(response, &endorsing)
+    }
+
+    // Judges a committee that is shown with a renewal. One that renews this one, in which the replica has its keys, is remembered: a
+    // block that hands over to it may be voted for.
+    fn show(&self, shown: &Renewing) -> Result<Renewed, NotRenewing>
+        ensures { IsShown N.committee (K.tells self.now.office.now.keeper.now) shown.now.renewal
+            shown.now.file result }
+    {
+        let (renewal, file) = (shown.renewal.as_slice(), shown.file.as_slice());
+        let (after, renewing) = match judge_renewal(
+            self.alloc,
+            self.office.committee,
+            renewal,
+            file,
+        ) {
+            Ok(judged) => judged,
+            Err(refusal) => return Err(refusal),
+        };
+        match self.office.keeper.has_keys_in(&after) {
+            Ok(true) => {
+                self.office.renewed.note(self.rt, &renewing.payload);
+                Ok(renewing)
+            }
+            Ok(false) => Err(NotRenewing::NotMine),
+            Err(fault) => Err(NotRenewing::Next(fault)),
+        }
+    }
+
+    // Tells what comes of a committee that is shown.
+    fn tell_renewal(&self, shown: &Renewing, response: &mut Response) -> Result<(), AllocError>
+        requires { IsBlank response.old }
+        ensures { OnOk result (IsRenewalTold N.committee
+            (K.tells self.now.office.now.keeper.now) shown.now response.new) }
+    {
+        make_to_retry(response)?;
+        let renewing = self.show(shown);
+        tell_renewing(response, &renewing);
+        Ok(())
+    }
+
+    // How far the signer is, where this is left.
+    fn going(&self, left: &Left) -> Going
+        ensures { result.reserve ≡ reserve_of (K.tells self.now.office.now.keeper.now).spares
+            left.now }
+    {
+        let keeper = self.office.keeper;
+        Going {
+            progress: keeper.progress(),
+            reserve: reserve_of(keeper.spares(), left),
+        }
+    }
+
     // Tells what the desk is at.
     fn tell_desk_status(&self, response: &mut Response) -> Result<(), AllocError>
         requires { IsBlank response.old }
         ensures { OnOk result
             (IsDeskStatusTold D.Disk N.committee N.replica N.opening self.now.reception.now.gate.now.asks
-            self.now.caller.shown response.new) }
+            (K.tells self.now.office.now.keeper.now) self.now.caller.shown response.new) }
     {
         make_ready(response, Kind::Json)?;
         let status = self.office.desk.status(self.rt);
@@ -485,6 +599,7 @@ impl<
             &status,
             &halted,
             &committed,
+            &self.going(&status.left),
         );
         Ok(())
     }
@@ -492,12 +607,15 @@ impl<
     // What the metrics tell.
     fn measure(&self) -> Result<Measured, AllocError>
         ensures { IfOk result (IsMeasured D.Disk N.committee N.replica N.opening
-            self.now.reception.now.gate.now.asks self.now.caller.shown) }
+            self.now.reception.now.gate.now.asks (K.tells self.now.office.now.keeper.now)
+            self.now.caller.shown) }
     {
         let heard = self.reception.sources.heard(self.alloc)?;
+        let status = self.office.desk.status(self.rt);
         Ok(Measured {
             numbers: self.reception.tallies.numbers(self.rt),
-            status: self.office.desk.status(self.rt),
+            status,
+            going: self.going(&status.left),
             put_back: self.put_back(),
             committed: self.reception.commits.last(self.rt),
             is_asking: self.is_asking(),
@@ -509,7 +627,8 @@ impl<
     fn tell_desk_metrics(&self, response: &mut Response) -> Result<(), AllocError>
         requires { IsBlank response.old }
         ensures { OnOk result (IsDeskMetricsTold D.Disk N.committee N.replica N.opening
-            self.now.reception.now.gate.now.asks self.now.caller.shown response.new) }
+            self.now.reception.now.gate.now.asks (K.tells self.now.office.now.keeper.now)
+            self.now.caller.shown response.new) }
     {
         let measured = self.measure()?;
         make_room(response, Kind::Metrics, METRICS_ROOM)?;
@@ -535,8 +654,10 @@ impl<
             Call::VoteIn(view) => self.tell_vote(view, response)?,
             Call::Header(id) => self.tell_header(&id, response)?,
             Call::Successor(payload) => {
-                tell_successor(self.office.keeper, &payload, response)?;
+                tell_successor(self.rt, self.office, &payload, response)?;
             }
+            Call::Endorse => self.tell_endorsement(response)?,
+            Call::Renew(shown) => self.tell_renewal(&shown, response)?,
             Call::Log(part) => self.hand_out(part, response)?,
             Call::Status => self.tell_desk_status(response)?,
             Call::Live => tell_live(response)?,

@@ -4,15 +4,17 @@ ghost use Rattle.std.specs.Prelude.{◌≡◌, ◌≤◌, ◌+◌, ◌++◌, [],
 ghost use Rattle.blocks.specs.Genesis.{chain_id_of};
 ghost use Rattle.signing_service.specs.Healths.{trouble_of};
 ghost use Rattle.signing_service.specs.Responses.{IsReady, fields_of_kind};
-ghost use Rattle.signing_service.specs.Statuses.{IsStatusTold, ballot_text, committed_text, counts_text, name_text, state_name, state_text, status_text, trouble_name, views_text};
+ghost use Rattle.signing_service.specs.Statuses.{IsStatusTold, ballot_text, committed_text, counts_text, going_text, name_text, next_name, reserve_name, state_name, state_text, status_text, trouble_name, views_text};
 ghost use Rattle.signing_service.specs.declared.writing.TheConstants.{ROOM};
 
+use crate::going::Going;
 use crate::halt::Halt;
 use crate::health::trouble_of;
 use crate::writing::{Kind, put, put_field, put_number};
 use blocks::{Ballot, CommitteeView, Id};
 use http_server::{Response, Rope};
 use printed_lines::id_digits;
+use signer_answers::{NextKeys, Reserve};
 use vote_desk::{DeskError, DeskStatus};
 
 // Tells what a desk is at.
@@ -23,9 +25,11 @@ pub(crate) fn tell_status(
     status: &DeskStatus,
     halted: &Option<Halt>,
     committed: &Option<Ballot>,
+    going: &Going,
 )
     requires { IsReady (fields_of_kind Kind.Json) response.old }
-    ensures { IsStatusTold committee.now replica status.now halted.now committed.now response.new }
+    ensures { IsStatusTold committee.now replica status.now halted.now committed.now going.now
+        response.new }
 {
     put_status(
         &mut response.body,
@@ -34,6 +38,7 @@ pub(crate) fn tell_status(
         status,
         halted,
         committed,
+        going,
     );
 }
 
@@ -44,15 +49,18 @@ fn put_status(
     status: &DeskStatus,
     halted: &Option<Halt>,
     committed: &Option<Ballot>,
+    going: &Going,
 )
     requires { (body.old.items ≡ []) × (ROOM ≤ body.old.spare) }
-    ensures { body.new.items ≡ status_text chain.now replica status.now halted.now committed.now }
+    ensures { body.new.items ≡ status_text chain.now replica status.now halted.now committed.now
+        going.now }
 {
     put_name(body, chain, replica);
     put_state(body, status, halted);
     put_views(body, status);
     put_ballot(body, status.lock.view, &status.lock.id);
     put_counts(body, status);
+    put_going(body, going);
     put(body, b",\"committed\":");
     put_committed(body, committed);
     put(body, b"}\n");
@@ -133,6 +141,43 @@ fn put_counts(body: &mut Rope, status: &DeskStatus)
     put_field(body, b",\"entries\":", status.entries);
     put_field(body, b",\"entries_left\":", status.left.entries);
     put_field(body, b",\"indices_left\":", status.left.indices);
+}
+
+fn put_going(body: &mut Rope, going: &Going)
+    requires { 320 ≤ body.old.spare }
+    ensures items { body.new.items ≡ body.old.items ++ going_text going.now }
+    ensures spare { body.old.spare ≤ body.new.spare + 320 }
+{
+    put(body, b",\"next\":\"");
+    put(body, next_name(going.progress.next));
+    put(body, b"\",\"reserve\":\"");
+    put(body, reserve_name(going.reserve));
+    put_field(body, b"\",\"committees\":", going.progress.committees);
+    put_field(body, b",\"kept_committees\":", going.progress.kept);
+}
+
+fn next_name(next: NextKeys) -> &'static [u8]
+    ensures name { result.now ≡ next_name next }
+    ensures short { length result.now ≤ 20 }
+{
+    match next {
+        NextKeys::None => b"none",
+        NextKeys::Making => b"making",
+        NextKeys::Made => b"made",
+        NextKeys::Endorsed => b"endorsed",
+        NextKeys::Stopped => b"stopped",
+    }
+}
+
+fn reserve_name(reserve: Reserve) -> &'static [u8]
+    ensures name { result.now ≡ reserve_name reserve }
+    ensures short { length result.now ≤ 20 }
+{
+    match reserve {
+        Reserve::None => b"none",
+        Reserve::Ordinary => b"ordinary",
+        Reserve::Handover => b"handover",
+    }
 }
 
 fn put_committed(body: &mut Rope, committed: &Option<Ballot>)

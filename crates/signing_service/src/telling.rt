@@ -5,9 +5,9 @@ ghost use Rattle.hex.specs.Hex.{encode_lower};
 ghost use Rattle.certificates.specs.Votes.{vote_text};
 ghost use Rattle.vote_desk.specs.declared.reply.Answer.TheVariants.{Voted};
 ghost use Rattle.replica_lines.specs.OutcomeLines.{answer_text, commit_text, numbered_line};
-ghost use Rattle.signing_service.specs.CallAnswers.{IsAskingTold, IsCameTold, IsDeskTold, IsLogTold, IsOutcomeTold, IsPutBackTold, IsReceiptTold, IsUnreadTold};
+ghost use Rattle.signing_service.specs.CallAnswers.{IsAskingTold, IsCameTold, IsLogTold, IsOutcomeTold, IsPutBackTold, IsReceiptTold, IsUnreadTold};
 ghost use Rattle.signing_service.specs.Responses.{IsLine, IsPassing, IsReady, fields_of_kind, fields_to_retry, named_line};
-ghost use Rattle.signing_service.specs.ToldLines.{act_text, block_text, core_status, desk_status, named_desk_line, outcome_status, reply_line, told_line};
+ghost use Rattle.signing_service.specs.ToldLines.{IsDeskTold, act_text, block_text, core_status, desk_status, named_desk_line, outcome_status, reply_line, told_line};
 ghost use Rattle.signing_service.specs.declared.writing.TheConstants.{ROOM};
 
 use crate::names::{

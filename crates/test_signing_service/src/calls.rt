@@ -10,8 +10,8 @@ use key_index_store::IndexStore;
 use lmots::PrivateSeed;
 use lms_tree::SigningTree;
 use signing_service::{
-    Commits, Event, Gate, NoSuccessor, Office, PutBack, Reception, Rules, Seen, Signer, Sources,
-    Tallies, Witness, serve_calls,
+    Commits, Event, Gate, NoSuccessor, Office, PutBack, Reception, Renewed, Rules, Seen, Signer,
+    Sources, Tallies, Witness, serve_calls,
 };
 use stable_log::MemoryDisk;
 use std::alloc::{AllocError, Global};
@@ -201,6 +201,7 @@ fn answers_at<N: DeskNaming, R: Threads + Wait + Clock>(
 {
     let (commits, tallies) = (Commits::new(), Tallies::new(0));
     let (put_back, gate) = (PutBack::new(), Gate::new(false));
+    let renewed = Renewed::new(scene.alloc).ok()?;
     let good = GoodVotes::new(scene.alloc);
     let checker = SideBySide::new(rt, &good);
     let office = Office {
@@ -208,6 +209,7 @@ fn answers_at<N: DeskNaming, R: Threads + Wait + Clock>(
         committee: scene.committee,
         replica: scene.replica,
         keeper: &NoSuccessor,
+        renewed: &renewed,
         put_back: &put_back,
     };
     let reception = Reception {
@@ -286,7 +288,7 @@ const STATUSES: &[u8] =
     b"200 200 200 200 200 200 200 200 400 409 200 404 200 400 200 200 200 200 405 404 400 400 200 ";
 
 // What is told of the calls, of A1 as the last commit, and by the metrics of the calls before.
-const TOLD: [&[u8]; 29] = [
+const TOLD: [&[u8]; 31] = [
     b"\r\nwezhgula-api: 1\r\n",
     b"\r\n\r\nvoted 0 0000",
     b" committed 5b526f8ffa3d66249b11ba8431f9d960b08aad60e33b288aeef2d11f58c1c938\nHTTP/1.1 200",
@@ -316,6 +318,8 @@ const TOLD: [&[u8]; 29] = [
     b"hs_signer_asking 0\n",
     b"hs_signer_source_heard{source=\"0\"} 0\nhs_signer_source_heard{source=\"1\"} 1\n",
     b"hs_signer_stopped 0\n",
+    b",\"next\":\"none\",\"reserve\":\"none\",\"committees\":1,\"kept_committees\":0,\"committed\":",
+    b"hs_signer_next 0\n",
 ];
 
 // The line from this place on, without its line feed.
