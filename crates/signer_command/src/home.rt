@@ -4,17 +4,19 @@ ghost use Rattle.std.specs.Prelude.{◌≡◌, IfOk, OnOk};
 ghost use Rattle.blocks.specs.Genesis.{chain_id_of};
 ghost use Rattle.signer_command.specs.Approved.{IsApprovable, first_payload};
 
+use crate::fitness::Unfit;
 use crate::lineage::Next;
+use crate::making::Maker;
 use crate::marks::put_down;
 use crate::over::{fault_of_words, first_payload, payload_of, ready_for};
 use crate::pool::Start;
 use crate::successor::Successor;
 use blocks::{CommitteeView, Header, Id};
 use certificates::Certificate;
-use lineage_folder::{LineageFolder, Standing};
+use lineage_folder::{LineageFolder, Standing, has_keys_of};
 use put_back_file::{PUT_BACK, put_back_text};
 use sha2::{Digest, Sha256};
-use signing_service::{Approver, Keeper, OverFault};
+use signing_service::{Approver, Keeper, NextFault, OverFault, Progress};
 use std::fs::{File, Files};
 use std::io;
 use std::sync::atomic::{AtomicBool, Ordering};
@@ -33,6 +35,10 @@ pub(crate) struct Home<'a, T: Wait, S: Sink> {
     pub standing: &'a Standing,
     /// The stay that ends once it was said that it goes over.
     pub start: &'a Start,
+    /// Whether it goes over by itself.
+    pub renews: bool,
+    /// The keys that come next.
+    pub maker: Maker<'a, T, S>,
     pub next: Mutex<Option<Next>>,
     /// The word may be stored or not, since a disk failed: nobody is told that it goes over, or asks again.
     pub is_unsure: AtomicBool,
@@ -93,11 +99,15 @@ impl<T: Wait + Files<File = File>, S: Sink> Home<'_, T, S> {
 
 impl<T: Threads + Wait + Files<File = File>, S: Sink> Approver for Home<'_, T, S> {
     ghost use Rattle.signer_command.specs.Approved.{IsApprovable, first_payload};
+    ghost use Rattle.next_keys.specs.Endorsements.{IsGoodEndorsement};
     ghost use Rattle.successor_files.specs.Successors.{files_of};
 
     ghost tells = { λ h. record {
       approves = IsApprovable (files_of h.successor.earlier.now) h.successor.committee.now h.successor.path;
       begins = first_payload h.standing.now.handover;
+      spares = h.renews;
+      has_keys = λ _. Unit {0};
+      endorsed = IsGoodEndorsement h.maker.committee.now;
       over = λ _ _. Unit {0};
     } };
 
@@ -109,7 +119,41 @@ impl<T: Threads + Wait + Files<File = File>, S: Sink> Approver for Home<'_, T, S
         first_payload(&self.standing.handover)
     }
 
-    fn prepare(&self, file: &[u8]) -> Result<Id, OverFault> {
+    fn spares(&self) -> bool {
+        self.renews
+    }
+
+    fn has_keys_in(&self, after: &CommitteeView) -> Result<bool, NextFault> {
+        let (before, replica) = (self.successor.committee, self.replica);
+        let has = has_keys_of(before, after, replica) || self.maker.signed_for(after)?;
+        if !has {
+            self.successor.tell_unfit(Unfit::NotMine);
+        }
+        Ok(has)
+    }
+
+    fn endorsed(&self) -> Result<Option<Vec<u8>>, NextFault> {
+        self.maker.endorsed()
+    }
+
+    fn statement(&self) -> Result<Vec<u8>, NextFault> {
+        self.maker.statement()
+    }
+
+    fn endorse(&self, endorsement: &[u8]) -> Result<Vec<u8>, NextFault> {
+        self.maker.endorse(endorsement)
+    }
+
+    fn progress(&self) -> Progress {
+        let earlier = u32::try_from(self.standing.earlier.len()).unwrap_or(u32::MAX);
+        Progress {
+            next: self.maker.progress(),
+            committees: earlier.saturating_add(1),
+            kept: self.standing.alike,
+        }
+    }
+
+    fn prepare(&self, renewal: &[u8], file: &[u8]) -> Result<Id, OverFault> {
         let after = match CommitteeView::parse(file) {
             Ok(after) => after,
             Err(refusal) => return Err(OverFault::Committee(refusal)),
@@ -125,7 +169,7 @@ impl<T: Threads + Wait + Files<File = File>, S: Sink> Approver for Home<'_, T, S
             Some(ready) if ready.handover.is_some() => return Err(OverFault::Stopped),
             _ => {}
         }
-        *next = Some(ready_for(self, &after, file)?);
+        *next = Some(ready_for(self, &after, renewal, file)?);
         Ok(chain)
     }
 

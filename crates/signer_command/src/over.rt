@@ -12,6 +12,7 @@ use key_files::KeyFile;
 use lineage_folder::{KeySet, LineageFault, has_keys_of};
 use lmots::PrivateSeed;
 use lms_tree::SigningTree;
+use renewals::{Renewal, RenewalFormRefusal, renews};
 use replica_command::{ReplicaFault, ReplicaFile, ReplicaFolder, Stores};
 use safe_files::is_nothing_at;
 use signing_service::OverFault;
@@ -77,6 +78,7 @@ fn fault_of_keys(fault: ReplicaFault) -> OverFault {
 pub(crate) fn ready_for<T: Threads + Wait + Files<File = File>, S: Sink>(
     home: &Home<'_, T, S>,
     after: &CommitteeView<'_>,
+    renewal: &[u8],
     file: &[u8],
 ) -> Result<Next, OverFault> {
     let chain = after.chain();
@@ -85,7 +87,13 @@ pub(crate) fn ready_for<T: Threads + Wait + Files<File = File>, S: Sink>(
         return Err(fault_of_words(fault));
     }
     let goods = goods_in(home, after)?;
-    if let Err(fault) = lineage.store_next(&home.successor.committee.chain(), file) {
+    let before = home.successor.committee;
+    if let Err(fault) = lineage.store_next(&before.chain(), file) {
+        return Err(fault_of_words(fault));
+    }
+    if is_renewal(home.successor.alloc, before, after, renewal)?
+        && let Err(fault) = lineage.store_renewal(&before.chain(), renewal)
+    {
         return Err(fault_of_words(fault));
     }
     let Ok(file) = file.to_vec(home.successor.alloc) else {
@@ -97,6 +105,20 @@ pub(crate) fn ready_for<T: Threads + Wait + Files<File = File>, S: Sink>(
         goods,
         handover: None,
     })
+}
+
+// Whether the committee that follows renews the one before by the renewal of these bytes.
+fn is_renewal(
+    alloc: Global,
+    before: &CommitteeView<'_>,
+    after: &CommitteeView<'_>,
+    renewal: &[u8],
+) -> Result<bool, OverFault> {
+    match Renewal::read(alloc, renewal) {
+        Ok(renewal) => Ok(renews(before, after, &renewal).is_ok()),
+        Err(RenewalFormRefusal::Memory) => Err(OverFault::Memory),
+        Err(_) => Ok(false),
+    }
 }
 
 // What it goes on with in this committee: the keys that it has, or those that were made behind its own.
@@ -138,6 +160,7 @@ fn new_goods<T: Threads + Wait + Files<File = File>, S: Sink>(
     };
     match is_nothing_at(rt, &place) {
         Ok(false) => {}
+        Ok(true) if home.maker.lacks(after) => return Err(OverFault::Stopped),
         Ok(true) => return Err(OverFault::NotMine),
         Err(_) => return Err(OverFault::Stopped),
     }
@@ -158,11 +181,23 @@ fn new_goods<T: Threads + Wait + Files<File = File>, S: Sink>(
     if log.count() > 0 {
         return Err(OverFault::Stopped);
     }
-    let trees = grown(rt, alloc, seeds)?;
+    let trees = trees_of(home, after, seeds)?;
     if !are_keys(after, home.replica, &trees) {
         return Err(OverFault::NotMine);
     }
     Ok(Goods::New(Parts { trees, index, log }, lock))
+}
+
+// The keys of these seeds: as they were computed beside the votes, or else they are computed now.
+fn trees_of<T: Threads + Wait + Files<File = File>, S: Sink>(
+    home: &Home<'_, T, S>,
+    after: &CommitteeView<'_>,
+    seeds: Vec<PrivateSeed>,
+) -> Result<Vec<SigningTree>, OverFault> {
+    match home.maker.take_trees() {
+        Some(trees) if are_keys(after, home.replica, &trees) => Ok(trees),
+        _ => grown(home.successor.rt, home.successor.alloc, seeds),
+    }
 }
 
 // A key that is computed in a thread, or was where none could be made.

@@ -6,6 +6,7 @@ use crate::handing_out::{LogTalk, Past};
 use crate::heard::Hearing;
 use crate::link::{Answering, Asking, Link};
 use crate::listening::{Listener, Place};
+use crate::making::Maker;
 use crate::pace::{Pace, tick};
 use crate::reading::{MOST_OF_A_CALL, Reader, SHORT, config};
 use crate::stay::{Room, THREADS_BESIDE};
@@ -25,6 +26,7 @@ use std::cell::Cell;
 use std::fs::{File, Files};
 use std::io::ErrorKind;
 use std::net::{Net, TcpListener, TcpStream};
+use std::random::RandomSource;
 use std::sync::Wait;
 use std::sync::atomic::{AtomicBool, AtomicU32, Ordering};
 use std::thread::Threads;
@@ -49,6 +51,8 @@ pub(crate) enum Job<N: DeskNaming> {
     HandsOut,
     /// Asks the source of this number.
     Asks(usize),
+    /// Makes the next keys.
+    Makes,
 }
 
 /// What the threads share.
@@ -75,6 +79,7 @@ pub(crate) struct Shop<
     pub gate: &'a Gate<N, D>,
     pub sources: &'a Sources,
     pub hearing: &'a Hearing,
+    pub maker: &'a Maker<'h, T, S>,
     pub start: &'a Start,
 }
 
@@ -155,6 +160,7 @@ pub(crate) fn work_all<
         + Clock
         + Files<File = File>
         + Net<Listener = TcpListener, Stream = TcpStream>
+        + RandomSource
         + Sync,
     S: Sink + Send,
     D: Disk + Send + Sync,
@@ -183,7 +189,8 @@ impl<
         + Wait
         + Clock
         + Files<File = File>
-        + Net<Listener = TcpListener, Stream = TcpStream>,
+        + Net<Listener = TcpListener, Stream = TcpStream>
+        + RandomSource,
     S: Sink,
     D: Disk,
     K: Approver + Keeper,
@@ -214,9 +221,28 @@ impl<
                 }
                 None
             }
+            Job::Makes => {
+                if all_begun {
+                    self.maker.make();
+                }
+                None
+            }
         }
     }
+}
 
+impl<
+    N: DeskNaming,
+    T: Threads
+        + Wait
+        + Clock
+        + Files<File = File>
+        + Net<Listener = TcpListener, Stream = TcpStream>,
+    S: Sink,
+    D: Disk,
+    K: Approver + Keeper,
+    W: Witness,
+> Shop<'_, '_, N, T, S, D, K, W> {
     // Hands out the log to many at once.
     fn hand_out(&self, place: &Place) {
         let rules = handing_out::rules(self.connections());

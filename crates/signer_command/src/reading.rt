@@ -36,11 +36,12 @@ pub(crate) const SHORT: &[&[u8]] = &[
     b"GET /live",
 ];
 
-/// The longest body: a header of 84 bytes and a certificate of 45,147.
-const LONGEST_BODY: usize = 45_231;
+/// The longest body: the length of a renewal (4 bytes), one with 31 signatures (45,183), and the file of a committee of 31 replicas with a
+/// place for four keys each (7,200).
+const LONGEST_BODY: usize = 52_387;
 
 /// How many bytes of one call are kept at most: a head of 16,384 and the longest body.
-pub(crate) const MOST_OF_A_CALL: usize = 65_536;
+pub(crate) const MOST_OF_A_CALL: usize = 69_632;
 
 /// What one of the threads holds its connections to, of which it has so many.
 pub(crate) fn rules(most: usize) -> Rules {

@@ -10,6 +10,7 @@ use crate::heard::Hearing;
 use crate::home::Home;
 use crate::lineage::Next;
 use crate::listening::Place;
+use crate::making::Maker;
 use crate::notes::Notes;
 use crate::pool::{Job, Shop, Start, work_all};
 use crate::successor::Successor;
@@ -18,13 +19,16 @@ use blocks::CommitteeView;
 use good_votes::{GoodVotes, SideBySide};
 use lineage_folder::Standing;
 use program_parts::SourceWord;
-use signing_service::{Commits, Gate, Office, PutBack, Reception, Rules, Sources, Tallies};
+use signing_service::{
+    Commits, Gate, Office, PutBack, Reception, Renewed, Rules, Sources, Tallies,
+};
 use stable_log::{Disk, FileDisk};
 use std::alloc::{AllocError, Global};
 use std::fs::{File, Files};
 use std::hash::RandomState;
 use std::marker::Brand;
 use std::net::{Net, TcpListener, TcpStream};
+use std::random::RandomSource;
 use std::sync::atomic::AtomicBool;
 use std::sync::ledger::Blank;
 use std::sync::{Mutex, Wait};
@@ -72,6 +76,7 @@ struct Shared<'a, N: DeskNaming, T: Wait + Files<File = File>, S: Sink, D: Disk>
     tallies: Tallies,
     good: GoodVotes,
     home: Home<'a, T, S>,
+    renewed: Renewed<N>,
     put_back: PutBack<N, D, Home<'a, T, S>>,
     gate: Gate<N, D>,
     sources: Sources,
@@ -93,6 +98,10 @@ impl<'a, N: DeskNaming, T: Wait + Clock + Files<File = File>, S: Sink, D: Disk> 
             shared.home.successor.path ≡ room.now.words.now.successor) }
         ensures committee { IfOk result (λ shared.
             shared.home.successor.committee.now ≡ room.now.committee.now) }
+        ensures renews { IfOk result (λ shared.
+            shared.home.renews ≡ room.now.words.now.renew) }
+        ensures maker { IfOk result (λ shared.
+            shared.home.maker.committee.now ≡ room.now.committee.now) }
         ensures handover { IfOk result (λ shared.
             shared.home.standing.now.handover ≡ room.now.standing.now.handover) }
     {
@@ -106,9 +115,12 @@ impl<'a, N: DeskNaming, T: Wait + Clock + Files<File = File>, S: Sink, D: Disk> 
                 replica: room.words.replica,
                 standing: room.standing,
                 start: room.start,
+                renews: room.words.renew,
+                maker: Maker::new(room),
                 next: Mutex::new(None),
                 is_unsure: AtomicBool::new(false),
             },
+            renewed: Renewed::new(room.alloc)?,
             put_back: PutBack::new(),
             gate: Gate::new(asks(&room.words.sources)),
             sources: Sources::new(room.alloc, room.words.sources.len())?,
@@ -150,6 +162,7 @@ fn shop_of<
             committee: room.committee,
             replica: room.words.replica,
             keeper: &shared.home,
+            renewed: &shared.renewed,
             put_back: &shared.put_back,
         },
         checker,
@@ -172,6 +185,7 @@ fn shop_of<
         gate: &shared.gate,
         sources: &shared.sources,
         hearing: &shared.hearing,
+        maker: &shared.home.maker,
         start: room.start,
     }
 }
@@ -198,6 +212,7 @@ pub(crate) fn stay_once<
         + Clock
         + Files<File = File>
         + Net<Listener = TcpListener, Stream = TcpStream>
+        + RandomSource
         + Sync,
     S: Sink + Send,
 >(room: &Room<'_, T, S>, parts: Parts<FileDisk>) -> Result<Left<FileDisk>, Fault<'a>>
@@ -220,6 +235,7 @@ fn stay<
         + Clock
         + Files<File = File>
         + Net<Listener = TcpListener, Stream = TcpStream>
+        + RandomSource
         + Sync,
     S: Sink + Send,
     D: Disk + Send + Sync,
@@ -259,6 +275,7 @@ fn answer_all<
         + Clock
         + Files<File = File>
         + Net<Listener = TcpListener, Stream = TcpStream>
+        + RandomSource
         + Sync,
     S: Sink + Send,
     D: Disk + Send + Sync,
@@ -274,7 +291,7 @@ where
     requires replica { room.now.words.now.replica ≡ N.replica }
     ensures refused { IfErr result IsLate }
 {
-    let Ok(jobs) = jobs_of(room.alloc, sessions, room.sockets, room.words.sources.len()) else {
+    let Ok(jobs) = jobs_of(room.alloc, sessions, room.sockets, room.words) else {
         return Err(Fault::Memory);
     };
     let Ok(shared) = Shared::new(room) else {
@@ -336,7 +353,7 @@ fn close<N: DeskNaming, D: Disk>(
     }
 }
 
-/// How many threads a stay has: one for each session, two that hand out the log, and one for each source.
+/// How many threads a stay has: one for each session, two that hand out the log, one for each source, and one that makes the next keys.
 pub(crate) fn threads_of(words: &Words<'_>, sessions: u8) -> u32 {
     let log = if words.serve.is_some() {
         THREADS_BESIDE
@@ -344,16 +361,17 @@ pub(crate) fn threads_of(words: &Words<'_>, sessions: u8) -> u32 {
         0
     };
     let sources = u32::try_from(words.sources.len()).unwrap_or(u32::MAX);
-    sources.saturating_add(u32::from(sessions) + u32::from(log))
+    let makes = u32::from(words.renew);
+    sources.saturating_add(u32::from(sessions) + u32::from(log) + makes)
 }
 
-// A job for each session, where the first two are of those who only read, if they may, two that hand out the log, and one for each
-// source.
+// A job for each session, where the first two are of those who only read, if they may, two that hand out the log, one for each source,
+// and one that makes the next keys.
 fn jobs_of<N: DeskNaming>(
     alloc: Global,
     sessions: Vec<Session<N>>,
     sockets: &Sockets,
-    sources: usize,
+    words: &Words<'_>,
 ) -> Result<Vec<Job<N>>, AllocError> {
     let mut reading = if sockets.reads.is_some() {
         usize::from(THREADS_BESIDE)
@@ -374,8 +392,11 @@ fn jobs_of<N: DeskNaming>(
             jobs.push(Job::HandsOut)?;
         }
     }
-    for source in 0..sources {
+    for source in 0..words.sources.len() {
         jobs.push(Job::Asks(source))?;
+    }
+    if words.renew {
+        jobs.push(Job::Makes)?;
     }
     Ok(jobs)
 }

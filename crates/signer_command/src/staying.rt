@@ -18,6 +18,7 @@ use printed_lines::id_digits;
 use stable_log::FileDisk;
 use std::fs::{File, Files};
 use std::net::{Net, TcpListener, TcpStream};
+use std::random::RandomSource;
 use std::sync::Wait;
 use std::thread::Threads;
 use std::time::Clock;
@@ -50,6 +51,7 @@ pub(crate) fn stay_on<
         + Clock
         + Files<File = File>
         + Net<Listener = TcpListener, Stream = TcpStream>
+        + RandomSource
         + Sync,
     S: Sink + Send,
 >(halls: &Halls<'_, 'a, T, S>, stand: Option<Stand>) -> Result<Closed<FileDisk>, Fault<'a>>
@@ -71,6 +73,7 @@ fn stay_while_over<
         + Clock
         + Files<File = File>
         + Net<Listener = TcpListener, Stream = TcpStream>
+        + RandomSource
         + Sync,
     S: Sink + Send,
 >(halls: &Halls<'_, 'a, T, S>, stand: Option<Stand>) -> Result<Closed<FileDisk>, Fault<'a>>
@@ -101,6 +104,7 @@ fn stay_in<
         + Clock
         + Files<File = File>
         + Net<Listener = TcpListener, Stream = TcpStream>
+        + RandomSource
         + Sync,
     S: Sink + Send,
 >(halls: &Halls<'_, 'a, T, S>, stand: Stand) -> Result<After, Fault<'a>>
@@ -134,6 +138,7 @@ fn stay_at<
         + Clock
         + Files<File = File>
         + Net<Listener = TcpListener, Stream = TcpStream>
+        + RandomSource
         + Sync,
     S: Sink + Send,
 >(

@@ -91,6 +91,11 @@ impl<'a, T: Wait + Files<File = File>, S: Sink> Successor<'a, T, S> {
         }
     }
 
+    /// Tells why the signer could not go over to a committee, unless that was told last.
+    pub fn tell_unfit(&self, unfit: Unfit) {
+        self.tell(Unapproved::Unfit(unfit));
+    }
+
     // Tells why the file is as if it were not there, unless that was told last.
     fn tell(&self, why: Unapproved) {
         let mut told = self.told.lock(self.rt);
