@@ -1,14 +1,20 @@
--- One item more: of the lines of a committee, of what is shown of a list.
+-- One item more: of the lines of a committee and of next keys, of what is shown of a list.
 use Rattle.std.proofs.Common.{◌≡◌, ◌≤◌, ℕ, suc, Result, Ok, Err, OnOk, ◌+◌, ◌<◌, List, [], ◌∷◌, ◌++◌, length, take, get_or, refl, sym, ap, ◌∙◌, subst, arith, add-one, append_assoc, codes, lit≤}
 use Rattle.std.proofs.Math.Seq.{take-suc}
 use Rattle.std.proofs.lemmas.List.{append-nil, length-take-le, take-take}
 use Rattle.hex.specs.Hex.{encode_lower}
+use Rattle.next_keys.specs.NextKeys.{key_id_in, root_in}
+use Rattle.show_command.specs.EndorsementLines.{next_key_line, next_key_lines}
 use Rattle.show_command.specs.Lines.{lines_of_replica, replica_lines, seed_line}
 use Rattle.show_command.specs.Series.{AddsText, AreOf}
 use Rattle.show_command.specs.declared.mark.Mark.{Mark}
 
 pub replicas_more : (committee : List ℕ) (r : ℕ) → replica_lines committee (r + 1) ≡ replica_lines committee r ++ lines_of_replica committee r
 replicas_more committee r = rw add-one refl
+
+pub next_keys_more : (statement : List ℕ) (k : ℕ)
+    → next_key_lines statement (k + 1) ≡ next_key_lines statement k ++ next_key_line k (key_id_in statement k) (root_in statement k)
+next_keys_more statement k = rw add-one refl
 
 -- one item more behind those of a list
 pub are_more : {X : Type 0} (IsOf : ℕ → X → List ℕ → List Mark → Type 0) (k : ℕ) (xs : List X) (x : X) (text next : List ℕ) (marks more : List Mark)
@@ -28,7 +34,14 @@ are_more {X} IsOf k (y ∷ ys) x text next marks more (t, m, t', m', first, rest
     let seen : marks ++ more ≡ m ++ (m' ++ more) = ap (λ (u : List Mark). u ++ more) marks_are ∙ append_assoc m m' more in
     (t, m, t' ++ next, m' ++ more, first, longer, texts, seen)
 
--- five pieces, one behind the other
+-- three pieces, one behind the other
+pub three_pieces : (old a b c t1 t2 t3 : List ℕ) → t1 ≡ old ++ a → t2 ≡ t1 ++ b → t3 ≡ t2 ++ c → t3 ≡ old ++ (a ++ b ++ c)
+three_pieces old a b c t1 t2 t3 one two three =
+    let joined : ((old ++ a) ++ b) ++ c ≡ old ++ (a ++ b ++ c) = simp append_assoc in
+    let whole : t3 ≡ ((old ++ a) ++ b) ++ c = cc in
+    whole ∙ joined
+
+-- two more
 pub five_pieces : (old a b c d e t1 t2 t3 t4 t5 : List ℕ) → t1 ≡ old ++ a → t2 ≡ t1 ++ b → t3 ≡ t2 ++ c → t4 ≡ t3 ++ d → t5 ≡ t4 ++ e
     → t5 ≡ old ++ (a ++ b ++ c ++ d ++ e)
 five_pieces old a b c d e t1 t2 t3 t4 t5 one two three four five =
@@ -36,7 +49,7 @@ five_pieces old a b c d e t1 t2 t3 t4 t5 one two three four five =
     let whole : t5 ≡ ((((old ++ a) ++ b) ++ c) ++ d) ++ e = cc in
     whole ∙ joined
 
--- two more
+-- and two more
 pub seven_pieces : (old a b c d e f g t1 t2 t3 t4 t5 t6 t7 : List ℕ) → t1 ≡ old ++ a → t2 ≡ t1 ++ b → t3 ≡ t2 ++ c → t4 ≡ t3 ++ d → t5 ≡ t4 ++ e
     → t6 ≡ t5 ++ f → t7 ≡ t6 ++ g → t7 ≡ old ++ (a ++ b ++ c ++ d ++ e ++ f ++ g)
 seven_pieces old a b c d e f g t1 t2 t3 t4 t5 t6 t7 one two three four five six seven =

@@ -13,14 +13,17 @@ use Rattle.stable_log.specs.Refusals.{IsDamaged}
 use Rattle.key_index_store.specs.Boundary.{IsBoundary}
 use Rattle.key_index_store.specs.Indices.{limit_of}
 use Rattle.key_index_store.specs.Refusals.{HasNoBoundary}
+use Rattle.renewals.specs.RenewalReading.{renewal_in}
 use Rattle.wire.specs.declared.limits.TheConstants.{MOST_KEYS}
+use Rattle.show_command.specs.EndorsementLines.{IsEndorsementText, IsNoEndorsementText}
 use Rattle.show_command.specs.Entries.{ArePayloadsShown}
 use Rattle.show_command.specs.Kinds.{kind_in}
 use Rattle.show_command.specs.Lines.{committee_file, good_count_line, export_line, indices_line, journal_line, old_form_line, shown_key_line, path_line, shown_refusal_line, seed_line, verdict_lines}
 use Rattle.show_command.specs.Marks.{IsMark}
 use Rattle.show_command.specs.Names.{verdict_refusal_name}
+use Rattle.show_command.specs.RenewalLines.{renewal_file}
 use Rattle.show_command.specs.declared.kind.Kind.{Kind}
-use Rattle.show_command.specs.declared.kind.Kind.TheVariants.{Seed, Committee, Verdict, Export, Journal, Indices, Other}
+use Rattle.show_command.specs.declared.kind.Kind.TheVariants.{Seed, Committee, Verdict, Export, Endorsement, Renewal, Journal, Indices, Other}
 use Rattle.show_command.specs.declared.mark.Mark.{Mark}
 
 -- ---- a verdict
@@ -99,6 +102,8 @@ IsShownAs Seed committee bytes text is_whole = (text ≡ seed_line bytes) × (is
 IsShownAs Committee committee bytes text is_whole = (text ≡ committee_file (committee_in bytes)) × (is_whole ≡ is_ok (committee_in bytes))
 IsShownAs Verdict committee bytes text is_whole = IsWholeOrElse (IsVerdictText committee bytes text) (IsNoVerdictText bytes text) is_whole
 IsShownAs Export committee bytes text is_whole = IsExportText committee bytes text × (is_whole ≡ true)
+IsShownAs Endorsement committee bytes text is_whole = IsWholeOrElse (IsEndorsementText bytes text) (IsNoEndorsementText bytes text) is_whole
+IsShownAs Renewal committee bytes text is_whole = (text ≡ renewal_file (renewal_in bytes)) × (is_whole ≡ is_ok (renewal_in bytes))
 IsShownAs Journal committee bytes text is_whole = IsWholeOrElse (IsJournalText committee bytes text) (IsNoJournalText bytes text) is_whole
 IsShownAs Indices committee bytes text is_whole = IsWholeOrElse (IsIndicesText bytes text) (IsNoIndicesText bytes text) is_whole
 IsShownAs Other committee bytes text is_whole = IsWholeOrElse (IsKeyText bytes text) (IsUnknownText bytes text) is_whole

@@ -4,7 +4,7 @@ use Rattle.std.specs.Str.{bytes_eq}
 use Rattle.wire.specs.Pieces.{piece, number_at}
 use Rattle.lmots.specs.declared.keys.TheConstants.{PRIVATE_SEED_LEN}
 use Rattle.show_command.specs.declared.kind.Kind.{Kind}
-use Rattle.show_command.specs.declared.kind.Kind.TheVariants.{Seed, Committee, Verdict, Export, Journal, Indices, Other}
+use Rattle.show_command.specs.declared.kind.Kind.TheVariants.{Seed, Committee, Verdict, Export, Endorsement, Renewal, Journal, Indices, Other}
 
 -- the bytes begin with these four
 abbrev pub has_magic : List ℕ → List ℕ → Bool
@@ -22,5 +22,7 @@ kind_in bytes =
     else if has_magic bytes (codes "HSC3") then Committee
     else if has_magic bytes (codes "HSX2") then Verdict
     else if has_magic bytes (codes "HSL1") then Export
+    else if has_magic bytes (codes "HSE1") then Endorsement
+    else if has_magic bytes (codes "HSR1") then Renewal
     else if has_magic bytes (codes "HSJ1") then (if begins_with_index bytes then Indices else Journal)
     else Other

@@ -3,6 +3,8 @@ pub mod Marks
 pub mod Names
 pub mod Kinds
 pub mod Lines
+pub mod EndorsementLines
+pub mod RenewalLines
 pub mod Series
 pub mod Entries
 pub mod Files

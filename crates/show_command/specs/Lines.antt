@@ -124,7 +124,11 @@ committee_file (Err refusal) = refused_committee_line (refusal_text refusal)
 unfoldable pub signatures_line : ℕ → ℕ → List ℕ
 signatures_line count good = codes "signatures " ++ decimal count ++ codes " good " ++ decimal good ++ codes "\n"
 
--- .. where a committee was given
+-- "signatures N not checked"
+unfoldable pub unchecked_line : ℕ → List ℕ
+unchecked_line count = codes "signatures " ++ decimal count ++ codes " not checked\n"
+
+-- the first of both, where a committee was given
 abbrev pub good_count_line : Option (List ℕ) → List Mark → List ℕ
 good_count_line None marks = []
 good_count_line (Some committee) marks = signatures_line (length marks) (count_by is_good marks)

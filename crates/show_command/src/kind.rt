@@ -17,6 +17,10 @@ pub(crate) enum Kind {
     Verdict,
     /// They begin with `HSL1`.
     Export,
+    /// They begin with `HSE1`.
+    Endorsement,
+    /// They begin with `HSR1`.
+    Renewal,
     /// They begin with `HSJ1`.
     Journal,
     /// They begin with `HSJ1`, and the first entry has four bytes.
@@ -47,6 +51,10 @@ pub(crate) fn kind_of(bytes: &[u8]) -> Kind
         Kind::Verdict
     } else if bytes.starts_with(b"HSL1") {
         Kind::Export
+    } else if bytes.starts_with(b"HSE1") {
+        Kind::Endorsement
+    } else if bytes.starts_with(b"HSR1") {
+        Kind::Renewal
     } else if !bytes.starts_with(b"HSJ1") {
         Kind::Other
     } else if begins_with_index(bytes) {

@@ -1,7 +1,7 @@
 //! What is shown of signatures: by which key they are, and whether they are good.
 
 ghost use Rattle.std.specs.Prelude.{◌≡◌, ◌++◌, OnOk, count_by, decimal, length};
-ghost use Rattle.show_command.specs.Lines.{good_count_line, key_part, signatures_line};
+ghost use Rattle.show_command.specs.Lines.{good_count_line, key_part, signatures_line, unchecked_line};
 ghost use Rattle.show_command.specs.Marks.{IsMark, is_good, mark_text};
 
 use blocks::Ballot;
@@ -114,4 +114,14 @@ fn put_signatures(text: &mut Vec<u8>, count: usize, good: usize) -> Result<(), A
     append(text, b" good ")?;
     put_number(text, good)?;
     append(text, b"\n")
+}
+
+/// Adds the line that counts signatures of which none is checked, whether or not a committee was given.
+#[tactic(auto, unfolding(crate::specs::Lines::unchecked_line))]
+pub(crate) fn put_unchecked(text: &mut Vec<u8>, count: usize) -> Result<(), AllocError>
+    ensures { OnOk result (text.new.items ≡ text.old.items ++ unchecked_line count) }
+{
+    append(text, b"signatures ")?;
+    put_number(text, count)?;
+    append(text, b" not checked\n")
 }

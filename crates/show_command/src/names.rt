@@ -2,10 +2,12 @@
 
 ghost use Rattle.std.specs.Prelude.{◌≡◌, ◌++◌, OnOk, decimal};
 ghost use Rattle.show_command.specs.Lines.{shown_refusal_line};
-ghost use Rattle.show_command.specs.Names.{entry_refusal_name, verdict_refusal_name};
+ghost use Rattle.show_command.specs.Names.{entry_refusal_name, next_keys_refusal_name, renewal_refusal_name, verdict_refusal_name};
 
 use log_format::EntryRefusal;
+use next_keys::NextKeysRefusal;
 use printed_lines::put_number;
+use renewals::RenewalFormRefusal;
 use std::alloc::AllocError;
 use verdict_format::VerdictRefusal;
 use wire::append;
@@ -34,6 +36,34 @@ pub(crate) fn entry_refusal_name(refusal: EntryRefusal) -> &'static str
         EntryRefusal::Parent => "Parent",
         EntryRefusal::OwnVote => "OwnVote",
         EntryRefusal::Certificate => "Certificate",
+    }
+}
+
+/// The name of a refusal of the statement in an endorsement.
+pub(crate) fn next_keys_refusal_name(refusal: NextKeysRefusal) -> &'static str
+    ensures { result.now ≡ next_keys_refusal_name refusal }
+{
+    match refusal {
+        NextKeysRefusal::Short => "Short",
+        NextKeysRefusal::Magic => "Magic",
+        NextKeysRefusal::Count => "Count",
+        NextKeysRefusal::Length => "Length",
+        NextKeysRefusal::Key => "Key",
+    }
+}
+
+/// The name of a renewal's refusal.
+pub(crate) fn renewal_refusal_name(refusal: RenewalFormRefusal) -> &'static str
+    ensures { result.now ≡ renewal_refusal_name refusal }
+{
+    match refusal {
+        RenewalFormRefusal::Memory => "Memory",
+        RenewalFormRefusal::Short => "Short",
+        RenewalFormRefusal::Magic => "Magic",
+        RenewalFormRefusal::View => "View",
+        RenewalFormRefusal::Length => "Length",
+        RenewalFormRefusal::Order => "Order",
+        RenewalFormRefusal::Count => "Count",
     }
 }
 

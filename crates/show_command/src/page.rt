@@ -6,8 +6,10 @@ ghost use Rattle.show_command.specs.Files.{IsWholeOrElse, IsKeyText, IsShown, Is
 ghost use Rattle.show_command.specs.Lines.{committee_file, seed_line};
 
 use crate::committee::{put_committee, put_key, put_refused_committee, put_seed};
+use crate::endorsement::endorsement_page;
 use crate::kind::{Kind, kind_of};
 use crate::log::{export_page, indices_page, journal_page};
+use crate::renewal::renewal_page;
 use crate::verdict::verdict_page;
 use certificates::CommitteeView;
 use lms_tree::PublicKey;
@@ -42,6 +44,8 @@ pub fn show(
         Kind::Committee => committee_page(alloc, &bytes),
         Kind::Verdict => verdict_page(alloc, committee, &bytes),
         Kind::Export => export_page(alloc, committee, &bytes),
+        Kind::Endorsement => endorsement_page(alloc, &bytes),
+        Kind::Renewal => renewal_page(alloc, &bytes),
         Kind::Journal => journal_page(alloc, committee, bytes),
         Kind::Indices => indices_page(alloc, bytes),
         Kind::Other => other_page(alloc, &bytes),
