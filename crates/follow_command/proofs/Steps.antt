@@ -13,40 +13,43 @@ use Rattle.program_parts.specs.declared.words.SourceWord.{SourceWord}
 use Rattle.follow_command.specs.Faults.{GivesUp, GivesUpOver, GivesUpStep, IsCause, IsFollowFault, IsProofFault, IsSourcesFault, IsStepFault}
 use Rattle.blocks.specs.Committees.{IsCommittee}
 use Rattle.evidence.specs.Evidence.{Evidence}
+use Rattle.renewals.specs.Renewals.{Renewal as RenewalValue}
+use Rattle.follow_command.specs.RenewalLines.{AreLinesOn, IsReadAt}
 use Rattle.follow_command.specs.Sources.{IsShown}
 use Rattle.culprit_search.specs.Reports.{Report}
 use Rattle.follow_command.specs.Followings.{IsFollowing, status_of}
-use Rattle.follow_command.specs.Outputs.{AreApart, ComesTo, IsOutput, IsReportOf, step_text, usage_line}
-use Rattle.follow_command.specs.Words.{AskForStep, HaveBadSource, IsUsage, IsWordsFault}
+use Rattle.follow_command.specs.Outputs.{MayComeNext, ComesTo, IsOutput, IsReportOf, step_text, usage_line}
+use Rattle.follow_command.specs.Words.{AskForStep, HaveBadSource, IsUsage, IsWordsFault, before_renewal}
 use Rattle.follow_command.specs.declared.fault.FollowFault.{FollowFault}
-use Rattle.follow_command.specs.declared.fault.FollowFault.TheVariants.{Sources, OldKey}
+use Rattle.follow_command.specs.declared.fault.FollowFault.TheVariants.{Sources, OldKey, Renewal}
 use Rattle.follow_command.specs.declared.following.Following.{Following}
 use Rattle.follow_command.specs.declared.following.Following.TheVariants.{Conflict, New, Another, Nobody}
 use Rattle.follow_command.proofs.Printing.{given_up_as, silent}
 
 -- ---- a step
 
-pub of_same_words : {S F : Type 0} (connector : Ghosts (ServerOrFile S F)) (r : Result ℕ (ProgramFault FollowFault)) (ws ws' : List SourceWord) (before after : Option (List ℕ)) → ws' ≡ ws
-    → IfOk r (λ s. (t : List ℕ) × ComesTo connector ws' s t × Wrote before after t) → IfOk r (λ s. (t : List ℕ) × ComesTo connector ws s t × Wrote before after t)
-of_same_words connector r ws ws' before after same is = subst (λ (xs : List SourceWord). IfOk r (λ s. (t : List ℕ) × ComesTo connector xs s t × Wrote before after t)) same is
+pub of_same_words : {S F : Type 0} (connector : Ghosts (ServerOrFile S F)) (renewal : Option (List ℕ)) (r : Result ℕ (ProgramFault FollowFault)) (ws ws' : List SourceWord) (before after : Option (List ℕ)) → ws' ≡ ws
+    → IfOk r (λ s. (t : List ℕ) × ComesTo connector renewal ws' s t × Wrote before after t) → IfOk r (λ s. (t : List ℕ) × ComesTo connector renewal ws s t × Wrote before after t)
+of_same_words connector renewal r ws ws' before after same is = subst (λ (xs : List SourceWord). IfOk r (λ s. (t : List ℕ) × ComesTo connector renewal xs s t × Wrote before after t)) same is
 
-step_cause : {S F : Type 0} (connector : Ghosts (ServerOrFile S F)) (old new : List ℕ) (proof : Option (List ℕ)) (ws : List SourceWord) (fault : ProgramFault FollowFault) → IsFollowFault connector proof ws fault → IsStepFault connector old new proof ws fault
-step_cause connector old new proof ws Usage c = c
-step_cause connector old new proof ws Memory c = tt
-step_cause connector old new proof ws (File path) c = inr (inr c)
-step_cause connector old new proof ws (Committee r) c = absurd c.2
-step_cause connector old new proof ws Output c = c
-step_cause connector old new proof ws (Own (Sources s)) c = c
-step_cause connector old new proof ws (Own (OldKey key)) c = absurd c.2
+step_cause : {S F : Type 0} (connector : Ghosts (ServerOrFile S F)) (old new : List ℕ) (renewal proof : Option (List ℕ)) (ws : List SourceWord) (fault : ProgramFault FollowFault) → IsFollowFault connector proof ws fault → IsStepFault connector old new renewal proof ws fault
+step_cause connector old new renewal proof ws Usage c = c
+step_cause connector old new renewal proof ws Memory c = tt
+step_cause connector old new renewal proof ws (File path) c = inr (inr (inr c))
+step_cause connector old new renewal proof ws (Committee r) c = absurd c.2
+step_cause connector old new renewal proof ws Output c = c
+step_cause connector old new renewal proof ws (Own (Sources s)) c = c
+step_cause connector old new renewal proof ws (Own (OldKey key)) c = absurd c.2
+step_cause connector old new renewal proof ws (Own (Renewal refusal)) c = absurd c.2
 
 -- a fault of the proof is one of the step
-pub proof_cause : {S F : Type 0} (connector : Ghosts (ServerOrFile S F)) (old new : List ℕ) (proof : Option (List ℕ)) (ws : List SourceWord) (fault : ProgramFault FollowFault) → IsProofFault proof fault → IsStepFault connector old new proof ws fault
-proof_cause connector old new proof ws Usage c = absurd c
-proof_cause connector old new proof ws Memory c = tt
-proof_cause connector old new proof ws (File path) c = inr (inr c)
-proof_cause connector old new proof ws (Committee r) c = absurd c
-proof_cause connector old new proof ws Output c = absurd c
-proof_cause connector old new proof ws (Own own) c = absurd c
+pub proof_cause : {S F : Type 0} (connector : Ghosts (ServerOrFile S F)) (old new : List ℕ) (renewal proof : Option (List ℕ)) (ws : List SourceWord) (fault : ProgramFault FollowFault) → IsProofFault proof fault → IsStepFault connector old new renewal proof ws fault
+proof_cause connector old new renewal proof ws Usage c = absurd c
+proof_cause connector old new renewal proof ws Memory c = tt
+proof_cause connector old new renewal proof ws (File path) c = inr (inr (inr c))
+proof_cause connector old new renewal proof ws (Committee r) c = absurd c
+proof_cause connector old new renewal proof ws Output c = absurd c
+proof_cause connector old new renewal proof ws (Own own) c = absurd c
 
 -- .. and one of following
 pub proof_of_following : {S F : Type 0} (connector : Ghosts (ServerOrFile S F)) (committee : List ℕ) (proof : Option (List ℕ)) (ws : List SourceWord) (fault : ProgramFault FollowFault) → IsCommittee committee → IsProofFault proof fault → IsFollowFault connector proof ws fault
@@ -61,19 +64,23 @@ proof_of_following connector committee proof ws (Own own) is c = absurd c
 shown_of_same : {S F : Type 0} (connector : Ghosts (ServerOrFile S F)) (committee : List ℕ) (ws ws' : List SourceWord) (e : Evidence) → ws' ≡ ws → IsShown connector committee ws' e → IsShown connector committee ws e
 shown_of_same connector committee ws ws' e same is = subst (λ (xs : List SourceWord). IsShown connector committee xs e) same is
 
--- what sources show, its report and what follows are a step
-pub comes_to : {S F : Type 0} (connector : Ghosts (ServerOrFile S F)) (old new : List ℕ) (ws ws' : List SourceWord) (e : Evidence) (r : Report) (f : Following) → AreApart old new → ws' ≡ ws → IsShown connector old ws' e → IsReportOf e r → IsFollowing e new f
-    → ComesTo connector ws (status_of f) (step_text e.sources r f)
-comes_to connector old new ws ws' e r f apart same shown report following = record {
+-- what sources show, its report, what follows and what a renewal says are a step
+pub comes_to : {S F : Type 0} (connector : Ghosts (ServerOrFile S F)) (old new : List ℕ) (path : Option (List ℕ)) (ws ws' : List SourceWord) (e : Evidence) (r : Report) (f : Following) (renewal : Option RenewalValue) (judged : List ℕ) → MayComeNext old new → ws' ≡ ws → IsShown connector old ws' e → IsReportOf e r → IsFollowing e new f
+    → IsReadAt path renewal → AreLinesOn old new renewal judged → ComesTo connector path ws (status_of f) (step_text e.sources r f judged)
+comes_to connector old new path ws ws' e r f renewal judged next same shown report following read lines = record {
   old = old;
   new = new;
-  apart = apart;
+  next = next;
   evidence = e;
   shown = shown_of_same connector old ws ws' e same shown;
   report = r;
   is_report = report;
   following = f;
   is_following = following;
+  renewal = renewal;
+  read = read;
+  judged = judged;
+  are_judged = lines;
   told = refl;
   ends = refl;
 }
@@ -88,24 +95,26 @@ sources_of_following connector committee proof ws Output is c = absurd c
 sources_of_following connector committee proof ws (Own (Sources (Word i))) is c = absurd c
 sources_of_following connector committee proof ws (Own (Sources Collision)) is c = (committee, is, c)
 sources_of_following connector committee proof ws (Own (OldKey key)) is c = absurd c
+sources_of_following connector committee proof ws (Own (Renewal refusal)) is c = absurd c
 
-pub step_given_up : {S F W : Type 0} (connector : Ghosts (ServerOrFile S F)) (old new : List ℕ) (proof : Option (List ℕ)) (ws ws' : List SourceWord) (r : Result ℕ (ProgramFault FollowFault)) (text : W → Option (List ℕ)) (failed : W → ℕ) (out out' : W) → ws' ≡ ws
-    → IfErr r (λ f. GivesUpOver (IsFollowFault connector proof ws') (ComesTo connector ws') f text failed out out') → IfErr r (λ f. GivesUpStep connector old new proof ws f text failed out out')
-step_given_up connector old new proof ws ws' (Ok s) text failed out out' same up = tt
-step_given_up connector old new proof ws ws' (Err f) text failed out out' same up =
-    given_up_as (IsFollowFault connector proof ws') (IsStepFault connector old new proof ws) (ComesTo connector ws') (ComesTo connector ws) f text failed out out'
-    (λ other c. step_cause connector old new proof ws f (subst (λ (xs : List SourceWord). IsFollowFault connector proof xs f) same c))
-    (λ status whole is. subst (λ (xs : List SourceWord). ComesTo connector xs status whole) same is) up
+pub step_given_up : {S F W : Type 0} (connector : Ghosts (ServerOrFile S F)) (old new : List ℕ) (renewal proof : Option (List ℕ)) (ws ws' : List SourceWord) (r : Result ℕ (ProgramFault FollowFault)) (text : W → Option (List ℕ)) (failed : W → ℕ) (out out' : W) → ws' ≡ ws
+    → IfErr r (λ f. GivesUpOver (IsFollowFault connector proof ws') (ComesTo connector renewal ws') f text failed out out') → IfErr r (λ f. GivesUpStep connector old new renewal proof ws f text failed out out')
+step_given_up connector old new renewal proof ws ws' (Ok s) text failed out out' same up = tt
+step_given_up connector old new renewal proof ws ws' (Err f) text failed out out' same up =
+    given_up_as (IsFollowFault connector proof ws') (IsStepFault connector old new renewal proof ws) (ComesTo connector renewal ws') (ComesTo connector renewal ws) f text failed out out'
+    (λ other c. step_cause connector old new renewal proof ws f (subst (λ (xs : List SourceWord). IsFollowFault connector proof xs f) same c))
+    (λ status whole is. subst (λ (xs : List SourceWord). ComesTo connector renewal xs status whole) same is) up
 
 -- ---- over words
 
-no_step_of_none : (old new : List ℕ) (ws : List SourceWord) (proof : Option (List ℕ)) → AskForStep [] old new ws proof → ⊥
-no_step_of_none old new ws proof ask = ask.are
+no_step_of_none : (old new : List ℕ) (ws : List SourceWord) (renewal proof : Option (List ℕ)) → AskForStep [] old new ws renewal proof → ⊥
+unfolding before_renewal
+no_step_of_none old new ws renewal proof ask = ask.are
 
-output_of : {S F : Type 0} (connector : Ghosts (ServerOrFile S F)) (words : List (String Global)) (old new : List ℕ) (ws : List SourceWord) (proof : Option (List ℕ)) (status : ℕ) (text : List ℕ) → AskForStep words old new ws proof → ComesTo connector ws status text
+output_of : {S F : Type 0} (connector : Ghosts (ServerOrFile S F)) (words : List (String Global)) (old new : List ℕ) (ws : List SourceWord) (renewal proof : Option (List ℕ)) (status : ℕ) (text : List ℕ) → AskForStep words old new ws renewal proof → ComesTo connector renewal ws status text
     → IsOutput connector words status text
-output_of connector [] old new ws proof status text ask is = absurd (no_step_of_none old new ws proof ask)
-output_of connector (w ∷ words) old new ws proof status text ask is = (old, new, ws, proof, ask, is)
+output_of connector [] old new ws renewal proof status text ask is = absurd (no_step_of_none old new ws renewal proof ask)
+output_of connector (w ∷ words) old new ws renewal proof status text ask is = (old, new, ws, renewal, proof, ask, is)
 
 not_two : (f : Following) → status_of f ≢ 2
 not_two Conflict e = let no : ⊥ = omega (arith, e) in no
@@ -123,24 +132,24 @@ status_among Nobody = inr (inl refl)
 pub output_status : {S F : Type 0} (connector : Ghosts (ServerOrFile S F)) (words : List (String Global)) (status : ℕ) (text : List ℕ) → IsOutput connector words status text
     → (status ≡ 0) ⊎ ((status ≡ 1) ⊎ ((status ≡ 2) ⊎ (status ≡ 3)))
 output_status connector [] status text is = inl is.0
-output_status connector (w ∷ words) status text (old, new, ws, proof, ask, is) =
+output_status connector (w ∷ words) status text (old, new, ws, renewal, proof, ask, is) =
     subst (λ (n : ℕ). (n ≡ 0) ⊎ ((n ≡ 1) ⊎ ((n ≡ 2) ⊎ (n ≡ 3)))) (sym is.ends) (status_among is.following)
 
-pub printed_over : {S F : Type 0} (connector : Ghosts (ServerOrFile S F)) (words : List (String Global)) (old new : List ℕ) (ws : List SourceWord) (proof : Option (List ℕ)) (r : Result ℕ (ProgramFault FollowFault)) (before after : Option (List ℕ))
-    → AskForStep words old new ws proof → IfOk r (λ s. (t : List ℕ) × ComesTo connector ws s t × Wrote before after t)
+pub printed_over : {S F : Type 0} (connector : Ghosts (ServerOrFile S F)) (words : List (String Global)) (old new : List ℕ) (ws : List SourceWord) (renewal proof : Option (List ℕ)) (r : Result ℕ (ProgramFault FollowFault)) (before after : Option (List ℕ))
+    → AskForStep words old new ws renewal proof → IfOk r (λ s. (t : List ℕ) × ComesTo connector renewal ws s t × Wrote before after t)
     → IfOk r (λ s. (s ≢ 2) × ((t : List ℕ) × IsOutput connector words s t × Wrote before after t))
-printed_over connector words old new ws proof (Err f) before after ask is = tt
-printed_over connector words old new ws proof (Ok s) before after ask is = (
+printed_over connector words old new ws renewal proof (Err f) before after ask is = tt
+printed_over connector words old new ws renewal proof (Ok s) before after ask is = (
   subst (λ (n : ℕ). n ≢ 2) (sym is.1.ends) (not_two is.1.following),
-  (is.0, output_of connector words old new ws proof s is.0 ask is.1, is.2),
+  (is.0, output_of connector words old new ws renewal proof s is.0 ask is.1, is.2),
 )
 
-pub given_up_over : {S F W : Type 0} (connector : Ghosts (ServerOrFile S F)) (words : List (String Global)) (old new : List ℕ) (ws : List SourceWord) (proof : Option (List ℕ)) (r : Result ℕ (ProgramFault FollowFault)) (text : W → Option (List ℕ)) (failed : W → ℕ) (out out' : W)
-    → AskForStep words old new ws proof → IfErr r (λ f. GivesUpStep connector old new proof ws f text failed out out') → IfErr r (λ f. GivesUp connector words f text failed out out')
-given_up_over connector words old new ws proof (Ok s) text failed out out' ask up = tt
-given_up_over connector words old new ws proof (Err f) text failed out out' ask up =
-    given_up_as (IsStepFault connector old new proof ws) (IsCause connector words) (ComesTo connector ws) (IsOutput connector words) f text failed out out'
-    (λ other c. inr (old, new, ws, proof, ask, c)) (λ status whole is. output_of connector words old new ws proof status whole ask is) up
+pub given_up_over : {S F W : Type 0} (connector : Ghosts (ServerOrFile S F)) (words : List (String Global)) (old new : List ℕ) (ws : List SourceWord) (renewal proof : Option (List ℕ)) (r : Result ℕ (ProgramFault FollowFault)) (text : W → Option (List ℕ)) (failed : W → ℕ) (out out' : W)
+    → AskForStep words old new ws renewal proof → IfErr r (λ f. GivesUpStep connector old new renewal proof ws f text failed out out') → IfErr r (λ f. GivesUp connector words f text failed out out')
+given_up_over connector words old new ws renewal proof (Ok s) text failed out out' ask up = tt
+given_up_over connector words old new ws renewal proof (Err f) text failed out out' ask up =
+    given_up_as (IsStepFault connector old new renewal proof ws) (IsCause connector words) (ComesTo connector renewal ws) (IsOutput connector words) f text failed out out'
+    (λ other c. inr (old, new, ws, renewal, proof, ask, c)) (λ status whole is. output_of connector words old new ws renewal proof status whole ask is) up
 
 -- how the program is called could not be printed
 pub usage_cut : {S F W : Type 0} (connector : Ghosts (ServerOrFile S F)) (words : List (String Global)) (fault : ProgramFault FollowFault) (text : W → Option (List ℕ)) (failed : W → ℕ) (out out' : W) → words ≡ [] → fault ≡ Output
@@ -153,12 +162,12 @@ usage_cut connector words fault text failed out out' none is part counted = reco
 
 -- ---- words that ask for nothing
 
-no_usage : (words : List (String Global)) (old new : List ℕ) (ws : List SourceWord) (proof : Option (List ℕ)) → IsUsage words → AskForStep words old new ws proof → ⊥
-no_usage words old new ws proof usage ask = usage.no_step ask.named
+no_usage : (words : List (String Global)) (old new : List ℕ) (ws : List SourceWord) (renewal proof : Option (List ℕ)) → IsUsage words → AskForStep words old new ws renewal proof → ⊥
+no_usage words old new ws renewal proof usage ask = usage.no_step ask.named
 
 pub output_is_no_usage : {S F : Type 0} (connector : Ghosts (ServerOrFile S F)) (words : List (String Global)) (status : ℕ) (text : List ℕ) → IsUsage words → IsOutput connector words status text → ⊥
 output_is_no_usage connector [] status text usage is = usage.some refl
-output_is_no_usage connector (w ∷ words) status text usage (old, new, ws, proof, ask, is) = no_usage (w ∷ words) old new ws proof usage ask
+output_is_no_usage connector (w ∷ words) status text usage (old, new, ws, renewal, proof, ask, is) = no_usage (w ∷ words) old new ws renewal proof usage ask
 
 bad_is_no_usage : (words : List (String Global)) (i : ℕ) → IsUsage words → HaveBadSource words i → ⊥
 bad_is_no_usage words i usage bad = usage.no_step bad.0
@@ -172,6 +181,7 @@ usage_of_words words Output usage is = absurd is
 usage_of_words words (Own (Sources (Word i))) usage is = absurd (bad_is_no_usage words i usage is)
 usage_of_words words (Own (Sources Collision)) usage is = absurd is
 usage_of_words words (Own (OldKey key)) usage is = absurd is
+usage_of_words words (Own (Renewal refusal)) usage is = absurd is
 
 fault_cases : (fault : ProgramFault FollowFault) → (fault ≡ Output) ⊎ (fault ≢ Output)
 fault_cases Usage = inr (λ e. let no : ⊥ = cc in no)
@@ -188,7 +198,7 @@ is_usage connector words fault text failed out out' usage gives = elim (fault_ca
   | inl e ↦ let cut = gives.cut_short e in absurd (output_is_no_usage connector words cut.0 cut.1 usage cut.2)
   | inr other ↦ elim (gives.cause other).0 [
     | inl is ↦ usage_of_words words fault usage is
-    | inr is ↦ absurd (no_usage words is.0 is.1 is.2 is.3 usage is.4)
+    | inr is ↦ absurd (no_usage words is.0 is.1 is.2 is.3 is.4 usage is.5)
   ]
 ]
 
@@ -196,8 +206,8 @@ is_usage connector words fault text failed out out' usage gives = elim (fault_ca
 no_output : {S F : Type 0} (connector : Ghosts (ServerOrFile S F)) (committee : List ℕ) (ws : List SourceWord) (fault : ProgramFault FollowFault) → IsSourcesFault connector committee ws fault → fault ≢ Output
 no_output connector committee ws fault c e = subst (λ (f : ProgramFault FollowFault). IsSourcesFault connector committee ws f) e c
 
-pub evidence_given_up : {S F W : Type 0} (connector : Ghosts (ServerOrFile S F)) (committee : List ℕ) (proof : Option (List ℕ)) (ws ws' : List SourceWord) (fault : ProgramFault FollowFault) (text : W → Option (List ℕ)) (failed : W → ℕ) (out : W) → IsCommittee committee → ws' ≡ ws
-    → IsSourcesFault connector committee ws' fault → GivesUpOver (IsFollowFault connector proof ws) (ComesTo connector ws) fault text failed out out
-evidence_given_up connector committee proof ws ws' fault text failed out is same c =
-    silent (IsFollowFault connector proof ws) (ComesTo connector ws) fault text failed out (no_output connector committee ws' fault c)
+pub evidence_given_up : {S F W : Type 0} (connector : Ghosts (ServerOrFile S F)) (committee : List ℕ) (renewal proof : Option (List ℕ)) (ws ws' : List SourceWord) (fault : ProgramFault FollowFault) (text : W → Option (List ℕ)) (failed : W → ℕ) (out : W) → IsCommittee committee → ws' ≡ ws
+    → IsSourcesFault connector committee ws' fault → GivesUpOver (IsFollowFault connector proof ws) (ComesTo connector renewal ws) fault text failed out out
+evidence_given_up connector committee renewal proof ws ws' fault text failed out is same c =
+    silent (IsFollowFault connector proof ws) (ComesTo connector renewal ws) fault text failed out (no_output connector committee ws' fault c)
     (sources_of_following connector committee proof ws fault is (subst (λ (xs : List SourceWord). IsSourcesFault connector committee xs fault) same c))

@@ -1,5 +1,5 @@
 -- Why the program gives up, and what it leaves then.
-use Rattle.std.specs.Prelude.{◌≡◌, ◌≢◌, ◌⊎◌, ℕ, List, Option, Some, Err, String, ⊤}
+use Rattle.std.specs.Prelude.{◌≡◌, ◌≢◌, ◌⊎◌, ℕ, List, [], Option, Some, Err, IsSome, String, ⊤}
 use Rattle.std.specs.declared.alloc.Global.{Global}
 use Rattle.streams.specs.Streams.{WrotePart}
 use Rattle.blocks.specs.CommitteeReading.{committee_in}
@@ -14,12 +14,14 @@ use Rattle.program_parts.specs.declared.program_fault.ProgramFault.{ProgramFault
 use Rattle.program_parts.specs.declared.program_fault.ProgramFault.TheVariants.{Memory, File, Committee, Output, Own}
 use Rattle.program_parts.specs.declared.source_fault.SourceFault.TheVariants.{Collision}
 use Rattle.program_parts.specs.declared.words.SourceWord.{SourceWord}
-use Rattle.handover.specs.OldKeys.{IsFirstOldKey}
+use Rattle.renewals.specs.RenewalReading.{renewal_in}
+use Rattle.successor_files.specs.Successors.{IsSuccessorRefusal}
+use Rattle.successor_files.specs.declared.refusal.SuccessorRefusal.TheVariants.{OldKey as Taken}
 use Rattle.follow_command.specs.Outputs.{ComesTo, IsOutput}
 use Rattle.follow_command.specs.Sources.{AreOpenedAs}
 use Rattle.follow_command.specs.Words.{AskForStep, IsWordsFault}
 use Rattle.follow_command.specs.declared.fault.FollowFault.{FollowFault}
-use Rattle.follow_command.specs.declared.fault.FollowFault.TheVariants.{Sources, OldKey}
+use Rattle.follow_command.specs.declared.fault.FollowFault.TheVariants.{Sources, OldKey, Renewal}
 
 -- two different headers in logs that sources give which are as these words say have one id
 pub record ShowCollision {S F : Type 0} (connector : Ghosts (ServerOrFile S F)) (committee : List ℕ) (words : List SourceWord) : Type 0 where
@@ -34,6 +36,13 @@ IsSourcesFault connector committee words Memory = ⊤
 IsSourcesFault connector committee words (Own (Sources Collision)) = ShowCollision connector committee words
 IsSourcesFault connector committee words fault = ⊥
 
+-- memory was refused, or no renewal could be read at its path
+abbrev pub IsRenewalFault : Option (List ℕ) → ProgramFault FollowFault → Type 0
+IsRenewalFault renewal Memory = ⊤
+IsRenewalFault renewal (File path) = renewal ≡ Some path.now
+IsRenewalFault renewal (Own (Renewal refusal)) = IsSome renewal × ((bytes : List ℕ) × (renewal_in bytes ≡ Err refusal))
+IsRenewalFault renewal fault = ⊥
+
 -- memory was refused, or the proof could not be put at its path
 abbrev pub IsProofFault : Option (List ℕ) → ProgramFault FollowFault → Type 0
 IsProofFault proof Memory = ⊤
@@ -45,24 +54,33 @@ abbrev pub IsFollowFault : {S F : Type 0} → Ghosts (ServerOrFile S F) → Opti
 IsFollowFault connector proof words (File path) = proof ≡ Some path.now
 IsFollowFault connector proof words fault = (committee : List ℕ) × IsCommittee committee × IsSourcesFault connector committee words fault
 
--- the key of this number of some new committee is the first that is one of some old committee
-abbrev pub HaveOldKey : ℕ → Type 0
-HaveOldKey key = (old : List ℕ) × (new : List ℕ) × IsCommittee old × IsCommittee new × IsFirstOldKey old new key
+-- why the committee of this file may not come after the old one: it is none, or the key of this number is the first that is one of the
+-- old one in a slot that may not keep it
+abbrev pub IsNextFault : (old file : List ℕ) → ProgramFault FollowFault → Type 0
+IsNextFault old file (Committee r) = committee_in file ≡ Err r
+IsNextFault old file (Own (OldKey key)) = IsSuccessorRefusal [] old file (Taken key)
+IsNextFault old file fault = ⊥
 
--- why there is no step from the committee of the one file to that of the other, by these sources, with its proof at this path
-abbrev pub IsStepFault : {S F : Type 0} → Ghosts (ServerOrFile S F) → (old new : List ℕ) → Option (List ℕ) → List SourceWord → ProgramFault FollowFault → Type 0
-IsStepFault connector old new proof words Memory = ⊤
-IsStepFault connector old new proof words (File path) = (path.now ≡ old) ⊎ ((path.now ≡ new) ⊎ (proof ≡ Some path.now))
-IsStepFault connector old new proof words (Committee r) = (bytes : List ℕ) × (committee_in bytes ≡ Err r)
-IsStepFault connector old new proof words (Own (OldKey key)) = HaveOldKey key
-IsStepFault connector old new proof words fault = IsFollowFault connector proof words fault
+-- .. after some old committee, of some file
+abbrev pub HaveOldKey : ℕ → Type 0
+HaveOldKey key = (old : List ℕ) × (file : List ℕ) × IsCommittee old × IsSuccessorRefusal [] old file (Taken key)
+
+-- why there is no step from the committee of the one file to that of the other, by these sources, with the renewal at this path, and its
+-- proof at this one
+abbrev pub IsStepFault : {S F : Type 0} → Ghosts (ServerOrFile S F) → (old new : List ℕ) → (renewal proof : Option (List ℕ)) → List SourceWord → ProgramFault FollowFault → Type 0
+IsStepFault connector old new renewal proof words Memory = ⊤
+IsStepFault connector old new renewal proof words (File path) = (path.now ≡ old) ⊎ ((path.now ≡ new) ⊎ ((renewal ≡ Some path.now) ⊎ (proof ≡ Some path.now)))
+IsStepFault connector old new renewal proof words (Committee r) = (bytes : List ℕ) × (committee_in bytes ≡ Err r)
+IsStepFault connector old new renewal proof words (Own (OldKey key)) = HaveOldKey key
+IsStepFault connector old new renewal proof words (Own (Renewal refusal)) = IsRenewalFault renewal (Own (Renewal refusal))
+IsStepFault connector old new renewal proof words fault = IsFollowFault connector proof words fault
 
 -- ---- over words
 
 -- why there is no step of those that they ask for
 abbrev pub IsFaultOfStep : {S F : Type 0} → Ghosts (ServerOrFile S F) → List (String Global) → ProgramFault FollowFault → Type 0
 IsFaultOfStep connector words fault =
-    (old : List ℕ) × (new : List ℕ) × (sources : List SourceWord) × (proof : Option (List ℕ)) × AskForStep words old new sources proof × IsStepFault connector old new proof sources fault
+    (old : List ℕ) × (new : List ℕ) × (sources : List SourceWord) × (renewal : Option (List ℕ)) × (proof : Option (List ℕ)) × AskForStep words old new sources renewal proof × IsStepFault connector old new renewal proof sources fault
 
 -- why the program gives up over them, but where a write failed
 abbrev pub IsCause : {S F : Type 0} → Ghosts (ServerOrFile S F) → List (String Global) → ProgramFault FollowFault → Type 0
@@ -76,8 +94,8 @@ pub record GivesUpOver {W : Type 0} (Cause : ProgramFault FollowFault → Type 0
   pub counted : CountsOutput fault (failed out) (failed out')
 
 -- .. in one step
-abbrev pub GivesUpStep : {S F W : Type 0} → Ghosts (ServerOrFile S F) → (old new : List ℕ) → Option (List ℕ) → List SourceWord → ProgramFault FollowFault → (W → Option (List ℕ)) → (W → ℕ) → W → W → Type 0
-GivesUpStep connector old new proof words = GivesUpOver (IsStepFault connector old new proof words) (ComesTo connector words)
+abbrev pub GivesUpStep : {S F W : Type 0} → Ghosts (ServerOrFile S F) → (old new : List ℕ) → (renewal proof : Option (List ℕ)) → List SourceWord → ProgramFault FollowFault → (W → Option (List ℕ)) → (W → ℕ) → W → W → Type 0
+GivesUpStep connector old new renewal proof words = GivesUpOver (IsStepFault connector old new renewal proof words) (ComesTo connector renewal words)
 
 -- .. over words
 abbrev pub GivesUp : {S F W : Type 0} → Ghosts (ServerOrFile S F) → List (String Global) → ProgramFault FollowFault → (W → Option (List ℕ)) → (W → ℕ) → W → W → Type 0

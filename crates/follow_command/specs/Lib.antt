@@ -4,5 +4,6 @@ pub mod Faults
 pub mod Followings
 pub mod Outputs
 pub mod ProofFiles
+pub mod RenewalLines
 pub mod Sources
 pub mod Words

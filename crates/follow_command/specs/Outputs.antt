@@ -12,19 +12,20 @@ use Rattle.culprit_search.specs.Reports.{AreMoreThanAThird, IsAudit, Report}
 use Rattle.culprit_search.specs.ReportText.{report_text}
 use Rattle.program_parts.specs.declared.words.SourceWord.{SourceWord}
 use Rattle.follow_command.specs.Followings.{IsFollowing, following_lines, status_of}
-use Rattle.handover.specs.OldKeys.{HaveNoCommonKey}
+use Rattle.successor_files.specs.Successors.{IsSuccessorFile}
+use Rattle.renewals.specs.Renewals.{Renewal}
+use Rattle.follow_command.specs.RenewalLines.{AreLinesOn, IsReadAt}
 use Rattle.follow_command.specs.Sources.{IsShown}
 use Rattle.follow_command.specs.Words.{AskForStep}
 use Rattle.follow_command.specs.declared.following.Following.{Following}
 
 abbrev pub usage_line : List ℕ
-usage_line = codes "hs_follow OLD NEW SOURCE.. [--proof OUT]\n"
+usage_line = codes "hs_follow OLD NEW SOURCE.. [--renewal FILE] [--proof OUT]\n"
 
--- two committees that have no key in common
-pub record AreApart (old new : List ℕ) : Type 0 where
+-- two committees, of which the second may come after the first: no key of it is one of the first, but in slots that it may keep
+pub record MayComeNext (old new : List ℕ) : Type 0 where
   pub old_is : IsCommittee old
-  pub new_is : IsCommittee new
-  pub apart : HaveNoCommonKey old new
+  pub successor : IsSuccessorFile [] old new
 
 -- the report of the audit of evidence, whose verdicts are proofs, and which accuses more than a third where commits conflict
 pub record IsReportOf (e : Evidence) (r : Report) : Type 0 where
@@ -32,27 +33,31 @@ pub record IsReportOf (e : Evidence) (r : Report) : Type 0 where
   pub accepted : All (IsProof e.committee) r.verdicts
   pub more_than_a_third : IsSome r.conflict → AreMoreThanAThird e.committee r
 
--- the lines of a report, and the lines that say what follows
-abbrev pub step_text : List SourceReport → Report → Following → List ℕ
-step_text sources r f = report_text sources r ++ following_lines f r.commits
+-- the lines of a report, the lines that say what follows, and those on a renewal
+abbrev pub step_text : List SourceReport → Report → Following → List ℕ → List ℕ
+step_text sources r f renewal = report_text sources r ++ (following_lines f r.commits ++ renewal)
 
--- the status and the text of a step: the report on what these sources show under the old committee, and what that says of
--- the new one, some two committees
-pub record ComesTo {S F : Type 0} (connector : Ghosts (ServerOrFile S F)) (words : List SourceWord) (status : ℕ) (text : List ℕ) : Type 0 where
+-- the status and the text of a step: the report on what these sources show under the old committee, what that says of the new one, some
+-- two committees, and, if there is a path of one, what some renewal says of that
+pub record ComesTo {S F : Type 0} (connector : Ghosts (ServerOrFile S F)) (path : Option (List ℕ)) (words : List SourceWord) (status : ℕ) (text : List ℕ) : Type 0 where
   pub old : List ℕ
   pub new : List ℕ
-  pub apart : AreApart old new
+  pub next : MayComeNext old new
   pub evidence : Evidence
   pub shown : IsShown connector old words evidence
   pub report : Report
   pub is_report : IsReportOf evidence report
   pub following : Following
   pub is_following : IsFollowing evidence new following
-  pub told : text ≡ step_text evidence.sources report following
+  pub renewal : Option Renewal
+  pub read : IsReadAt path renewal
+  pub judged : List ℕ
+  pub are_judged : AreLinesOn old new renewal judged
+  pub told : text ≡ step_text evidence.sources report following judged
   pub ends : status ≡ status_of following
 
 -- with no words how the program is called, else the step that they ask for
 abbrev pub IsOutput : {S F : Type 0} → Ghosts (ServerOrFile S F) → List (String Global) → ℕ → List ℕ → Type 0
 IsOutput connector [] status text = (status ≡ 0) × (text ≡ usage_line)
 IsOutput connector (word ∷ words) status text =
-    (old : List ℕ) × (new : List ℕ) × (sources : List SourceWord) × (proof : Option (List ℕ)) × AskForStep (word ∷ words) old new sources proof × ComesTo connector sources status text
+    (old : List ℕ) × (new : List ℕ) × (sources : List SourceWord) × (renewal : Option (List ℕ)) × (proof : Option (List ℕ)) × AskForStep (word ∷ words) old new sources renewal proof × ComesTo connector renewal sources status text

@@ -28,7 +28,7 @@ pub record IsFirstBad (words : List (String Global)) (i : ℕ) : Type 0 where
   pub before : List SourceWord
   pub are_sources : AreSources (take i words) before
 
--- ---- the proof
+-- ---- paths behind names
 
 abbrev pub path_in : Option (Bor (List ℕ)) → Option (List ℕ)
 path_in path = option_map (λ p. p.now) path
@@ -36,17 +36,30 @@ path_in path = option_map (λ p. p.now) path
 abbrev pub texts : List (String Global) → List (List ℕ)
 texts words = map (λ w. string_bytes w) words
 
--- "--proof" stands before the last word
-abbrev pub asks_for_proof : List (String Global) → Bool
-asks_for_proof words = leb 2 (length words) && bytes_eq (slice_index_or (texts words) (length words - 2) []) (codes "--proof")
+-- this name stands before the last word
+abbrev pub ends_with : List ℕ → List (String Global) → Bool
+ends_with name words = leb 2 (length words) && bytes_eq (slice_index_or (texts words) (length words - 2) []) name
 
 -- the last word, behind it
-abbrev pub proof_of : List (String Global) → Option (List ℕ)
-proof_of words = cond (asks_for_proof words) (Some (slice_index_or (texts words) (length words - 1) [])) None
+abbrev pub path_behind : List ℕ → List (String Global) → Option (List ℕ)
+path_behind name words = cond (ends_with name words) (Some (slice_index_or (texts words) (length words - 1) [])) None
 
 -- the words before it
+abbrev pub words_before : List ℕ → List (String Global) → List (String Global)
+words_before name words = cond (ends_with name words) (take (length words - 2) words) words
+
+unfoldable pub proof_of : List (String Global) → Option (List ℕ)
+proof_of words = path_behind (codes "--proof") words
+
 abbrev pub before_proof : List (String Global) → List (String Global)
-before_proof words = cond (asks_for_proof words) (take (length words - 2) words) words
+before_proof words = words_before (codes "--proof") words
+
+-- before the name of the proof's path
+unfoldable pub renewal_of : List (String Global) → Option (List ℕ)
+renewal_of words = path_behind (codes "--renewal") (before_proof words)
+
+unfoldable pub before_renewal : List (String Global) → List (String Global)
+before_renewal words = words_before (codes "--renewal") (before_proof words)
 
 -- ---- all words
 
@@ -60,9 +73,9 @@ abbrev pub NameTwo : List (String Global) → Type 0
 NameTwo (old ∷ new ∷ sources) = IsPath (string_bytes old) × IsPath (string_bytes new) × (sources ≢ [])
 NameTwo words = ⊥
 
--- .. and a path for the proof, if one is asked for
+-- .. and a path of the renewal, and one for the proof, if they are asked for
 abbrev pub NameStep : List (String Global) → Type 0
-NameStep words = NameTwo (before_proof words) × IfSome (proof_of words) IsPath
+NameStep words = NameTwo (before_renewal words) × IfSome (renewal_of words) IsPath × IfSome (proof_of words) IsPath
 
 -- there are words, and they do not
 pub record IsUsage (words : List (String Global)) : Type 0 where
@@ -74,16 +87,18 @@ abbrev pub AreTwoAndSources : List (String Global) → (old new : List ℕ) → 
 AreTwoAndSources (o ∷ n ∷ words) old new sources = (string_bytes o ≡ old) × (string_bytes n ≡ new) × AreSources words sources
 AreTwoAndSources words old new sources = ⊥
 
--- for a step from the committee of the first file to that of the second, by these sources, with its proof at this path
-pub record AskForStep (words : List (String Global)) (old new : List ℕ) (sources : List SourceWord) (proof : Option (List ℕ)) : Type 0 where
+-- for a step from the committee of the first file to that of the second, by these sources, with the renewal at this path, and its proof at
+-- this one
+pub record AskForStep (words : List (String Global)) (old new : List ℕ) (sources : List SourceWord) (renewal proof : Option (List ℕ)) : Type 0 where
   pub named : NameStep words
-  pub are : AreTwoAndSources (before_proof words) old new sources
+  pub are : AreTwoAndSources (before_renewal words) old new sources
+  pub renewal_is : renewal ≡ renewal_of words
   pub proof_is : proof ≡ proof_of words
 
 -- with no words for how the program is called
 abbrev pub AskFor : List (String Global) → Words → Type 0
 AskFor words Usage = words ≡ []
-AskFor words (Step step) = AskForStep words step.old.now step.new.now step.sources.items (path_in step.proof)
+AskFor words (Step step) = AskForStep words step.old.now step.new.now step.sources.items (path_in step.renewal) (path_in step.proof)
 
 -- of the words behind two paths this is the first that is no source
 abbrev pub IsBadBehind : List (String Global) → ℕ → Type 0
@@ -91,7 +106,7 @@ IsBadBehind (o ∷ n ∷ words) i = IsFirstBad words i
 IsBadBehind words i = ⊥
 
 abbrev pub HaveBadSource : List (String Global) → ℕ → Type 0
-HaveBadSource words i = NameStep words × IsBadBehind (before_proof words) i
+HaveBadSource words i = NameStep words × IsBadBehind (before_renewal words) i
 
 -- why they ask for nothing
 abbrev pub IsWordsFault : List (String Global) → ProgramFault FollowFault → Type 0

@@ -1,11 +1,12 @@
 //! Why the program gives up, and the line that it prints then.
 
 ghost use Rattle.std.specs.Prelude.{◌≡◌};
-ghost use Rattle.follow_command.specs.FaultLines.{old_key_line, own_line};
+ghost use Rattle.follow_command.specs.FaultLines.{old_key_line, own_line, renewal_fault_line};
 
 use itoa::Buffer;
 use printed_lines::Line;
 use program_parts::{FaultLine, ProgramFault, SourceFault};
+use renewals::RenewalFormRefusal;
 use streams::{Sink, write_all};
 
 /// Why the program gives up. Each has exit status 2.
@@ -16,8 +17,12 @@ pub type Fault<'a> = ProgramFault<'a, FollowFault>;
 pub enum FollowFault {
     /// The sources of the old committee's logs give no evidence.
     Sources(SourceFault),
-    /// 8: the key of this number of the new committee is one of the old committee too, and it is the least such number.
+    /// 8: the key of this number of the new committee is one of the old committee too, its slot may not keep it, and it is the least such
+    /// number. A slot, that is a replica by its number, may keep its keys if those of the old committee's slots that are not kept weigh
+    /// a quorum of it; it is kept if both committees have it with the same keys in the same order.
     OldKey(u16),
+    /// The bytes of the renewal are none.
+    Renewal(RenewalFormRefusal),
 }
 
 impl FaultLine for FollowFault {
@@ -27,6 +32,7 @@ impl FaultLine for FollowFault {
         match self {
             FollowFault::Sources(fault) => fault.write_line(out),
             FollowFault::OldKey(key) => write_all(out, old_key_fault(*key).as_bytes()),
+            FollowFault::Renewal(refusal) => write_all(out, renewal_fault(*refusal).as_bytes()),
         }
     }
 }
@@ -37,6 +43,18 @@ fn old_key_fault(key: u16) -> Line
     let mut line = Line::new();
     line.push(b"fault committee 8 OldKey ");
     line.push(Buffer::new().format(key).as_bytes());
+    line.push(b"\n");
+    line
+}
+
+fn renewal_fault(refusal: RenewalFormRefusal) -> Line
+    ensures { result ≡ renewal_fault_line refusal }
+{
+    let mut line = Line::new();
+    line.push(b"fault renewal ");
+    line.push(Buffer::new().format(refusal.number()).as_bytes());
+    line.push(b" ");
+    line.push(refusal.name().as_bytes());
     line.push(b"\n");
     line
 }

@@ -10,6 +10,7 @@ mod place;
 mod program;
 mod proving;
 mod reading;
+mod renewing;
 mod sources;
 mod words;
 

@@ -58,9 +58,9 @@ fn put_committed(
     put_handover(text, block, commits_after(block, commits))
 }
 
-/// The lines: of the handover that is proved, with how many of these commits are above it, and of who follows. Nothing where commits
-/// conflict.
-pub(crate) fn following_text(
+// The lines: of the handover that is proved, with how many of these commits are above it, and of who follows. Nothing where commits
+// conflict.
+fn following_text(
     alloc: Global,
     following: &Following,
     commits: &[Commit],
@@ -81,5 +81,20 @@ pub(crate) fn following_text(
         }
         Following::Nobody => append(&mut text, b"follows none\n")?,
     }
+    Ok(text)
+}
+
+/// The same lines, and behind them those on a renewal, which are given.
+pub(crate) fn lines_text(
+    alloc: Global,
+    following: &Following,
+    commits: &[Commit],
+    renewal: &[u8],
+) -> Result<Vec<u8>, AllocError>
+    ensures { IfOk result (λ text.
+        text.items ≡ following_lines following.now commits.now ++ renewal.now) }
+{
+    let mut text = following_text(alloc, following, commits)?;
+    append(&mut text, renewal)?;
     Ok(text)
 }

@@ -8,26 +8,27 @@ ghost use Rattle.chain_dialing.specs.HeardLines.{TellsHeard};
 ghost use Rattle.program_parts.specs.Writes.{CountsWrites};
 ghost use Rattle.program_parts.specs.declared.program_fault.ProgramFault.{ProgramFault as FaultValue};
 ghost use Rattle.follow_command.specs.FaultLines.{follow_fault_line};
-ghost use Rattle.follow_command.specs.Faults.{GivesUp, GivesUpOver, GivesUpStep, IsFollowFault};
-ghost use Rattle.handover.specs.OldKeys.{IsFirstOldKey};
-ghost use Rattle.follow_command.specs.Outputs.{AreApart, ComesTo, IsOutput, step_text};
+ghost use Rattle.follow_command.specs.Faults.{GivesUp, GivesUpOver, GivesUpStep, IsFollowFault, IsNextFault};
+ghost use Rattle.follow_command.specs.Outputs.{ComesTo, IsOutput, MayComeNext, step_text};
+ghost use Rattle.follow_command.specs.RenewalLines.{IsReadAt};
 ghost use Rattle.follow_command.specs.Words.{IsUsage, path_in};
 ghost use Rattle.follow_command.specs.declared.fault.FollowFault.{FollowFault as OwnFaultValue};
 
 use crate::fault::{Fault, FollowFault};
 use crate::following::{Following, follow};
 use crate::host::Host;
-use crate::lines::following_text;
+use crate::lines::lines_text;
 use crate::proving::{see_new, write_proof};
 use crate::reading::read_evidence;
+use crate::renewing::{read_renewal, renewal_text};
 use crate::words::{Step, Words, read_words};
 use blocks::CommitteeView;
 use chain_dialing::ChainSource;
 use culprit_search::{Report, ReportError, audit, write_report};
 use evidence::Evidence;
-use handover::first_old_key;
 use log_transfer::Connector;
 use program_parts::{ProgramFault, exit_status, parse_committee, read_committee, write_out};
+use renewals::Renewal;
 use std::alloc::Global;
 use std::fs::{File, Files};
 use std::net::{Net, TcpListener, TcpStream};
@@ -35,6 +36,7 @@ use std::sync::Wait;
 use std::thread::Threads;
 use std::time::Clock;
 use streams::Sink;
+use successor_files::{SuccessorRefusal, successor_payload};
 
 /// The ledger was handed over to the new committee, or how the program is called was printed.
 pub const FOLLOWS: u8 = 0;
@@ -46,10 +48,11 @@ pub const FOLLOWS_NOT: u8 = 1;
 pub const CONFLICT: u8 = 3;
 
 /// How the program is called.
-const USAGE: &[u8] = b"hs_follow OLD NEW SOURCE.. [--proof OUT]\n";
+const USAGE: &[u8] = b"hs_follow OLD NEW SOURCE.. [--renewal FILE] [--proof OUT]\n";
 
 /// Audits the logs of the old committee, and says whether it handed the ledger over to the new one, as the words ask, or with
-/// no words prints how the program is called. Where a proof is asked for and a handover is proved, its files are written.
+/// no words prints how the program is called. Where a proof is asked for and a handover is proved, its files are written. Where a renewal
+/// is named, what it says of the new committee is printed too, and changes nothing else.
 /// Answers the exit status: `FOLLOWS`, `FOLLOWS_NOT`, `CONFLICT`, else 2. The lines go to `out`, and with status 2 a fault's
 /// line to `faults`, which is else left alone. Nothing is printed before all else is done; but `notes` is told before what was heard
 /// of the servers.
@@ -131,12 +134,13 @@ fn take_step<
 where
     F::Dir: Send,
     ensures printed { IfOk result (λ status. (text : List ℕ)
-        × ComesTo ⟦<ChainSource<'a, T, F> as Connector>⟧ step.now.sources.items status text
+        × ComesTo ⟦<ChainSource<'a, T, F> as Connector>⟧ (path_in step.now.renewal)
+        step.now.sources.items status text
         × Wrote (W.text out.old) (W.text out.new) text) }
     ensures no_failure { IfOk result (λ status. W.failed out.new ≡ W.failed out.old) }
     ensures given_up { IfErr result (λ fault.
         GivesUpStep ⟦<ChainSource<'a, T, F> as Connector>⟧ step.now.old.now step.now.new.now
-        (path_in step.now.proof) step.now.sources.items fault
+        (path_in step.now.renewal) (path_in step.now.proof) step.now.sources.items fault
         W.text W.failed out.old out.new) }
     ensures noted { (notes.new ≡ notes.old) ⊎ TellsHeard (length step.now.sources.items)
         (N.text notes.old) (N.text notes.new) }
@@ -144,31 +148,36 @@ where
     let old_bytes = read_committee(host.files, host.alloc, step.old)?;
     let new_bytes = read_committee(host.files, host.alloc, step.new)?;
     let old = parse_committee(&old_bytes)?;
-    let new = parse_committee(&new_bytes)?;
-    see_keys(&old, &new)?;
+    let new = next_committee(&old, &new_bytes)?;
+    let renewal = read_renewal(host.files, host.alloc, step.renewal)?;
     see_new(host.files, step.proof)?;
-    follow_sources(host, &old, &new, step, out, notes)
+    follow_sources(host, &old, &new, step, &renewal, out, notes)
 }
 
-// Whether the new committee has no key of the old one. Such a key would sign twice under one one-time key, from a new folder.
-fn see_keys<'a>(old: &CommitteeView, new: &CommitteeView) -> Result<(), Fault<'a>>
-    ensures ok { OnOk result (AreApart old.now new.now) }
-    ensures refused { IfErr result (λ fault. (key : ℕ)
-        × (fault ≡ ProgramFault.Own (FollowFault.OldKey key))
-        × IsFirstOldKey old.now new.now key) }
-    // What the types keep.
-    ensures committees { IsCommittee old.now × IsCommittee new.now }
+// The committee of this file, if it may come after the old one. A key of the old one, but in a slot that may keep it, would sign twice
+// under one one-time key, from a new folder.
+fn next_committee<'a, 'b>(
+    old: &CommitteeView,
+    file: &'b [u8],
+) -> Result<CommitteeView<'b>, Fault<'a>>
+    ensures found { IfOk result (λ new. (new ≡ file.now) × MayComeNext old.now file.now) }
+    ensures refused { IfErr result (IsNextFault old.now file.now) }
+    // What the type keeps.
+    ensures committee { IsCommittee old.now }
 {
-    // For the proof: both are committees.
+    // For the proof: it is a committee.
     let _old = old.bytes();
-    let _new = new.bytes();
-    match first_old_key(old, new) {
-        Some(key) => Err(ProgramFault::Own(FollowFault::OldKey(key))),
-        None => Ok(()),
+    match successor_payload(&[], old, file) {
+        Ok(_payload) => parse_committee(file),
+        Err(SuccessorRefusal::Committee(refusal)) => Err(ProgramFault::Committee(refusal)),
+        Err(SuccessorRefusal::OldKey(key)) => Err(ProgramFault::Own(FollowFault::OldKey(key))),
+        // Of a file that was read this never comes.
+        Err(SuccessorRefusal::NotRead) => Err(ProgramFault::Usage),
     }
 }
 
-// Audits the sources under the old committee, writes the proof if one is asked for, and prints what they say of the new one.
+// Audits the sources under the old committee, writes the proof if one is asked for, and prints what they say of the new one, and what the
+// renewal does, if there is one.
 fn follow_sources<
     'a,
     F: Files<File = File> + Sync,
@@ -180,20 +189,24 @@ fn follow_sources<
     old: &CommitteeView,
     new: &CommitteeView,
     step: &Step<'a>,
+    renewal: &Option<Renewal>,
     out: &mut W,
     notes: &mut N,
 ) -> Result<u8, Fault<'a>>
 where
     F::Dir: Send,
-    requires { AreApart old.now new.now }
+    requires next { MayComeNext old.now new.now }
+    requires read { IsReadAt (path_in step.now.renewal) renewal.now }
     ensures printed { IfOk result (λ status. (text : List ℕ)
-        × ComesTo ⟦<ChainSource<'a, T, F> as Connector>⟧ step.now.sources.items status text
+        × ComesTo ⟦<ChainSource<'a, T, F> as Connector>⟧ (path_in step.now.renewal)
+        step.now.sources.items status text
         × Wrote (W.text out.old) (W.text out.new) text) }
     ensures no_failure { IfOk result (λ status. W.failed out.new ≡ W.failed out.old) }
     ensures given_up { IfErr result (λ fault.
         GivesUpOver (IsFollowFault ⟦<ChainSource<'a, T, F> as Connector>⟧
         (path_in step.now.proof) step.now.sources.items)
-        (ComesTo ⟦<ChainSource<'a, T, F> as Connector>⟧ step.now.sources.items)
+        (ComesTo ⟦<ChainSource<'a, T, F> as Connector>⟧ (path_in step.now.renewal)
+        step.now.sources.items)
         fault W.text W.failed out.old out.new) }
     ensures noted { (notes.new ≡ notes.old) ⊎ TellsHeard (length step.now.sources.items)
         (N.text notes.old) (N.text notes.new) }
@@ -202,27 +215,29 @@ where
     let evidence = read_evidence(host, old, &step.sources, notes)?;
     let report = audit(alloc, &evidence)?;
     let following = follow(alloc, &evidence, &report, new.bytes())?;
+    let judged = renewal_text(alloc, old, new, renewal)?;
     write_proof(files, alloc, &evidence, &following, step.proof)?;
-    print(alloc, &evidence, &report, &following, out)?;
+    print(alloc, &evidence, &report, &following, &judged, out)?;
     Ok(following.status())
 }
 
-// Prints the report, and what follows.
+// Prints the report, what follows, and the lines on a renewal.
 fn print<'a, W: Sink>(
     alloc: Global,
     evidence: &Evidence,
     report: &Report,
     following: &Following,
+    renewal: &[u8],
     out: &mut W,
 ) -> Result<(), Fault<'a>>
     ensures ok { OnOk result (Wrote (W.text out.old) (W.text out.new)
-        (step_text evidence.now.sources report.now following.now)) }
+        (step_text evidence.now.sources report.now following.now renewal.now)) }
     ensures refused { IfErr result (λ fault. ((fault ≡ ProgramFault.Memory) × (out.new ≡ out.old))
         ⊎ ((fault ≡ ProgramFault.Output) × WrotePart (W.text out.old) (W.text out.new)
-        (step_text evidence.now.sources report.now following.now))) }
+        (step_text evidence.now.sources report.now following.now renewal.now))) }
     ensures counted { CountsWrites result (W.failed out.old) (W.failed out.new) }
 {
-    let lines = following_text(alloc, following, report.commits())?;
+    let lines = lines_text(alloc, following, report.commits(), renewal)?;
     match write_report(alloc, evidence, report, out) {
         Ok(()) => write_out(out, &lines),
         Err(ReportError::Memory) => Err(ProgramFault::Memory),

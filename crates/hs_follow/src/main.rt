@@ -1,4 +1,4 @@
-//! One step from a committee to the next: `hs_follow OLD NEW SOURCE.. [--proof OUT]`. docs/hs_follow.md is its manual page.
+//! One step from a committee to the next: `hs_follow OLD NEW SOURCE.. [--renewal FILE] [--proof OUT]`. docs/hs_follow.md is its manual page.
 #![tactic(auto)]
 
 use follow_command::run_follow;

@@ -18,7 +18,7 @@ Status: 0 it was drawn; 2 a fault. See hs_draw(1).\n",
 /// Of `hs_follow`.
 pub const FOLLOW: Help = Help {
     name: "hs_follow",
-    text: "hs_follow OLD NEW SOURCE.. [--proof OUT]\n\
+    text: "hs_follow OLD NEW SOURCE.. [--renewal FILE] [--proof OUT]\n\
 hs_follow --help\n\
 hs_follow --version\n\
 \n\
@@ -26,7 +26,8 @@ Says whether the committee of the file OLD handed its ledger over to that of the
 file NEW. SOURCE is the log of replica R of OLD: R=file:PATH, an export, or\n\
 R=tcp:HOST:PORT, as hs_signer --serve hands it out.\n\
 \n\
-\x20 --proof OUT   writes what proves the handover to the new file OUT\n\
+\x20 --renewal FILE   says what the renewal in FILE says of each slot of NEW\n\
+\x20 --proof OUT      writes what proves the handover to the new file OUT\n\
 \n\
 Status: 0 it names NEW; 1 it names another, or there is none; 3 commits\n\
 conflict; 2 a fault. See hs_follow(1).\n",

@@ -1,7 +1,9 @@
-use Rattle.std.proofs.Common.{List, ℕ, subst}
+use Rattle.std.proofs.Common.{List, ℕ, subst, sym}
 use Rattle.program_parts.proofs.Endings.{handed_on}
 use Rattle.follow_command.specs.Followings.{IsFollowing}
 use Rattle.follow_command.specs.Outputs.{IsReportOf, step_text}
+use Rattle.follow_command.specs.RenewalLines.{AreLinesOn}
+use Rattle.follow_command.specs.Words.{path_in}
 use Rattle.follow_command.proofs.Printing.{print_failed}
 use Rattle.follow_command.proofs.Steps.{comes_to, evidence_given_up}
 use Rattle.follow_command.proofs.program.follow_sources.Goals as goal
@@ -9,7 +11,7 @@ use Rattle.follow_command.proofs.program.follow_sources.Goals as goal
 pub returns-in_err-evidence-clause-given_up : goal.returns-in_err-evidence-clause-given_up
 returns-in_err-evidence-clause-given_up g c =
     handed_on c.from_residual.result _ c.in_err-evidence.field-0.0 c.from_residual.ensures.1
-    (evidence_given_up _ c.args.old.now _ c.args.step.now.sources.items c.deref.result.now c.in_err-evidence.field-0.0 g.W.Sink.text g.W.Sink.failed c.args.out.now c.requires.old_is c.deref.ensures.value c.in_err-evidence.ensures.refused)
+    (evidence_given_up _ c.args.old.now (path_in c.args.step.now.renewal) _ c.args.step.now.sources.items c.deref.result.now c.in_err-evidence.field-0.0 g.W.Sink.text g.W.Sink.failed c.args.out.now c.requires.next.old_is c.deref.ensures.value c.in_err-evidence.ensures.refused)
 
 pub returns-in_err-print-clause-given_up : goal.returns-in_err-print-clause-given_up
 returns-in_err-print-clause-given_up g c =
@@ -17,10 +19,10 @@ returns-in_err-print-clause-given_up g c =
     let r = c.in_ok-report.report in
     let f = c.in_ok-following.following in
     handed_on c.from_residual-in_err-print.result _ c.in_err-print.field-0.0 c.from_residual-in_err-print.ensures.1
-    (print_failed _ _ c.in_err-print.field-0.0 g.W.Sink.text g.W.Sink.failed c.args.out.now c.print.new.out _ _ c.in_err-print.ensures.refused c.in_err-print.ensures.counted (c.args.old.now, c.requires.old_is, tt)
-    (comes_to _ c.args.old.now c.args.new.now c.args.step.now.sources.items c.deref.result.now e r f c.requires c.deref.ensures.value c.in_ok-evidence.ensures.shown
+    (print_failed _ _ c.in_err-print.field-0.0 g.W.Sink.text g.W.Sink.failed c.args.out.now c.print.new.out _ _ c.in_err-print.ensures.refused c.in_err-print.ensures.counted (c.args.old.now, c.requires.next.old_is, tt)
+    (comes_to _ c.args.old.now c.args.new.now (path_in c.args.step.now.renewal) c.args.step.now.sources.items c.deref.result.now e r f c.args.renewal.now c.deref-2.result.now c.requires.next c.deref.ensures.value c.in_ok-evidence.ensures.shown
     (record { audit = c.in_ok-report.ensures.ok; accepted = c.in_ok-report.ensures.accepted; more_than_a_third = c.in_ok-report.ensures.more_than_a_third })
-    (subst (λ (file : List ℕ). IsFollowing e file f) c.bytes.ensures.text c.in_ok-following.ensures)))
+    (subst (λ (file : List ℕ). IsFollowing e file f) c.bytes.ensures.text c.in_ok-following.ensures) c.requires.read (subst (λ (t : List ℕ). AreLinesOn c.args.old.now c.args.new.now c.args.renewal.now t) (sym c.deref-2.ensures.value) c.in_ok-judged.ensures)))
 
 pub returns-clause-printed : goal.returns-clause-printed
 returns-clause-printed g c =
@@ -30,7 +32,7 @@ returns-clause-printed g c =
     let is_report : IsReportOf e r = record { audit = c.in_ok-report.ensures.ok; accepted = c.in_ok-report.ensures.accepted; more_than_a_third = c.in_ok-report.ensures.more_than_a_third } in
     let is_following : IsFollowing e c.args.new.now f = subst (λ (file : List ℕ). IsFollowing e file f) c.bytes.ensures.text c.in_ok-following.ensures in
     rw c.status.ensures (
-      step_text e.sources r f,
-      comes_to _ c.args.old.now c.args.new.now c.args.step.now.sources.items c.deref.result.now e r f c.requires c.deref.ensures.value c.in_ok-evidence.ensures.shown is_report is_following,
+      step_text e.sources r f c.deref-2.result.now,
+      comes_to _ c.args.old.now c.args.new.now (path_in c.args.step.now.renewal) c.args.step.now.sources.items c.deref.result.now e r f c.args.renewal.now c.deref-2.result.now c.requires.next c.deref.ensures.value c.in_ok-evidence.ensures.shown is_report is_following c.requires.read (subst (λ (t : List ℕ). AreLinesOn c.args.old.now c.args.new.now c.args.renewal.now t) (sym c.deref-2.ensures.value) c.in_ok-judged.ensures),
       c.in_ok-print.ensures.ok,
     )
