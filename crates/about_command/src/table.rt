@@ -58,7 +58,7 @@ hs_signer | successor 4 Key K | Key K of the file of --successor is no public ke
 hs_signer | successor 5 SameKey J K | Key K of the file of --successor is the same as key J. The file is as if it were not there. | Lay the right file down by renaming it into its place; no restart is needed.\n\
 hs_signer | successor 6 Weight R | Replica R of the file of --successor has the weight 0. The file is as if it were not there. | Lay the right file down by renaming it into its place; no restart is needed.\n\
 hs_signer | successor 7 KeyCount R | Replica R of the file of --successor has no key, more than four, or bytes behind its keys. The file is as if it were not there. | Lay the right file down by renaming it into its place; no restart is needed.\n\
-hs_signer | successor not mine | With --renew: the replica has in FILE neither its present keys nor those that were made behind them, so FILE is as if it were not there. | Make the keys with keygen --behind in DIR, or rename their folder to DIR/next-ID; else make FILE anew.\n\
+hs_signer | successor not mine | With --renew: the replica has in FILE, or in a committee that was shown, neither its present keys nor those that were made behind them: FILE is as if it were not there, and what was shown is refused. | Make the keys with keygen --behind in DIR, or rename their folder to DIR/next-ID; else make FILE anew.\n\
 hs_signer | successor never enough | With --renew: the replicas that --ask names could never be enough under FILE, so it is as if it were not there. | Start the signer with --ask of all others.\n\
 hs_signer | successor 8 OldKey K | Key K of the file of --successor is a key of this committee too: it would sign twice under one one-time key. The file is as if it were not there. | Have that replica make a new key in a new folder, and a new committee's file be made.\n\
 hs_check, hs_tool, hs_show, hs_draw, hs_signer, hs_watch, hs_follow | fault usage | The words are not those of the manual page. | Put the words right.\n\
@@ -76,7 +76,8 @@ hs_check, hs_tool, hs_show, hs_draw, hs_signer, hs_watch, hs_follow | fault comm
 hs_check, hs_tool, hs_show, hs_draw, hs_signer, hs_watch, hs_follow | fault committee 5 SameKey J K | Key K is the same as key J. | Two replicas handed in one key: get both anew from their operators.\n\
 hs_check, hs_tool, hs_show, hs_draw, hs_signer, hs_watch, hs_follow | fault committee 6 Weight R | Replica R has the weight 0. | Give it a weight, or leave it out.\n\
 hs_check, hs_tool, hs_show, hs_draw, hs_signer, hs_watch, hs_follow | fault committee 7 KeyCount R | Replica R has no key, more than four, or bytes behind its keys. | Get the file from an operator you trust, and compare its chain id.\n\
-hs_follow | fault committee 8 OldKey K | Key K of the new committee is one of the old committee's keys: it would sign twice under one one-time key. | Have that replica make a new key in a new folder, and make the committee's file anew.\n\
+hs_follow | fault committee 8 OldKey K | Key K of the new committee is one of the old committee's keys, in a slot that may not keep it: it would sign twice under one one-time key. | Have that replica make a new key in a new folder, and make the committee's file anew.\n\
+hs_follow | fault renewal N NAME | The file of --renewal is no renewal. | Name the file next.hsr of a signer that went over from OLD, or get it anew.\n\
 hs_tool audit, hs_draw, hs_watch, hs_follow | fault source I | The word of source I, counted from 0, is not R=file:PATH or R=tcp:ADDRESS. | Put that word right.\n\
 hs_tool audit, hs_draw, hs_watch, hs_follow | fault collision | Two different headers have one id: SHA-256 is broken, and no audit of these sources holds. | Keep all sources.\n\
 hs_watch | fault state | The folder of --state has logs of another chain, or logs and no file that says of which; or, with --export, nothing of that source. | Name another folder, or the committee's own; R-I is how the names of its files begin.\n\
@@ -158,8 +159,8 @@ hs_tool replica | serve fault 3 | The client went away, took nothing for 30 seco
 hs_tool replica | serve fault 4 | No connection could be had, or no request came in time. | Let the auditor ask again; look at the limit of open files.\n\
 hs_tool replica | serve fault 5 | What came is no request, or names another chain. | See who connects there.\n\
 hs_tool replica | serve fault 6 | A disk failed before, and nothing was sent. | See to the disk.\n\
-hs_signer | approved | FILE of --successor, as it is now, is the committee that a block with this payload hands over to: such a block may be voted for. | Nothing.\n\
-hs_signer | not approved | FILE of --successor, as it is now, is another committee's or as if it were not there, or there is no --successor: a block that hands over with this payload gets no vote. | Lay the right file down by renaming it into its place, if the ledger is to be handed over to that committee; standard error says why a file is not taken.\n\
+hs_signer | approved | FILE of --successor, as it is now, or a committee that was shown to renew this one, is what a block with this payload hands over to: such a block may be voted for. | Nothing.\n\
+hs_signer | not approved | FILE of --successor, as it is now, is another committee's or as if it were not there, or there is no --successor, and no committee with this payload was shown to renew this one: a block that hands over with this payload gets no vote. | Lay the right file down by renaming it into its place, if the ledger is to be handed over to that committee; standard error says why a file is not taken.\n\
 hs_signer | refused call 1 NoSuchCall | There is no call of this path. | See the table of calls in hs_signer(1).\n\
 hs_signer | refused call 2 Method | The path has other methods, which allow names. | Use one of these.\n\
 hs_signer | refused call 3 Number | A number is not in its one spelling or out of range, or a parameter is not known or there twice, or the chain of a part of the log is no id. | Write it without sign and leading zeros, and an id in 64 digits.\n\
@@ -176,7 +177,29 @@ hs_signer | over CHAIN | The signer has gone over to this chain: it votes in the
 hs_signer | refused over 1 NoCommit | This process told no block as committed that has a handover block in its chain. | Hand in the block that commits again, then repeat the call.\n\
 hs_signer | refused over 2 OtherFile PAYLOAD | The handover block that was committed has this payload, which names another file. | Send the file that the payload names.\n\
 hs_signer | refused over 3 NotMine | The replica has in that file neither its keys of this chain nor those that were made behind it. | Look who made the keys: somebody else has them, or DIR was put back.\n\
-hs_signer | stopped over | What the new chain needs, or the word that the signer goes over, can't be read or stored. | See to DIR and its disk, then start the signer again.\n\
+hs_signer | stopped over | What the new chain needs, as the keys that were endorsed, or the word that the signer goes over, can't be read or stored. | See to DIR and its disk, then start the signer again.\n\
+hs_signer | making keys | The replica's next keys are still made, or looked for behind a start: with --renew this is beside the votes, and takes some seconds. Nothing was done. | Ask again.\n\
+hs_signer | stopped next | The replica's next keys can't be read or made, or are not the ones that it endorsed, or a disk failed while the endorsement was stored. It votes on in this chain. | See to DIR/next-ID and its disk, and start the signer again. Never put a folder of keys back from a backup: where the keys are lost the replica comes back by hand, with new keys in the file of --successor.\n\
+hs_signer | next keys not made | The replica's next keys could not be made: the random source or the disk failed, or DIR has no room. It votes on in this chain. | See to DIR and its disk, and start the signer again.\n\
+hs_signer | renews PAYLOAD new S of W | The committee of that file renews this one: its new slots weigh S of the whole weight W. From now on a block that hands over with this payload may be voted for. | Nothing.\n\
+hs_signer | refused renewal 2 Short | The renewal has fewer than 78 bytes. | See that the body has the renewal's length in front, and the whole renewal.\n\
+hs_signer | refused renewal 3 Magic | The renewal does not begin with HSR1. | Put it together anew of the endorsements.\n\
+hs_signer | refused renewal 4 View | The certificate in the renewal is not of view 1. | Put it together anew of the endorsements.\n\
+hs_signer | refused renewal 5 Length | The renewal has not as many bytes as its signatures ask for. | Put it together anew of the endorsements.\n\
+hs_signer | refused renewal 6 Order | The replicas of the renewal's signatures do not rise. | Put it together anew, by rising replica.\n\
+hs_signer | refused renewal 7 Count | The renewal has no signatures, or more than 31. | Put it together anew of the endorsements.\n\
+hs_signer | refused successor 1 Chain | The renewal names another chain than this one. | Gather endorsements of this chain.\n\
+hs_signer | refused successor 2 File | The renewal names another file. | Send the file that it was put together for.\n\
+hs_signer | refused successor 3 Format | The file has another format than that of this committee. | Make the file of this committee's, with the endorsed keys in their places.\n\
+hs_signer | refused successor 4 Size | The committee has not as many replicas as this one. | Make the file of this committee's, with the endorsed keys in their places.\n\
+hs_signer | refused successor 5 Weight R | Replica R has another weight there. | Make the file of this committee's, with the endorsed keys in their places.\n\
+hs_signer | refused successor 6 KeyCount R | Replica R has not as many keys there. | Make the file of this committee's, with the endorsed keys in their places.\n\
+hs_signer | refused successor 7 KeyId R | Replica R has other keys there, and one of them has not the id that is bound to its place. | Leave its slot as it is in this committee.\n\
+hs_signer | refused successor 8 Unsigned R | Replica R has other keys there, and the renewal has no signature of it. | Add its endorsement, or leave its slot as it is.\n\
+hs_signer | refused successor 9 KeyNumber R | Replica R has other keys there, and the renewal's signature of it names a key that it has not. | Leave its slot as it is, and take no more endorsements from who handed this one on.\n\
+hs_signer | refused successor 10 Signature R | Replica R has other keys there, and the renewal's signature of it is not good. | Leave its slot as it is, and take no more endorsements from who handed this one on.\n\
+hs_signer | refused successor 11 TooFew | The slots with other keys weigh less than a quorum. | Gather more endorsements.\n\
+hs_signer | refused successor 12 NotMine | This replica has there neither its present keys nor those that it endorsed. | Look who endorsed for it: somebody else has its keys, or DIR was put back.\n\
 hs_signer | fault lineage CHAIN | What lies in the folder of that chain is not what DIR's words say, or COMMITTEE is not the file that DIR began with. | Start with the first committee's file. If that is so, something was removed or copied in DIR: the replica counts as faulty.\n\
 hs_signer | fault lineage | DIR's words lead through more than a million committees. | Nothing is to be done with such a DIR.\n\
 hs_signer | listening calls PLACE | It takes calls there. | Nothing.\n\
@@ -210,6 +233,11 @@ hs_tool audit, hs_follow | handover V ID committed, N commits after it | The com
 hs_follow | follows view V id ID | By what the logs prove the old committee handed its ledger over to NEW, in block ID of view V. | Go on with NEW.\n\
 hs_follow | follows another view V id ID payload HEX | The old committee handed its ledger over to another file than NEW. | Get the file whose digest begins as the payload says, behind HSN1.\n\
 hs_follow | follows none | The logs prove no handover. | Get more logs, or later ones.\n\
+hs_follow | slot S new | OLD's keys signed for the keys that NEW has in slot S, a replica by its number. | Nothing.\n\
+hs_follow | slot S kept | NEW has the keys of OLD in slot S, a replica by its number. | Nothing.\n\
+hs_follow | slot S by hand | NEW has other keys than OLD in slot S, a replica by its number, and by the renewal no key of OLD signed for them. | Ask that replica's operator whether the keys are theirs.\n\
+hs_follow | renews new S of W | NEW renews OLD by the renewal: its slots with other keys weigh S of the whole weight W. | Nothing.\n\
+hs_follow | renews not: N NAME.. | NEW does not renew OLD by the renewal, by the test of this number and name, of this slot if there is one. What the lines above say of the handover stands. | Get the renewal of that handover. If operators made NEW, ask them.\n\
 hs_watch | TIME round N commit V ID | It is proved that the block ID of view V was committed. | Nothing.\n\
 hs_watch | TIME round N commits N before V ID | The round has more than 100 new commits: so many of them are not listed. The last 100 are, the first of which is the block ID of view V. | Nothing.\n\
 hs_watch | TIME round N handover V ID payload HEX committed, N commits after it | It is proved that the committee hands its ledger over, by the block ID of view V, and that so many blocks after it are committed by now. | See by hs_follow that the payload names the file that you approved.\n\
@@ -247,9 +275,18 @@ hs_show | refused verdict 4 Length | It begins as a verdict, and has not as many
 hs_show | refused journal 3 NotAJournal | It begins as a journal, and the eight bytes of its head are others. | It is none: look for a slip in the path.\n\
 hs_show | refused journal 4 Damaged | A journal that was cut or changed. | It can't be mended, and must not be replaced: see Backups in hs_tool-folder(1). hs_tool export saves what stands in front of the damage of a log.\n\
 hs_show | refused indices 5 BadEntry | A journal that begins as one of taken indices, and is none, or is damaged. | It can't be mended, and must not be replaced: see Backups in hs_tool-folder(1).\n\
+hs_show | refused endorsement 1 Short | It begins as an endorsement, and has fewer than 39 bytes in front of the number of the key and the signature, as a statement has that nobody signed. | It is no endorsement: get the file anew.\n\
+hs_show | refused endorsement 3 Count | It begins as an endorsement, and its statement does not name 1 to 4 keys. | It is no endorsement: get the file anew.\n\
+hs_show | refused endorsement 4 Length | It begins as an endorsement, and has not as many bytes as its keys ask for. | The file was cut or lengthened: get it anew.\n\
+hs_show | refused endorsement 5 Key | It begins as an endorsement, and one of its next keys is no public key. | It is no endorsement: get the file anew.\n\
+hs_show | refused renewal 2 Short | It begins as a renewal, and has fewer than 78 bytes. | It is no renewal: get the file anew.\n\
+hs_show | refused renewal 4 View | It begins as a renewal, and its certificate is not of view 1. | It is no renewal: get the file anew.\n\
+hs_show | refused renewal 5 Length | It begins as a renewal, and has not as many bytes as its signatures ask for. | The file was cut or lengthened: get it anew.\n\
+hs_show | refused renewal 6 Order | It begins as a renewal, and the replicas of its signatures do not rise. | It is no renewal: get the file anew.\n\
+hs_show | refused renewal 7 Count | It begins as a renewal, and has no signatures, or more than 31. | It is no renewal: get the file anew.\n\
 hs_show | committee f F n N | A committee of N replicas that count once, F of which may be faulty. | Compare its chain id.\n\
 hs_show | committee n N weight W quorum Q | A committee of N replicas that weigh W together, of which a quorum weighs Q. | Compare its chain id.\n\
-hs_show | chain ID | The committee's chain id; of a verdict the one under which its votes were signed. | Compare it with the one that you were told by another way, such as the telephone.\n\
+hs_show | chain ID | The committee's chain id; of a verdict the one under which its votes were signed; of an endorsement or a renewal that of the committee before. | Compare it with the one that you were told by another way, such as the telephone.\n\
 hs_show | say DIGITS.. | The chain id in groups of four digits. | Read it to another operator by telephone.\n\
 hs_show | replica R key ID | The id of replica R's key, which another key may have too. | To compare the whole key see OPERATING.md, The first day.\n\
 hs_show | replica R weight S key ID | How much replica R weighs, and the id of its key, which another key may have too. | To compare the whole key see OPERATING.md, The first day.\n\
@@ -270,6 +307,12 @@ hs_show | payload HEX | What the block of the entry above carries, as its ledger
 hs_show | handover HEX | The block of the entry above hands its ledger over to another committee. | Compare the digits with the first 56 of the SHA-256 of that committee's file (sha256sum).\n\
 hs_show | see hs_tool migrate | The log is of the form from before votes named their keys. | hs_tool migrate OLD NEW COMMITTEE carries it over.\n\
 hs_show --committee | signatures N good G | Of N signatures that were checked G verify. | Where G is less, see that it is the right committee's file, and which line says bad or by none.\n\
+hs_show | endorsement replica R keys N signed by key K | The file says which N next keys replica R has behind the committee of the chain below it, and that the replica signed this with its present key K. It is not judged here. | Compare the chain id with that of your committee.\n\
+hs_show | next key K id ID root ROOT | Key K of the replica's next ones: its id, and the root of its tree. | Compare both with what hs_show says of that key's own file.\n\
+hs_show | renewal signatures N | The file has so many signatures by which replicas of the committee of the chain below it name their next keys. It is not judged here. | Judge it beside the next committee's file by POST /successor of an hs_signer --renew.\n\
+hs_show | next committee sha256 HEX | The SHA-256 of the file of the committee that comes next. | Compare it with that of the file (sha256sum).\n\
+hs_show | signature replica R key K | The renewal has a signature of replica R, by key K of those that it has in the committee before. | Nothing.\n\
+hs_show | signatures N not checked | An endorsement or a renewal has N signatures, and none was checked, with --committee neither. | Take none for good by this: POST /successor of an hs_signer --renew judges a renewal beside the file.\n\
 hs_show | indices taken N left A B C D | All one-time keys below N are taken; so many are left to a replica with one, two, three or four keys. | Have the next committee ready before yours is 0.\n\
 hs_show | key ID root ROOT | A public key: its id, and the root of its tree. | Nothing.\n\
 hs_show | seed key ID | A file of 48 bytes is taken for a key's seed, of which no more than the key's id is shown. | Keep it secret, and never copy it."
