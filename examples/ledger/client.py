@@ -58,7 +58,7 @@ def get_key(folder, committee, key, is_fresh=False):
     return answer["value"]
 
 
-HEAD = ["replica", "state", "chain", "view", "vote view", "lock", "entries left", "keys left", "committed", "applied", "store", "handover"]
+HEAD = ["replica", "state", "chain", "view", "vote view", "lock", "entries left", "keys left", "next", "committed", "applied", "store", "handover"]
 
 
 def row_of(number, answer):
@@ -66,7 +66,7 @@ def row_of(number, answer):
         return [number, "does not answer"]
     signer = answer["signer"] or {"state": "signer away", "lock": {}}
     stands = [signer["state"], answer["chain"][:8], answer["view"], signer.get("vote_view", ""), signer["lock"].get("view", "")]
-    left = [signer.get("entries_left", ""), signer.get("indices_left", "")]
+    left = [signer.get("entries_left", ""), signer.get("indices_left", ""), signer.get("next", "")]
     return [number, *stands, *left, answer["committed"], answer["applied"], answer["store"][:8], answer["handover"][:8]]
 
 

@@ -87,6 +87,11 @@ def listen(folder, number):
     return listener
 
 
+def message_of(chain, say, **words):
+    """A message between replicas. It names its chain."""
+    return {"say": say, "chain": chain.genesis.hex(), **words}
+
+
 def line_of(message):
     return json.dumps(message).encode() + b"\n"
 
