@@ -6,7 +6,7 @@ _wezhgula_options() {
         hs_show) echo --committee --statement --explain --help --version ;;
         hs_signer) echo --listen --read --serve --successor --ask --sessions --furthest --host --group --while-input --verbose --renew --help --version ;;
         hs_watch) echo --every --reread --listen --host --name --state --keep-most --until-culprit --until-input-ends --export --help --version ;;
-        hs_follow) echo --proof --help --version ;;
+        hs_follow) echo --renewal --proof --help --version ;;
         hs_draw) echo --help --version ;;
         'hs_tool keygen') echo --key --random --stdin --behind --keys ;;
         'hs_tool replica') echo --workers --serve --requests ;;
