@@ -1,0 +1,143 @@
+-- Laws of a replica's own keys.
+use Rattle.std.proofs.Common.{◌≡◌, ◌<◌, ◌+◌, ℕ, zero, suc, Bool, true, false, List, [], ◌∷◌, ◌++◌, ◌&&◌, length, take, Option, Some, None, inl, inr, refl, sym, ap, subst, ◌∙◌, arith}
+use Rattle.std.specs.Prelude.{IsSomeAnd}
+use Rattle.std.specs.List.{All}
+use Rattle.std.specs.Str.{bytes_eq}
+use Rattle.std.proofs.lemmas.Bool.{cases_Bool}
+use Rattle.std.proofs.lemmas.List.{length-append, take_at}
+use Rattle.std.proofs.lemmas.List.Elements.{All-nil, All-push}
+use Rattle.std.proofs.lemmas.Slice.Eq.{bytes_eq-Decides}
+use Rattle.sha2.proofs.Facts256.{length-sha256}
+use Rattle.lms_tree.specs.Keys.{IsPublicKey}
+use Rattle.blocks.specs.Genesis.{chain_id_of}
+use Rattle.blocks.specs.Headers.{header_id}
+use Rattle.blocks.specs.Committees.{IsCommittee, key_at, keys_of, n_of}
+use Rattle.blocks.proofs.CommitteeLaws.{count_here, key_here, room_below, size_of}
+use Rattle.certificates.specs.declared.certificate.Endorsement.{Endorsement}
+use Rattle.next_keys.specs.Endorsements.{endorsement_text}
+use Rattle.next_keys.specs.NextKeys.{AreNextKeys, NextKeys, next_keys_text}
+use Rattle.next_keys.proofs.NextKeysLaws.{one_spelling}
+use Rattle.renewals.specs.Renewals.{Renewal}
+use Rattle.renewals.specs.Renewing.{IsGoodFor, Renews, VerifiesUnder, signature_of}
+use Rattle.renewals.specs.Slots.{is_kept, keys_upto, same_keys, slot_keys, slot_statement}
+use Rattle.renewals.proofs.SlotLaws.{length-keys_upto}
+use Rattle.told_words.specs.Histories.{IsTold}
+use Rattle.told_words.specs.Words.{Endorsed}
+use Rattle.told_words.proofs.HistoryLaws.{one_endorsement_is_told}
+use Rattle.lineage_laws.specs.OwnKeys.{AreOwn, ItsNextKeysAreTheSame, ItsSlotIsItsOwn, OneEndorsementAChain, SignsAlone, Words, stating}
+use Rattle.lineage_laws.specs.Renewed.{Next, AreRenewed, last_of}
+
+-- ---- one endorsement a chain
+
+pub one_a_chain : OneEndorsementAChain
+one_a_chain words chain other_chain bytes other are told too same =
+    let one : chain ≡ other_chain = sym (are.named chain bytes told) ∙ same ∙ are.named other_chain other too in
+    let here = are.happened chain in
+    one_endorsement_is_told here.first (words chain) bytes other here.history told (subst (λ (c : List ℕ). IsTold (words c) (Endorsed other)) (sym one) too)
+
+-- ---- slots that are kept
+
+from_and : (a b : Bool) → (a && b) ≡ true → (a ≡ true) × (b ≡ true)
+from_and true b e = (refl, e)
+from_and false b e = absurd cc
+
+kept_keys : (old new : List ℕ) (s n : ℕ) → same_keys old new s n ≡ true → keys_upto new s n ≡ keys_upto old s n
+unfolding same_keys keys_upto
+kept_keys old new s zero same = refl
+kept_keys old new s (suc n) same =
+    let parts = from_and (same_keys old new s n) (bytes_eq (key_at old s n) (key_at new s n)) same in
+    let before = kept_keys old new s n parts.0 in
+    let here : key_at old s n ≡ key_at new s n = (bytes_eq-Decides (key_at old s n) (key_at new s n)).0 parts.1 in
+    λ i. before i ++ sym here i ∷ []
+
+-- ---- slots that are new
+
+-- a key of a slot signed for its keys in the new committee
+record HasSigned (old new : List ℕ) (s : ℕ) : Type 0 where
+  key : ℕ
+  signature : List ℕ
+  known : key < keys_of old s
+  verifies : VerifiesUnder old new s key signature
+
+signed_by : (old new : List ℕ) (s : ℕ) (o : Option Endorsement) → IsSomeAnd o (IsGoodFor old new s) → HasSigned old new s
+signed_by old new s None good = absurd good
+signed_by old new s (Some e) good = record { key = e.key; signature = e.signature; known = good.key; verifies = good.verifies }
+
+has_signed : (old new : List ℕ) (r : Renewal) (s : ℕ) → Renews old new r → s < n_of old → is_kept old new s ≡ false → HasSigned old new s
+has_signed old new r s renews inside other = signed_by old new s (signature_of r s) ((renews.slots.signed s inside).signed other)
+
+-- .. and so told it
+told_of : (old new : List ℕ) (words : Words) (s : ℕ) (begun : List (List ℕ)) → SignsAlone words s begun → AreOwn words s begun (slot_keys old s) → (signed : HasSigned old new s)
+    → IsTold (words (chain_id_of old)) (Endorsed (endorsement_text (stating (chain_id_of old) s (slot_keys new s)) signed.key signed.signature))
+told_of old new words s begun alone own signed = alone old own (slot_keys new s) signed.key signed.signature signed.known signed.verifies
+
+-- ---- through a lineage
+
+own_next : (old new : List ℕ) (r : Renewal) (words : Words) (s : ℕ) (begun : List (List ℕ)) → Renews old new r → s < n_of old → SignsAlone words s begun
+    → AreOwn words s begun (slot_keys old s) → AreOwn words s begun (slot_keys new s)
+own_next old new r words s begun renews inside alone own =
+    let as_many : keys_of new s ≡ keys_of old s = renews.slots.shape.counts s inside in
+    elim (cases_Bool (is_kept old new s)) [
+      | inl kept ↦ subst (AreOwn words s begun) (sym (ap (keys_upto new s) as_many ∙ kept_keys old new s (keys_of old s) kept)) own
+      | inr other ↦
+          let signed = has_signed old new r s renews inside other in
+          inr (record { chain = chain_id_of old; key = signed.key; signature = signed.signature; told = told_of old new words s begun alone own signed })
+    ]
+
+own_through : (first : List ℕ) (later : List Next) (words : Words) (s : ℕ) (begun : List (List ℕ)) → AreRenewed first later → s < n_of first → SignsAlone words s begun
+    → AreOwn words s begun (slot_keys first s) → AreOwn words s begun (slot_keys (last_of first later) s)
+own_through first [] words s begun are below alone own = own
+own_through first (next ∷ later) words s begun are below alone own =
+    let size = are.0.renews.slots.shape.one_size.size in
+    let inside : s < n_of next.file = omega (arith, size) in
+    own_through next.file later words s begun are.1 inside alone (own_next first next.file next.renewal words s begun are.0.renews below alone own)
+
+pub its_own : ItsSlotIsItsOwn
+its_own first later words s are below alone = own_through first later words s (slot_keys first s) are below alone (inl refl)
+
+-- ---- in two committees that renew one
+
+all_keys : (new : List ℕ) (s n : ℕ) → ((k : ℕ) → k < n → IsPublicKey (key_at new s k)) → All IsPublicKey (keys_upto new s n)
+unfolding keys_upto
+all_keys new s zero is = All-nil IsPublicKey
+all_keys new s (suc n) is = All-push IsPublicKey (keys_upto new s n) (key_at new s n) (all_keys new s n (λ k below. is k (omega arith))) (is n (omega arith))
+
+chain_long : (committee : List ℕ) → length (chain_id_of committee) ≡ 32
+unfolding header_id
+chain_long committee = length-sha256 _
+
+may_be_stated : (old new : List ℕ) (s : ℕ) → IsCommittee new → s < n_of new → AreNextKeys (slot_statement (chain_id_of old) new s)
+may_be_stated old new s is below =
+    let long = length-keys_upto new s (keys_of new s) in
+    let count = count_here new s is below in
+    record {
+      chain = chain_long old;
+      replica = let most = (size_of new is).most in omega arith;
+      least = omega (arith, count.0);
+      most = omega (arith, count.1, room_below new);
+      public_keys = all_keys new s (keys_of new s) (λ k inside. key_here new s k is below inside);
+    }
+
+same_front : (xs ys : List ℕ) (k l : ℕ) (us vs : List ℕ) → length us ≡ length vs → endorsement_text xs k us ≡ endorsement_text ys l vs → xs ≡ ys
+same_front xs ys k l us vs long same =
+    let whole : length xs + suc (length us) ≡ length ys + suc (length vs) = sym (length-append xs (k ∷ us)) ∙ ap length same ∙ length-append ys (l ∷ vs) in
+    let front : length xs ≡ length ys = omega (arith, whole, long) in
+    sym (take_at xs (k ∷ us) (length xs) refl) ∙ ap (take (length xs)) same ∙ take_at ys (l ∷ vs) (length xs) (sym front)
+
+abbrev keys_in : NextKeys → List (List ℕ)
+keys_in v = v.keys
+
+pub same_next : ItsNextKeysAreTheSame
+same_next old new other r q words s begun are alone own is too renews renews_too inside here there =
+    let one = has_signed old new r s renews inside here in
+    let two = has_signed old other q s renews_too inside there in
+    let size = renews.slots.shape.one_size.size in
+    let size_too = renews_too.slots.shape.one_size.size in
+    let journal = are.happened (chain_id_of old) in
+    let texts = one_endorsement_is_told journal.first (words (chain_id_of old)) _ _ journal.history (told_of old new words s begun alone own one) (told_of old other words s begun alone own two) in
+    let text = next_keys_text (slot_statement (chain_id_of old) new s) in
+    let text_too = next_keys_text (slot_statement (chain_id_of old) other s) in
+    let same : text ≡ text_too = same_front text text_too one.key two.key one.signature two.signature (one.verifies.long ∙ sym two.verifies.long) texts in
+    let stated = may_be_stated old new s is (omega (arith, size)) in
+    let stated_too = may_be_stated old other s too (omega (arith, size_too)) in
+    ap keys_in (one_spelling text (slot_statement (chain_id_of old) new s) (slot_statement (chain_id_of old) other s) (record { parts = stated; text = refl }) (record { parts = stated_too; text = same }))
