@@ -5,3 +5,4 @@ pub mod Sockets
 pub mod Approved
 pub mod Ends
 pub mod Ruled
+pub mod Outrunning

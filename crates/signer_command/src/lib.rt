@@ -18,6 +18,7 @@ mod making;
 mod marks;
 mod next;
 mod notes;
+mod outrunning;
 mod over;
 mod pace;
 mod past;

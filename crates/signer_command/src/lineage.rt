@@ -7,12 +7,13 @@ ghost use Rattle.signer_command.specs.Ends.{IsLate};
 use crate::fault::{Fault, SignerFault, in_folder, of_lineage};
 use crate::fitness::Means;
 use crate::notes::Notes;
+use crate::outrunning::{boundary_of, endorsement_outruns};
 use crate::program::{Host, disk_fault};
 use crate::words::Words;
 use blocks::{CommitteeView, Id};
-use key_index_store::IndexStore;
+use key_index_store::{IndexError, IndexStore};
 use lineage_folder::{KeySet, LineageFault, LineageFolder, Standing};
-use replica_command::{ReplicaFault, ReplicaFolder};
+use replica_command::{ReplicaFault, ReplicaFile, ReplicaFolder};
 use stable_log::FileDisk;
 use std::alloc::Global;
 use std::fs::{File, Files};
@@ -171,23 +172,27 @@ fn try_open<T: Files<File = File> + Threads + Wait + Sync>(
     };
     let logs = folder.chain_folder(&committee.chain())?;
     let parts = keys.open_parts_with(host.rt, committee, words.replica, &logs)?;
-    see_earlier(&folder, at, words.replica, &parts.index)?;
+    see_signed(&folder, committee, at, words.replica, &parts.index)?;
     Ok((parts, lock))
 }
 
-// Refuses an index store that is older than the log of an earlier chain in which the replica had the same keys.
-fn see_earlier<T: Files<File = File>>(
+// Refuses an index store that is older than the endorsement of this chain, or than the log or the endorsement of an earlier one in which
+// the replica had the same keys.
+fn see_signed<T: Files<File = File>>(
     folder: &LineageFolder<'_, T>,
+    committee: &CommitteeView,
     at: &Standing,
     replica: u16,
     index: &IndexStore<FileDisk>,
 ) -> Result<(), ReplicaFault> {
+    see_endorsement(folder, committee, index)?;
     let alike = usize::try_from(at.alike).unwrap_or(usize::MAX);
     let from = at.earlier.len().saturating_sub(alike);
     for file in at.earlier.get(from..).unwrap_or(&[]) {
         let Ok(committee) = CommitteeView::parse(file) else {
             continue;
         };
+        see_endorsement(folder, &committee, index)?;
         let place = folder.chain_folder(&committee.chain())?;
         let logs = ReplicaFolder {
             files: folder.files,
@@ -197,4 +202,24 @@ fn see_earlier<T: Files<File = File>>(
         let _log = logs.open_log(index, &committee, replica)?;
     }
     Ok(())
+}
+
+// Refuses an index store that is older than the endorsement that was said in the chain of this committee.
+fn see_endorsement<T: Files<File = File>>(
+    folder: &LineageFolder<'_, T>,
+    committee: &CommitteeView,
+    index: &IndexStore<FileDisk>,
+) -> Result<(), ReplicaFault> {
+    let words = match folder.words_of(&committee.chain()) {
+        Ok(words) => words,
+        Err(LineageFault::Memory) => return Err(ReplicaFault::Memory),
+        Err(LineageFault::Device) => return Err(ReplicaFault::Device),
+        Err(_) => return Err(ReplicaFault::File(ReplicaFile::Key(KeyFile::Log))),
+    };
+    match words.endorsed() {
+        Some(bytes) if endorsement_outruns(committee, bytes, boundary_of(index)) => {
+            Err(ReplicaFault::Store(IndexError::BadEntry.number()))
+        }
+        _ => Ok(()),
+    }
 }

@@ -64,6 +64,10 @@ arguments_text numbers =
     ++ field_text (codes "\nhs_signer_refused_calls_total{reason=\"Length\"} ") numbers.bad_lengths
     ++ field_text (codes "\nhs_signer_refused_calls_total{reason=\"Chain\"} ") numbers.other_chains
 
+abbrev pub mine_text : Numbers → List ℕ
+mine_text numbers =
+    field_text (codes "\n# HELP hs_signer_not_mine_total Committees that callers showed or named in which the replica has keys that are not its own.\n# TYPE hs_signer_not_mine_total counter\nhs_signer_not_mine_total ") numbers.not_mine
+
 abbrev pub views_text : DeskStatus → ℕ → List ℕ
 views_text status committed =
     field_text (codes "\n# HELP hs_signer_vote_view The greatest view of a vote or a timeout.\n# TYPE hs_signer_vote_view gauge\nhs_signer_vote_view ") status.vote_view
@@ -144,7 +148,7 @@ is_stopped status None = status.stopped
 unfoldable pub signer_text : Numbers → DeskStatus → (committed stopped asking : ℕ) → Going → List ℕ
 signer_text numbers status committed stopped asking going =
     answers_text numbers ++ refusals_text numbers ++ times_text numbers ++ calls_text numbers
-    ++ doors_text numbers ++ arguments_text numbers ++ views_text status committed
+    ++ doors_text numbers ++ arguments_text numbers ++ mine_text numbers ++ views_text status committed
     ++ rooms_text status stopped ++ asking_text asking ++ going_text going ++ process_text numbers
 
 abbrev pub metrics_text : Measured → List ℕ

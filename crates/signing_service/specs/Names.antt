@@ -12,8 +12,6 @@ use Rattle.replica_core.specs.declared.refusal.CoreRefusal.{CoreRefusal}
 use Rattle.replica_core.specs.declared.refusal.CoreRefusal.TheVariants as core
 use Rattle.vote_log.specs.declared.log_error.LogError.{LogError}
 use Rattle.vote_log.specs.declared.log_error.LogError.TheVariants as log
-use Rattle.renewals.specs.declared.format.RenewalFormRefusal.{RenewalFormRefusal}
-use Rattle.renewals.specs.declared.format.RenewalFormRefusal.TheVariants as form
 use Rattle.vote_desk.specs.declared.desk_error.DeskError.{DeskError}
 use Rattle.vote_desk.specs.declared.desk_error.DeskError.TheVariants as desk
 
@@ -34,15 +32,6 @@ block_refusal_name block.Count = codes "Count"
 block_refusal_name block.UnknownReplica = codes "UnknownReplica"
 block_refusal_name block.UnknownKey = codes "UnknownKey"
 block_refusal_name (block.Signature k) = codes "Signature"
-
-abbrev pub renewal_form_name : RenewalFormRefusal → List ℕ
-renewal_form_name form.Memory = codes "Memory"
-renewal_form_name form.Short = codes "Short"
-renewal_form_name form.Magic = codes "Magic"
-renewal_form_name form.View = codes "View"
-renewal_form_name form.Length = codes "Length"
-renewal_form_name form.Order = codes "Order"
-renewal_form_name form.Count = codes "Count"
 
 abbrev pub vote_refusal_name : VoteRefusal → List ℕ
 vote_refusal_name vote.UnknownReplica = codes "UnknownReplica"

@@ -20,7 +20,6 @@ use Rattle.signer_answers.specs.declared.approver.NextFault.TheVariants as next
 use Rattle.vote_desk.specs.declared.desk_error.DeskError.TheVariants as desk
 use Rattle.signing_service.specs.Crossings.{refused_committee_line}
 use Rattle.signing_service.specs.ToldLines.{IsDeskTold}
-use Rattle.signing_service.specs.Names.{renewal_form_name}
 use Rattle.signing_service.specs.Responses.{IsLine, IsPassing, named_line}
 use Rattle.signing_service.specs.declared.renewing.Renewing.{Renewing}
 use Rattle.signing_service.specs.declared.renewing.NotRenewing.{NotRenewing}
@@ -87,7 +86,7 @@ abbrev pub IsRenewingTold : Result Renewing NotRenewing → Response → Type 0
 IsRenewingTold (Ok it) response = IsLine 200 (renews_line it) response
 IsRenewingTold (Err (why.Form form.Memory)) response = IsDeskTold desk.Memory response
 IsRenewingTold (Err (why.Form refusal)) response =
-    IsLine 422 (named_line (codes "refused renewal ") (form_refusal_number refusal) (renewal_form_name refusal)) response
+    IsLine 422 (named_line (codes "refused renewal ") (form_refusal_number refusal) (form_refusal_name refusal)) response
 IsRenewingTold (Err (why.Committee refusal)) response = IsLine 422 (refused_committee_line refusal) response
 IsRenewingTold (Err (why.Refused refusal)) response = IsLine 422 (refused_slot_line refusal) response
 IsRenewingTold (Err why.NotMine) response = IsLine 422 (codes "refused successor 12 NotMine\n") response

@@ -37,6 +37,7 @@ new_numbers started = record {
   not_held = 0;
   bad_lengths = 0;
   other_chains = 0;
+  not_mine = 0;
   blocks = 0;
   block_micros = 0;
 }
@@ -74,6 +75,9 @@ after_refusal n refused.Target = record n { bad_targets = one_more n.bad_targets
 after_refusal n refused.NotHeld = record n { not_held = one_more n.not_held }
 after_refusal n refused.Length = record n { bad_lengths = one_more n.bad_lengths }
 after_refusal n refused.Chain = record n { other_chains = one_more n.other_chains }
+
+abbrev pub after_not_mine : Numbers → Numbers
+after_not_mine n = record n { not_mine = one_more n.not_mine }
 
 abbrev pub after_block : Numbers → ℕ → Numbers
 after_block n micros = record n { blocks = one_more n.blocks; block_micros = min (n.block_micros + micros) (2 ^ 64 - 1) }

@@ -1,7 +1,7 @@
 //! The metrics of a signer, as Prometheus reads them.
 
 ghost use Rattle.std.specs.Prelude.{◌≡◌, ◌≤◌, ◌+◌, ◌++◌, [], OnOk};
-ghost use Rattle.signing_service.specs.Metrics.{IsMetricsTold, answers_text, arguments_text, asking_text, calls_text, committed_view, committees_text, doors_text, going_text, is_stopped, next_number, next_text, reserve_number, reserve_text, number_of, process_text, refusals_text, rooms_text, signer_text, source_text, sources_text, times_text, views_text};
+ghost use Rattle.signing_service.specs.Metrics.{IsMetricsTold, answers_text, arguments_text, asking_text, calls_text, committed_view, committees_text, doors_text, going_text, is_stopped, mine_text, next_number, next_text, reserve_number, reserve_text, number_of, process_text, refusals_text, rooms_text, signer_text, source_text, sources_text, times_text, views_text};
 ghost use Rattle.signing_service.specs.Responses.{HasRoom, fields_of_kind};
 
 use crate::going::Going;
@@ -15,7 +15,7 @@ use std::alloc::AllocError;
 use vote_desk::DeskStatus;
 
 // How much room the metrics take at the most, but for the sources.
-pub(crate) const METRICS_ROOM: usize = 13_312;
+pub(crate) const METRICS_ROOM: usize = 14_592;
 
 // How much room a source's line takes at the most.
 const SOURCE_ROOM: usize = 128;
@@ -72,6 +72,7 @@ fn put_signer(
     put_calls(body, numbers);
     put_doors(body, numbers);
     put_arguments(body, numbers);
+    put_mine(body, numbers);
     put_views(body, status, committed);
     put_rooms(body, status, stopped);
     put_asking(body, asking);
@@ -259,6 +260,19 @@ fn put_arguments(body: &mut Rope, numbers: &Numbers)
         body,
         b"\nhs_signer_refused_calls_total{reason=\"Chain\"} ",
         numbers.other_chains,
+    );
+}
+
+fn put_mine(body: &mut Rope, numbers: &Numbers)
+    requires { 1200 ≤ body.old.spare }
+    ensures items { body.new.items ≡ body.old.items
+        ++ mine_text numbers.now }
+    ensures spare { body.old.spare ≤ body.new.spare + 1200 }
+{
+    put_field(
+        body,
+        b"\n# HELP hs_signer_not_mine_total Committees that callers showed or named in which the replica has keys that are not its own.\n# TYPE hs_signer_not_mine_total counter\nhs_signer_not_mine_total ",
+        numbers.not_mine,
     );
 }
 

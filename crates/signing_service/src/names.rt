@@ -1,11 +1,10 @@
 //! The names that docs/REFUSALS.md gives the refusals of other crates.
 
 ghost use Rattle.std.specs.Prelude.{◌≡◌, ◌≤◌, length};
-ghost use Rattle.signing_service.specs.Names.{block_refusal_name, certificate_refusal_name, core_refusal_name, desk_error_name, header_refusal_name, log_error_name, renewal_form_name, vote_refusal_name};
+ghost use Rattle.signing_service.specs.Names.{block_refusal_name, certificate_refusal_name, core_refusal_name, desk_error_name, header_refusal_name, log_error_name, vote_refusal_name};
 
 use blocks::HeaderRefusal;
 use certificates::{BlockRefusal, CertificateRefusal, VoteRefusal};
-use renewals::RenewalFormRefusal;
 use replica_core::CoreRefusal;
 use vote_desk::DeskError;
 use vote_log::LogError;
@@ -43,21 +42,6 @@ pub(crate) fn block_refusal_name(refusal: BlockRefusal) -> &'static [u8]
         BlockRefusal::UnknownReplica => b"UnknownReplica",
         BlockRefusal::UnknownKey => b"UnknownKey",
         BlockRefusal::Signature(_) => b"Signature",
-    }
-}
-
-pub(crate) fn renewal_form_name(refusal: RenewalFormRefusal) -> &'static [u8]
-    ensures name { result.now ≡ renewal_form_name refusal }
-    ensures short { length result.now ≤ 20 }
-{
-    match refusal {
-        RenewalFormRefusal::Memory => b"Memory",
-        RenewalFormRefusal::Short => b"Short",
-        RenewalFormRefusal::Magic => b"Magic",
-        RenewalFormRefusal::View => b"View",
-        RenewalFormRefusal::Length => b"Length",
-        RenewalFormRefusal::Order => b"Order",
-        RenewalFormRefusal::Count => b"Count",
     }
 }
 

@@ -1,6 +1,7 @@
 //! Whether a committee renews this one, and the line that tells it.
 
 ghost use Rattle.std.specs.Prelude.{◌≡◌, ◌≤◌, ◌++◌, [], IfErr, IfOk, length};
+ghost use Rattle.renewals.specs.RenewalReading.{form_refusal_name};
 ghost use Rattle.renewals.specs.RenewalRefusals.{renewal_refusal_name};
 ghost use Rattle.signing_service.specs.Renewing.{IsJudged, IsNextFaultTold, IsRenewalRefused, IsRenewingTold, refused_slot_line, renews_line, slot_text};
 ghost use Rattle.signing_service.specs.Responses.{IsLine, IsReady, fields_of_kind, fields_to_retry};
@@ -8,7 +9,6 @@ ghost use Rattle.signing_service.specs.declared.writing.Kind.TheVariants.{Text};
 ghost use Rattle.signing_service.specs.declared.writing.TheConstants.{ROOM};
 
 use crate::crossing::tell_committee;
-use crate::names::renewal_form_name;
 use crate::telling::{put_named, tell_desk};
 use crate::writing::{put, put_number, settle};
 use blocks::{CommitteeRefusal, CommitteeView};
@@ -99,7 +99,7 @@ pub(crate) fn tell_renewing(response: &mut Response, judged: &Result<Renewing, N
                 &mut response.body,
                 b"refused renewal ",
                 refusal.number(),
-                renewal_form_name(*refusal),
+                refusal.name().as_bytes(),
             );
         }
         Err(NotRenewing::Committee(refusal)) => {
@@ -169,19 +169,7 @@ fn name_of(refusal: RenewalRefusal) -> &'static [u8]
     ensures name { result.now ≡ renewal_refusal_name refusal }
     ensures short { length result.now ≤ 20 }
 {
-    match refusal {
-        RenewalRefusal::Chain => b"Chain",
-        RenewalRefusal::File => b"File",
-        RenewalRefusal::Format => b"Format",
-        RenewalRefusal::Size => b"Size",
-        RenewalRefusal::Weight(_) => b"Weight",
-        RenewalRefusal::KeyCount(_) => b"KeyCount",
-        RenewalRefusal::KeyId(_) => b"KeyId",
-        RenewalRefusal::Unsigned(_) => b"Unsigned",
-        RenewalRefusal::KeyNumber(_) => b"KeyNumber",
-        RenewalRefusal::Signature(_) => b"Signature",
-        RenewalRefusal::TooFew => b"TooFew",
-    }
+    refusal.name().as_bytes()
 }
 
 fn put_slot(body: &mut Rope, slot: Option<u16>)

@@ -243,6 +243,10 @@ impl<
         self.reception.tallies.count_refusal(self.rt, refusal);
     }
 
+    fn count_not_mine(&self) {
+        self.reception.tallies.count_not_mine(self.rt);
+    }
+
     // Does what is asked of the replica. Room for the answer is made first: behind that nothing fails.
     fn ask(&mut self, asked: Asked, response: &mut Response) -> Result<Option<Told>, AllocError>
         requires { IsBlank response.old }
@@ -469,8 +473,10 @@ impl<
     {
         make_to_retry(response)?;
         let crossing = self.cross(over);
-        if let Crossing::Elsewhere = crossing {
-            self.count_refusal(CallRefusal::Chain);
+        match crossing {
+            Crossing::Elsewhere => self.count_refusal(CallRefusal::Chain),
+            Crossing::Refused(OverFault::NotMine) => self.count_not_mine(),
+            _ => (),
         }
         tell_crossing(response, &crossing);
         Ok(())
@@ -565,6 +571,9 @@ impl<
     {
         make_to_retry(response)?;
         let renewing = self.show(shown);
+        if let Err(NotRenewing::NotMine) = renewing {
+            self.count_not_mine();
+        }
         tell_renewing(response, &renewing);
         Ok(())
     }

@@ -2,7 +2,7 @@
 
 ghost use Rattle.std.specs.Prelude.{◌≡◌};
 ghost use Rattle.streams.specs.Counting.{one_more};
-ghost use Rattle.signing_service.specs.Tallies.{after_answer, after_block, after_outcome, after_refusal, after_told, new_numbers};
+ghost use Rattle.signing_service.specs.Tallies.{after_answer, after_block, after_not_mine, after_outcome, after_refusal, after_told, new_numbers};
 
 use replica_answers::Outcome;
 use signer_answers::Told;
@@ -38,6 +38,8 @@ pub struct Numbers {
     pub not_held: u64,
     pub bad_lengths: u64,
     pub other_chains: u64,
+    /// Committees that were shown, or named by a call to go over, in which the replica has keys that are not its own.
+    pub not_mine: u64,
     /// How many blocks were answered, and in how many microseconds.
     pub blocks: u64,
     pub block_micros: u64,
@@ -71,6 +73,7 @@ impl Numbers {
             not_held: 0,
             bad_lengths: 0,
             other_chains: 0,
+            not_mine: 0,
             blocks: 0,
             block_micros: 0,
         }
@@ -133,6 +136,12 @@ impl Numbers {
         }
     }
 
+    fn count_not_mine(&mut self)
+        ensures { self.new ≡ after_not_mine self.old }
+    {
+        self.not_mine = one_more(self.not_mine);
+    }
+
     fn count_block(&mut self, micros: u64)
         ensures { self.new ≡ after_block self.old micros }
     {
@@ -178,6 +187,12 @@ impl Tallies {
         let mut numbers = self.numbers.lock(rt);
         let numbers = &mut *numbers;
         numbers.count_refusal(refusal);
+    }
+
+    pub(crate) fn count_not_mine<R: Wait>(&self, rt: &R) {
+        let mut numbers = self.numbers.lock(rt);
+        let numbers = &mut *numbers;
+        numbers.count_not_mine();
     }
 
     pub(crate) fn count_block<R: Wait>(&self, rt: &R, micros: u64) {
