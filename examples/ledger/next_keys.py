@@ -201,4 +201,4 @@ class NextKeys:
         if kept and not is_long:
             self.links.send(leader, self.message(kept, True))
             return False
-        return not step.renewal or self.signer.judge(step).status != 422
+        return not step.renewal or self.signer.may_follow(step)

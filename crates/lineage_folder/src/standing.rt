@@ -1,6 +1,6 @@
 //! Which chain a signer stands in.
 
-ghost use Rattle.std.specs.Prelude.{◌≡◌, ◌↔◌, IfOk, IfSome, IsTrue};
+ghost use Rattle.std.specs.Prelude.{◌≡◌, ◌↔◌, IfOk, IfSome, IsTrue, Some};
 ghost use Rattle.blocks.specs.Committees.{IsCommittee};
 ghost use Rattle.lineage_folder.specs.Standing.{HasKeys};
 ghost use Rattle.lineage_folder.specs.Steps.{IsStep};
@@ -74,7 +74,8 @@ impl Standing {
         handover: &Id,
         replica: u16,
     ) -> Result<Option<Standing>, AllocError>
-        ensures { IfOk result (λ next. IfSome next (λ n. (n.committee ≡ file) × IsCommittee file.items)) }
+        ensures { IfOk result (λ next. IfSome next (λ n. (n.committee ≡ file)
+            × IsCommittee file.items × (n.handover ≡ Some handover.now))) }
     {
         let Some((keys, alike)) = self.keys_in(&file, replica) else {
             return Ok(None);

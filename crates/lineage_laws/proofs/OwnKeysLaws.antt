@@ -18,13 +18,13 @@ use Rattle.next_keys.specs.Endorsements.{endorsement_text}
 use Rattle.next_keys.specs.NextKeys.{AreNextKeys, NextKeys, next_keys_text}
 use Rattle.next_keys.proofs.NextKeysLaws.{one_spelling}
 use Rattle.renewals.specs.Renewals.{Renewal}
-use Rattle.renewals.specs.Renewing.{IsGoodFor, Renews, VerifiesUnder, signature_of}
+use Rattle.renewals.specs.Renewing.{IsGoodFor, Renews, signature_of}
 use Rattle.renewals.specs.Slots.{is_kept, keys_upto, same_keys, slot_keys, slot_statement}
 use Rattle.renewals.proofs.SlotLaws.{length-keys_upto}
 use Rattle.told_words.specs.Histories.{IsTold}
 use Rattle.told_words.specs.Words.{Endorsed}
 use Rattle.told_words.proofs.HistoryLaws.{one_endorsement_is_told}
-use Rattle.lineage_laws.specs.OwnKeys.{AreOwn, ItsNextKeysAreTheSame, ItsSlotIsItsOwn, OneEndorsementAChain, SignsAlone, Words, stating}
+use Rattle.lineage_laws.specs.OwnKeys.{AreOwn, ItsNextKeysAreTheSame, ItsSlotIsItsOwn, OneEndorsementAChain, SignedAlone, SignedAloneThrough, Words}
 use Rattle.lineage_laws.specs.Renewed.{Next, AreRenewed, last_of}
 
 -- ---- one endorsement a chain
@@ -52,28 +52,22 @@ kept_keys old new s (suc n) same =
 
 -- ---- slots that are new
 
--- a key of a slot signed for its keys in the new committee
-record HasSigned (old new : List ℕ) (s : ℕ) : Type 0 where
-  key : ℕ
-  signature : List ℕ
-  known : key < keys_of old s
-  verifies : VerifiesUnder old new s key signature
+-- the renewal has a good signature of the slot
+record HasSigned (old new : List ℕ) (r : Renewal) (s : ℕ) : Type 0 where
+  by : Endorsement
+  is : signature_of r s ≡ Some by
+  good : IsGoodFor old new s by
 
-signed_by : (old new : List ℕ) (s : ℕ) (o : Option Endorsement) → IsSomeAnd o (IsGoodFor old new s) → HasSigned old new s
-signed_by old new s None good = absurd good
-signed_by old new s (Some e) good = record { key = e.key; signature = e.signature; known = good.key; verifies = good.verifies }
+signed_by : (old new : List ℕ) (r : Renewal) (s : ℕ) (o : Option Endorsement) → signature_of r s ≡ o → IsSomeAnd o (IsGoodFor old new s) → HasSigned old new r s
+signed_by old new r s None is good = absurd good
+signed_by old new r s (Some e) is good = record { by = e; is = is; good = good }
 
-has_signed : (old new : List ℕ) (r : Renewal) (s : ℕ) → Renews old new r → s < n_of old → is_kept old new s ≡ false → HasSigned old new s
-has_signed old new r s renews inside other = signed_by old new s (signature_of r s) ((renews.slots.signed s inside).signed other)
-
--- .. and so told it
-told_of : (old new : List ℕ) (words : Words) (s : ℕ) (begun : List (List ℕ)) → SignsAlone words s begun → AreOwn words s begun (slot_keys old s) → (signed : HasSigned old new s)
-    → IsTold (words (chain_id_of old)) (Endorsed (endorsement_text (stating (chain_id_of old) s (slot_keys new s)) signed.key signed.signature))
-told_of old new words s begun alone own signed = alone old own (slot_keys new s) signed.key signed.signature signed.known signed.verifies
+has_signed : (old new : List ℕ) (r : Renewal) (s : ℕ) → Renews old new r → s < n_of old → is_kept old new s ≡ false → HasSigned old new r s
+has_signed old new r s renews inside other = signed_by old new r s (signature_of r s) refl ((renews.slots.signed s inside).signed other)
 
 -- ---- through a lineage
 
-own_next : (old new : List ℕ) (r : Renewal) (words : Words) (s : ℕ) (begun : List (List ℕ)) → Renews old new r → s < n_of old → SignsAlone words s begun
+own_next : (old new : List ℕ) (r : Renewal) (words : Words) (s : ℕ) (begun : List (List ℕ)) → Renews old new r → s < n_of old → SignedAlone words s begun old new r
     → AreOwn words s begun (slot_keys old s) → AreOwn words s begun (slot_keys new s)
 own_next old new r words s begun renews inside alone own =
     let as_many : keys_of new s ≡ keys_of old s = renews.slots.shape.counts s inside in
@@ -81,16 +75,16 @@ own_next old new r words s begun renews inside alone own =
       | inl kept ↦ subst (AreOwn words s begun) (sym (ap (keys_upto new s) as_many ∙ kept_keys old new s (keys_of old s) kept)) own
       | inr other ↦
           let signed = has_signed old new r s renews inside other in
-          inr (record { chain = chain_id_of old; key = signed.key; signature = signed.signature; told = told_of old new words s begun alone own signed })
+          inr (record { chain = chain_id_of old; key = signed.by.key; signature = signed.by.signature; told = alone own signed.by signed.is signed.good })
     ]
 
-own_through : (first : List ℕ) (later : List Next) (words : Words) (s : ℕ) (begun : List (List ℕ)) → AreRenewed first later → s < n_of first → SignsAlone words s begun
+own_through : (first : List ℕ) (later : List Next) (words : Words) (s : ℕ) (begun : List (List ℕ)) → AreRenewed first later → s < n_of first → SignedAloneThrough words s begun first later
     → AreOwn words s begun (slot_keys first s) → AreOwn words s begun (slot_keys (last_of first later) s)
 own_through first [] words s begun are below alone own = own
 own_through first (next ∷ later) words s begun are below alone own =
     let size = are.0.renews.slots.shape.one_size.size in
     let inside : s < n_of next.file = omega (arith, size) in
-    own_through next.file later words s begun are.1 inside alone (own_next first next.file next.renewal words s begun are.0.renews below alone own)
+    own_through next.file later words s begun are.1 inside alone.1 (own_next first next.file next.renewal words s begun are.0.renews below alone.0 own)
 
 pub its_own : ItsSlotIsItsOwn
 its_own first later words s are below alone = own_through first later words s (slot_keys first s) are below alone (inl refl)
@@ -128,16 +122,16 @@ abbrev keys_in : NextKeys → List (List ℕ)
 keys_in v = v.keys
 
 pub same_next : ItsNextKeysAreTheSame
-same_next old new other r q words s begun are alone own is too renews renews_too inside here there =
+same_next old new other r q words s begun are own alone alone_too is too renews renews_too inside here there =
     let one = has_signed old new r s renews inside here in
     let two = has_signed old other q s renews_too inside there in
     let size = renews.slots.shape.one_size.size in
     let size_too = renews_too.slots.shape.one_size.size in
     let journal = are.happened (chain_id_of old) in
-    let texts = one_endorsement_is_told journal.first (words (chain_id_of old)) _ _ journal.history (told_of old new words s begun alone own one) (told_of old other words s begun alone own two) in
+    let texts = one_endorsement_is_told journal.first (words (chain_id_of old)) _ _ journal.history (alone own one.by one.is one.good) (alone_too own two.by two.is two.good) in
     let text = next_keys_text (slot_statement (chain_id_of old) new s) in
     let text_too = next_keys_text (slot_statement (chain_id_of old) other s) in
-    let same : text ≡ text_too = same_front text text_too one.key two.key one.signature two.signature (one.verifies.long ∙ sym two.verifies.long) texts in
+    let same : text ≡ text_too = same_front text text_too one.by.key two.by.key one.by.signature two.by.signature (one.good.verifies.long ∙ sym two.good.verifies.long) texts in
     let stated = may_be_stated old new s is (omega (arith, size)) in
     let stated_too = may_be_stated old other s too (omega (arith, size_too)) in
     ap keys_in (one_spelling text (slot_statement (chain_id_of old) new s) (slot_statement (chain_id_of old) other s) (record { parts = stated; text = refl }) (record { parts = stated_too; text = same }))

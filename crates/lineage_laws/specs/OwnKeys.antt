@@ -1,11 +1,12 @@
 -- The keys of a replica whose words say what it signed for, through committees of which each renews the one before it.
-use Rattle.std.specs.Prelude.{◌≡◌, ◌⊎◌, ◌<◌, ℕ, false, List}
-use Rattle.blocks.specs.Committees.{IsCommittee, n_of, keys_of}
+use Rattle.std.specs.Prelude.{◌≡◌, ◌⊎◌, ◌<◌, ℕ, false, List, [], ◌∷◌, Some}
+use Rattle.blocks.specs.Committees.{IsCommittee, n_of}
 use Rattle.blocks.specs.Genesis.{chain_id_of}
-use Rattle.next_keys.specs.Endorsements.{IsSigned, endorsement_text, statement_in}
+use Rattle.certificates.specs.declared.certificate.Endorsement.{Endorsement}
+use Rattle.next_keys.specs.Endorsements.{endorsement_text, statement_in}
 use Rattle.next_keys.specs.NextKeys.{chain_in, next_keys_text}
 use Rattle.renewals.specs.Renewals.{Renewal}
-use Rattle.renewals.specs.Renewing.{Renews}
+use Rattle.renewals.specs.Renewing.{IsGoodFor, Renews, signature_of}
 use Rattle.renewals.specs.Slots.{is_kept, slot_keys}
 use Rattle.told_words.specs.Histories.{Event, IsHistory, IsTold, Moment}
 use Rattle.told_words.specs.Words.{Endorsed}
@@ -51,14 +52,21 @@ pub record IsToldNext (words : Words) (replica : ℕ) (keys : List (List ℕ)) :
 abbrev pub AreOwn : Words → ℕ → (begun keys : List (List ℕ)) → Type 0
 AreOwn words replica begun keys = (keys ≡ begun) ⊎ IsToldNext words replica keys
 
--- nobody else signs with its own keys: of each committee in which it has its own keys, each statement of next keys on which a signature
--- verifies under one of them is one that it told in the chain of that committee
-abbrev pub SignsAlone : Words → ℕ → List (List ℕ) → Type 0
-SignsAlone words replica begun =
-    (committee : List ℕ) → AreOwn words replica begun (slot_keys committee replica)
-    → (keys : List (List ℕ)) (key : ℕ) (signature : List ℕ)
-    → key < keys_of committee replica → IsSigned committee replica key (stating (chain_id_of committee) replica keys) signature
-    → IsTold (words (chain_id_of committee)) (Endorsed (endorsement_text (stating (chain_id_of committee) replica keys) key signature))
+-- the signature that a renewal has of it, if that is good for its slot, is one that it told in the chain of the old committee
+abbrev pub IsToldSignature : Words → ℕ → (old new : List ℕ) → Renewal → Type 0
+IsToldSignature words replica old new r =
+    (e : Endorsement) → signature_of r replica ≡ Some e → IsGoodFor old new replica e
+    → IsTold (words (chain_id_of old)) (Endorsed (endorsement_text (stating (chain_id_of old) replica (slot_keys new replica)) e.key e.signature))
+
+-- nobody else signed with its own keys in this renewal of a committee
+abbrev pub SignedAlone : Words → ℕ → List (List ℕ) → (old new : List ℕ) → Renewal → Type 0
+SignedAlone words replica begun old new r = AreOwn words replica begun (slot_keys old replica) → IsToldSignature words replica old new r
+
+-- .. nor in any of these
+abbrev pub SignedAloneThrough : Words → ℕ → List (List ℕ) → List ℕ → List Next → Type 0
+SignedAloneThrough words replica begun first [] = Unit {0}
+SignedAloneThrough words replica begun first (next ∷ later) =
+    SignedAlone words replica begun first next.file next.renewal × SignedAloneThrough words replica begun next.file later
 
 -- ---- the laws
 
@@ -66,14 +74,15 @@ SignsAlone words replica begun =
 abbrev pub ItsSlotIsItsOwn : Type 0
 ItsSlotIsItsOwn =
     (first : List ℕ) (later : List Next) (words : Words) (replica : ℕ)
-    → AreRenewed first later → replica < n_of first → SignsAlone words replica (slot_keys first replica)
+    → AreRenewed first later → replica < n_of first → SignedAloneThrough words replica (slot_keys first replica) first later
     → AreOwn words replica (slot_keys first replica) (slot_keys (last_of first later) replica)
 
--- whichever committees renew one in which it has its own keys, all in which its slot is new have the same keys there
+-- two committees that renew one in which it has its own keys have the same keys in its slot, if that is new in both
 abbrev pub ItsNextKeysAreTheSame : Type 0
 ItsNextKeysAreTheSame =
     (old new other : List ℕ) (r q : Renewal) (words : Words) (replica : ℕ) (begun : List (List ℕ))
-    → AreWords words → SignsAlone words replica begun → AreOwn words replica begun (slot_keys old replica)
+    → AreWords words → AreOwn words replica begun (slot_keys old replica)
+    → SignedAlone words replica begun old new r → SignedAlone words replica begun old other q
     → IsCommittee new → IsCommittee other → Renews old new r → Renews old other q → replica < n_of old
     → is_kept old new replica ≡ false → is_kept old other replica ≡ false
     → slot_keys new replica ≡ slot_keys other replica

@@ -6,7 +6,7 @@ ghost use Rattle.signer_command.specs.Approved.{IsApprovable, first_payload};
 
 use crate::fitness::Unfit;
 use crate::lineage::Next;
-use crate::making::Maker;
+use crate::making::{Maker, WordFault};
 use crate::marks::put_down;
 use crate::over::{fault_of_words, first_payload, payload_of, ready_for};
 use crate::pool::Start;
@@ -23,7 +23,7 @@ use std::sync::atomic::{AtomicBool, Ordering};
 use std::sync::{Mutex, Wait};
 use std::thread::Threads;
 use streams::Sink;
-use told_words::{GoneOver, WordError};
+use told_words::GoneOver;
 
 /// The file of the committee that may come next, the replica's folder, and what is ready there for the next chain.
 #[derive(Drop)]
@@ -79,20 +79,16 @@ impl<T: Wait + Files<File = File>, S: Sink> Home<'_, T, S> {
             file: Sha256::digest(file).into(),
             handover: *handover,
         };
-        let chain = self.successor.committee.chain();
-        let mut words = match self.lineage().words_of(&chain) {
-            Ok(words) => words,
-            Err(fault) => return Err(fault_of_words(fault)),
-        };
-        match words.go_over(word) {
+        match self.maker.go_over(word) {
             Ok(()) => Ok(()),
-            Err(WordError::Memory) => Err(OverFault::Memory),
-            Err(_) => {
+            Err(WordFault::Memory) => Err(OverFault::Memory),
+            Err(WordFault::Unsure) => {
                 self.is_unsure.store(true, Ordering::SeqCst);
                 self.successor.notes.put_down_failure();
                 self.successor.notes.tell(b"stopped over\n");
                 Err(OverFault::Stopped)
             }
+            Err(_) => Err(OverFault::Stopped),
         }
     }
 }

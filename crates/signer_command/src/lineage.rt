@@ -11,6 +11,7 @@ use crate::outrunning::{boundary_of, endorsement_outruns};
 use crate::program::{Host, disk_fault};
 use crate::words::Words;
 use blocks::{CommitteeView, Id};
+use key_files::KeyFile;
 use key_index_store::{IndexError, IndexStore};
 use lineage_folder::{KeySet, LineageFault, LineageFolder, Standing};
 use replica_command::{ReplicaFault, ReplicaFile, ReplicaFolder};

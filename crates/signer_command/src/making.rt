@@ -10,14 +10,15 @@ use crate::pace::tick;
 use crate::pool::Start;
 use crate::seeds::{public_keys_at, seeds_at};
 use crate::stay::Room;
-use blocks::CommitteeView;
+use blocks::{CommitteeView, Id};
 use key_files::SystemSeeds;
 use key_sets::{Behind, Growth, Host, SetFault, grow_all, make_gently};
 use lineage_folder::{KeySet, LineageFault, LineageFolder};
 use lms_tree::{PublicKey, SigningTree};
-use next_keys::{check_endorsement, write_next_keys};
+use next_keys::{bound_id, check_endorsement, write_next_keys};
 use safe_files::is_nothing_at;
 use signing_service::{NextFault, NextKeys};
+use stable_log::FileDisk;
 use std::alloc::{AllocError, Global};
 use std::fs::{File, Files};
 use std::random::RandomSource;
@@ -26,7 +27,7 @@ use std::thread;
 use std::thread::Threads;
 use std::time::{Clock, Duration};
 use streams::Sink;
-use told_words::WordError;
+use told_words::{GoneOver, WordError, WordStore};
 use wire::MOST_KEYS;
 
 /// How long the thread pauses behind each four one-time keys, of which a key has 1,024: a few times as long as it computes.
@@ -37,6 +38,41 @@ const NOT_MADE: &[u8] = b"next keys not made\n";
 
 /// .. and that those can't be read that were signed for, or which they are.
 const STOPPED: &[u8] = b"stopped next\n";
+
+/// Why a word was not stored.
+#[derive(Clone, Copy)]
+pub(crate) enum WordFault {
+    /// Memory was refused.
+    Memory,
+    /// What the words say can't be read, or it is another word: nothing was written.
+    Unreadable,
+    /// The signer has gone over, and endorses nothing behind that: nothing was written.
+    Gone,
+    /// The disk failed: the word may be stored or not.
+    Unsure,
+}
+
+impl WordFault {
+    fn of(refusal: WordError) -> WordFault {
+        match refusal {
+            WordError::Memory => WordFault::Memory,
+            WordError::Gone => WordFault::Gone,
+            WordError::Device | WordError::Stopped => WordFault::Unsure,
+            _ => WordFault::Unreadable,
+        }
+    }
+}
+
+impl From<AllocError> for WordFault {
+    ghost use Rattle.std.specs.Prelude.{◌≡◌};
+    ghost use Rattle.signer_command.specs.declared.making.WordFault.TheVariants.{Memory};
+
+    ghost from_gives = { λ _ fault. fault ≡ Memory };
+
+    fn from(_: AllocError) -> Self {
+        WordFault::Memory
+    }
+}
 
 /// The replica's next keys behind the chain of a stay, and what it said of them.
 #[derive(Drop)]
@@ -127,10 +163,14 @@ impl<'a, T: Wait + Files<File = File>, S: Sink> Maker<'a, T, S> {
         keys.statement(self.alloc)
     }
 
-    /// Says this endorsement for good, unless another was said before. Answers the one that is said.
+    /// Says this endorsement for good, unless another was said before. Answers the one that is said. Nothing is said of one that is not
+    /// good.
     pub fn endorse(&self, endorsement: &[u8]) -> Result<Vec<u8>, NextFault>
         ensures { IfOk result (λ said. IsGoodEndorsement self.now.committee.now said.items) }
     {
+        if check_endorsement(self.committee, endorsement).is_err() {
+            return Err(NextFault::Stopped);
+        }
         let said = self.store(endorsement)?;
         match self.as_good(said)? {
             Some(said) => Ok(said),
@@ -146,16 +186,18 @@ impl<'a, T: Wait + Files<File = File>, S: Sink> Maker<'a, T, S> {
             return Ok(said);
         }
         let copy = copy_of(self.alloc, endorsement)?;
-        let said = copy_of(self.alloc, endorsement)?;
-        match self.store_word(endorsement) {
-            Ok(()) => {
-                keys.set_said(said);
-                Ok(copy)
+        match self.say_endorsed(endorsement) {
+            Ok(said) => {
+                keys.set_said(copy_of(self.alloc, &said)?);
+                Ok(said)
             }
-            Err(NextFault::Memory) => Err(NextFault::Memory),
-            Err(_) => {
+            Err(WordFault::Memory) => Err(NextFault::Memory),
+            // It has gone over meanwhile: the next call names the chain that was left.
+            Err(WordFault::Gone) => Err(NextFault::Making),
+            Err(WordFault::Unreadable) => Err(NextFault::Stopped),
+            Err(WordFault::Unsure) => {
                 // It may be stored or not: it is told to nobody, and no other one is said.
-                *keys = Keys::Stopped(Some(said));
+                *keys = Keys::Stopped(Some(copy));
                 let _ = self.notes.put_down_failure();
                 self.notes.tell(STOPPED);
                 Err(NextFault::Stopped)
@@ -163,16 +205,37 @@ impl<'a, T: Wait + Files<File = File>, S: Sink> Maker<'a, T, S> {
         }
     }
 
-    fn store_word(&self, endorsement: &[u8]) -> Result<(), NextFault> {
-        let mut words = match self.folder.words_of(&self.committee.chain()) {
-            Ok(words) => words,
-            Err(LineageFault::Memory) => return Err(NextFault::Memory),
-            Err(_) => return Err(NextFault::Stopped),
-        };
+    // What the words say that it endorsed, which is this where they said nothing of that. Only under the lock.
+    fn say_endorsed(&self, endorsement: &[u8]) -> Result<Vec<u8>, WordFault> {
+        let mut words = self.words()?;
+        if let Some(said) = words.endorsed() {
+            return Ok(copy_of(self.alloc, said)?);
+        }
+        let copy = copy_of(self.alloc, endorsement)?;
         match words.endorse(endorsement) {
+            Ok(()) => Ok(copy),
+            Err(refusal) => Err(WordFault::of(refusal)),
+        }
+    }
+
+    /// Stores the word that the signer goes over. Both words of a chain are stored under one lock: each opens the journal of words, and
+    /// writes behind what it finds there.
+    pub fn go_over(&self, word: GoneOver) -> Result<(), WordFault> {
+        let _keys = self.keys.lock(self.rt);
+        let mut words = self.words()?;
+        match words.go_over(word) {
             Ok(()) => Ok(()),
-            Err(WordError::Memory) => Err(NextFault::Memory),
-            Err(_) => Err(NextFault::Stopped),
+            Err(refusal) => Err(WordFault::of(refusal)),
+        }
+    }
+
+    // The words of the chain. Only under the lock.
+    fn words(&self) -> Result<WordStore<FileDisk>, WordFault> {
+        match self.folder.words_of(&self.committee.chain()) {
+            Ok(words) => Ok(words),
+            Err(LineageFault::Memory) => Err(WordFault::Memory),
+            Err(LineageFault::Device) => Err(WordFault::Unsure),
+            Err(_) => Err(WordFault::Unreadable),
         }
     }
 
@@ -209,15 +272,18 @@ impl<T: Threads + Wait + Clock + RandomSource + Files<File = File>, S: Sink> Mak
     }
 
     fn try_make(&self) -> Result<(), AllocError> {
+        let place = self.folder.keys_at(KeySet::Behind(self.committee.chain()))?;
+        if self.are_known() {
+            return self.compute(&place, self.count());
+        }
         let said = match self.said_before() {
             Ok(said) => said,
-            Err(LineageFault::Memory) => return Err(AllocError),
-            Err(_) => {
-                self.stop(None, STOPPED);
+            Err(WordFault::Memory) => return Err(AllocError),
+            Err(fault) => {
+                self.stop_unread(fault);
                 return Ok(());
             }
         };
-        let place = self.folder.keys_at(KeySet::Behind(self.committee.chain()))?;
         match (is_nothing_at(self.rt, &place), said) {
             (Ok(true), None) => self.make_anew(&place),
             (Ok(false), said) => self.find(&place, said),
@@ -228,13 +294,29 @@ impl<T: Threads + Wait + Clock + RandomSource + Files<File = File>, S: Sink> Mak
         }
     }
 
+    // Whether they are there, and memory was refused where they were computed.
+    fn are_known(&self) -> bool {
+        let keys = self.keys.lock(self.rt);
+        matches!(&*keys, Keys::There(_))
+    }
+
     // What was said of them before this stay.
-    fn said_before(&self) -> Result<Option<Vec<u8>>, LineageFault> {
-        let words = self.folder.words_of(&self.committee.chain())?;
+    fn said_before(&self) -> Result<Option<Vec<u8>>, WordFault> {
+        let _keys = self.keys.lock(self.rt);
+        let words = self.words()?;
         match words.endorsed() {
             Some(said) => Ok(Some(copy_of(self.alloc, said)?)),
             None => Ok(None),
         }
+    }
+
+    // It is not known what was said.
+    fn stop_unread(&self, fault: WordFault) {
+        if let WordFault::Unsure = fault {
+            let _ = self.notes.put_down_failure();
+        }
+        self.set(Keys::Unread);
+        self.notes.tell(STOPPED);
     }
 
     fn growth(&self) -> Growth<'_, T> {
@@ -305,6 +387,9 @@ impl<T: Threads + Wait + Clock + RandomSource + Files<File = File>, S: Sink> Mak
             return Ok(None);
         }
         let chain = self.committee.chain();
+        if !are_bound(&chain, self.replica, keys) {
+            return Ok(None);
+        }
         let statement = write_next_keys(self.alloc, &chain, self.replica, keys)?;
         Ok(Some(statement))
     }
@@ -345,6 +430,18 @@ impl<T: Threads + Wait + Clock + RandomSource + Files<File = File>, S: Sink> Mak
         }
         Ok(())
     }
+}
+
+// Whether each of these keys has the id that is bound to its place.
+fn are_bound(chain: &Id, replica: u16, keys: &[PublicKey]) -> bool {
+    let mut k = 0;
+    for key in keys {
+        if key.key_id != bound_id(chain, replica, k) {
+            return false;
+        }
+        k = k.saturating_add(1);
+    }
+    true
 }
 
 // Whether an endorsement, if there is one, is of this statement.

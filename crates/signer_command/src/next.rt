@@ -15,6 +15,8 @@ pub(crate) enum Keys {
     Making,
     /// They can't be read or made, or are not the ones that were signed for, by this endorsement, if one was said.
     Stopped(Option<Vec<u8>>),
+    /// Whether some were signed for can't be read.
+    Unread,
     /// They are there.
     There(Made),
 }
@@ -34,7 +36,7 @@ impl Keys {
     pub fn progress(&self) -> NextKeys {
         match self {
             Keys::Making => NextKeys::Making,
-            Keys::Stopped(_) => NextKeys::Stopped,
+            Keys::Stopped(_) | Keys::Unread => NextKeys::Stopped,
             Keys::There(made) if made.said.is_some() => NextKeys::Endorsed,
             Keys::There(_) => NextKeys::Made,
         }
@@ -44,6 +46,7 @@ impl Keys {
     pub fn signed_for(&self, after: &CommitteeView, replica: u16) -> Result<bool, NextFault> {
         match self {
             Keys::Making => Err(NextFault::Making),
+            Keys::Unread => Err(NextFault::Stopped),
             Keys::Stopped(None) => Ok(false),
             Keys::Stopped(Some(said)) if endorses(said, after, replica) => Err(NextFault::Stopped),
             Keys::Stopped(Some(_)) => Ok(false),
@@ -58,7 +61,7 @@ impl Keys {
     pub fn said(&self, alloc: Global) -> Result<Option<Vec<u8>>, NextFault> {
         match self {
             Keys::Making => Err(NextFault::Making),
-            Keys::Stopped(_) => Err(NextFault::Stopped),
+            Keys::Stopped(_) | Keys::Unread => Err(NextFault::Stopped),
             Keys::There(made) => match &made.said {
                 Some(said) => Ok(Some(said.to_vec(alloc)?)),
                 None => Ok(None),
@@ -69,7 +72,7 @@ impl Keys {
     pub fn statement(&self, alloc: Global) -> Result<Vec<u8>, NextFault> {
         match self {
             Keys::Making => Err(NextFault::Making),
-            Keys::Stopped(_) => Err(NextFault::Stopped),
+            Keys::Stopped(_) | Keys::Unread => Err(NextFault::Stopped),
             Keys::There(made) => Ok(made.statement.to_vec(alloc)?),
         }
     }

@@ -31,7 +31,7 @@ pub(crate) fn endorsement_outruns(committee: &CommitteeView, bytes: &[u8], bound
 fn is_from(endorsement: &EndorsementView, boundary: u32) -> bool
     ensures { IsTrue result ↔ boundary ≤ index_of endorsement.now }
 {
-    let index =
-        u64::from(INDICES) * u64::from(endorsement.key()) + u64::from(u32_at(endorsement.signature(), 0));
+    let index = u64::from(INDICES) * u64::from(endorsement.key())
+        + u64::from(u32_at(endorsement.signature(), 0));
     u64::from(boundary) <= index
 }

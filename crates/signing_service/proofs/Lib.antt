@@ -6,3 +6,4 @@ pub mod Counted
 pub mod Results
 pub mod Settled
 pub mod SourceLines
+pub mod ShortNames

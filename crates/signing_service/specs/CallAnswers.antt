@@ -22,7 +22,6 @@ use Rattle.replica_core.specs.Marks.{HasNoMarkedIn, IsFirstMarkedIn}
 use Rattle.vote_desk.specs.SomeDesk.{IsDeskOf, SomeDesk, SomeDeskMoves, TimesOut}
 use Rattle.vote_desk.specs.Votes.{IsVoteFound, RefusesVoteIn}
 use Rattle.vote_desk.specs.declared.desk.TheConstants.{MOST_FRAMES_AT_ONCE}
-use Rattle.vote_desk.specs.declared.desk_error.DeskError.{DeskError}
 use Rattle.vote_desk.specs.declared.desk_error.DeskError.TheVariants as desk
 use Rattle.vote_desk.specs.declared.parts.DeskStatus.{DeskStatus}
 use Rattle.vote_desk.specs.declared.reply.Answer.TheVariants.{Voted}

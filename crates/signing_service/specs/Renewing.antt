@@ -6,12 +6,11 @@ use Rattle.blocks.specs.Committees.{IsCommittee}
 use Rattle.blocks.specs.CommitteeReading.{committee_in}
 use Rattle.blocks.specs.Weights.{total_of}
 use Rattle.handover.specs.Handovers.{handover_payload}
-use Rattle.renewals.specs.RenewalReading.{form_refusal_number, renewal_in}
+use Rattle.renewals.specs.RenewalReading.{form_refusal_name, form_refusal_number, renewal_in}
 use Rattle.renewals.specs.RenewalRefusals.{IsRenewalRefusal, renewal_refusal_name, renewal_refusal_number, slot_refused}
 use Rattle.renewals.specs.Renewals.{Renewal}
 use Rattle.renewals.specs.Renewing.{Renews}
 use Rattle.renewals.specs.Slots.{new_weight}
-use Rattle.renewals.specs.declared.format.RenewalFormRefusal.{RenewalFormRefusal}
 use Rattle.renewals.specs.declared.format.RenewalFormRefusal.TheVariants as form
 use Rattle.renewals.specs.declared.judging.RenewalRefusal.{RenewalRefusal}
 use Rattle.signer_answers.specs.Approvals.{Telling}

@@ -165,6 +165,7 @@ fn put_refused(body: &mut Rope, refusal: RenewalRefusal)
     put(body, b"\n");
 }
 
+#[tactic(auto, using(crate::proofs::ShortNames::name_is_short))]
 fn name_of(refusal: RenewalRefusal) -> &'static [u8]
     ensures name { result.now ≡ renewal_refusal_name refusal }
     ensures short { length result.now ≤ 20 }
