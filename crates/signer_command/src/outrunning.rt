@@ -1,18 +1,20 @@
 //! An endorsement that is newer than the index store of the keys that signed it: put back, the store would give out a one-time key that
 //! signed already.
 
-ghost use Rattle.std.specs.Prelude.{◌≡◌, ◌↔◌, ◌≤◌, IsTrue, false};
-ghost use Rattle.signer_command.specs.Outrunning.{EndorsementOutruns, index_of};
+ghost use Rattle.std.specs.Prelude.{◌≡◌, ◌↔◌, ◌≤◌, ◌+◌, ◌*◌, IsTrue, false, length, min};
+ghost use Rattle.key_index_store.specs.declared.store.TheConstants.{INDICES};
+ghost use Rattle.signer_command.specs.Outrunning.{EndorsementOutruns};
+ghost use Rattle.wire.specs.Pieces.{number_at};
 
 use blocks::CommitteeView;
 use key_index_store::{INDICES, IndexStore};
-use next_keys::{EndorsementView, check_endorsement};
+use next_keys::check_endorsement;
 use stable_log::Disk;
 use wire::u32_at;
 
-/// The boundary of an index store that is not stopped: it gave no index from this one on.
+/// The boundary of an index store that is not stopped: it gave no index from this one on, of those that its keys have.
 pub(crate) fn boundary_of<D: Disk>(index: &IndexStore<D>) -> u32
-    ensures { index.now.stopped ≡ false → result ≡ index.now.mark }
+    ensures { index.now.stopped ≡ false → result ≡ min index.now.mark (INDICES * index.now.keys) }
 {
     INDICES * u32::from(index.keys()) - index.left()
 }
@@ -22,16 +24,16 @@ pub(crate) fn endorsement_outruns(committee: &CommitteeView, bytes: &[u8], bound
     ensures { IsTrue result ↔ EndorsementOutruns committee.now boundary bytes.now }
 {
     match check_endorsement(committee, bytes) {
-        Ok(endorsement) => is_from(&endorsement, boundary),
+        Ok(endorsement) => is_from(endorsement.key(), endorsement.signature(), boundary),
         Err(_) => false,
     }
 }
 
-// Whether the index of an endorsement is not below the boundary.
-fn is_from(endorsement: &EndorsementView, boundary: u32) -> bool
-    ensures { IsTrue result ↔ boundary ≤ index_of endorsement.now }
+// Whether the index of a signature by the key of this number is not below the boundary.
+fn is_from(key: u8, signature: &[u8], boundary: u32) -> bool
+    requires { 4 ≤ length signature.now }
+    ensures { IsTrue result ↔ boundary ≤ INDICES * key + number_at 4 signature.now 0 }
 {
-    let index = u64::from(INDICES) * u64::from(endorsement.key())
-        + u64::from(u32_at(endorsement.signature(), 0));
+    let index = u64::from(INDICES) * u64::from(key) + u64::from(u32_at(signature, 0));
     u64::from(boundary) <= index
 }
