@@ -1,0 +1,4 @@
+pub mod Endorsed
+pub mod Composing
+pub mod Refusals
+pub mod Making
