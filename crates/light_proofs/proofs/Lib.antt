@@ -1,0 +1,11 @@
+pub mod Wholes
+pub mod Headers
+pub mod LightTexts
+pub mod Reading
+pub mod Passed
+pub mod Climbing
+pub mod Quorums
+pub mod Whole
+pub mod Decided
+pub mod Voters
+pub mod Agreeing

@@ -1,0 +1,9 @@
+use Rattle.light_proofs.proofs.Agreeing.{agree}
+use Rattle.light_proofs.proofs.laws.light_proofs_agree.Goals as goal
+
+pub returns : goal.returns
+returns c = agree (record {
+  no_double_vote = c.no_run_has_a_double_vote.ensures;
+  no_lock_violation = c.no_run_has_a_lock_violation.ensures;
+  accuse = c.a_conflict_accuses_more_than_a_third.ensures.of_any;
+})
