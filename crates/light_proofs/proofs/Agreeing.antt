@@ -26,7 +26,7 @@ use Rattle.handover.proofs.Texts.{one_or_two}
 use Rattle.light_proofs.specs.LightProofs.{LightProof}
 use Rattle.light_proofs.specs.Proving.{certified_header, committed_place, handover_block, nth_header}
 use Rattle.light_proofs.specs.Histories.{AreHistories, IsCorrect}
-use Rattle.light_proofs.specs.LightProofLaws.{LightProofsAgree, ShowsChain}
+use Rattle.light_proofs.specs.LightProofLaws.{ALightProofAgreesWithEvidence, LightProofsAgree, ShowsChain}
 use Rattle.light_proofs.proofs.Climbing.{descend, under, under_first, under_nth}
 use Rattle.light_proofs.proofs.Decided.{AreThoseBelow, suppose}
 use Rattle.light_proofs.proofs.Voters.{all_stand, shown}
@@ -165,17 +165,20 @@ differ_not e faulty careless b d laws s m k differ =
     let most = s.few_faulty in
     omega arith)
 
+pub agree_with : Laws → ALightProofAgreesWithEvidence
+agree_with laws e faulty careless p b s is proves has k =
+    let g : Given e p = record { is = is; proves = proves; has = has } in
+    let chain = shows e faulty careless p s g in
+    let m = first_of_given e p chain.0 g chain.1 in
+    let block = handover_block p in
+    let there = (k.commit.chain_stands b k.place).known in
+    elim (one_or_two (header_id block) (header_id b)) [
+      | inl same ↦ s.apart block b (known_at e p 0 g (omega (arith, is.least))) there same
+      | inr apart ↦ absurd (differ_not e faulty careless block b laws s m k (λ same. apart (ap (λ (h : Header). header_id h) same)))
+    ]
+
 pub agree : Laws → LightProofsAgree
 agree laws e faulty careless p q s p_is p_proves p_has q_is q_proves q_has =
-    let gp : Given e p = record { is = p_is; proves = p_proves; has = p_has } in
-    let gq : Given e q = record { is = q_is; proves = q_proves; has = q_has } in
-    let sp = shows e faulty careless p s gp in
-    let sq = shows e faulty careless q s gq in
-    let m = first_of_given e p sp.0 gp sp.1 in
-    let k = first_of_given e q sq.0 gq sq.1 in
-    let bp = handover_block p in
-    let bq = handover_block q in
-    elim (one_or_two (header_id bp) (header_id bq)) [
-      | inl same ↦ s.apart bp bq (known_at e p 0 gp (omega (arith, p_is.least))) (known_at e q 0 gq (omega (arith, q_is.least))) same
-      | inr apart ↦ absurd (differ_not e faulty careless bp bq laws s m k (λ same. apart (ap (λ (h : Header). header_id h) same)))
-    ]
+    let g : Given e q = record { is = q_is; proves = q_proves; has = q_has } in
+    let chain = shows e faulty careless q s g in
+    agree_with laws e faulty careless p (handover_block q) s p_is p_proves p_has (first_of_given e q chain.0 g chain.1)

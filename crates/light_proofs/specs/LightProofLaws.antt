@@ -40,3 +40,12 @@ LightProofsAgree =
     → IsLightProof p → ProvesHandover e.committee p → HasLightProof e p
     → IsLightProof q → ProvesHandover e.committee q → HasLightProof e q
     → handover_block p ≡ handover_block q
+
+-- .. which is the first handover that evidence proves by all headers, if it proves one
+abbrev pub ALightProofAgreesWithEvidence : Type 0
+ALightProofAgreesWithEvidence =
+    (e : Evidence) (faulty careless : List ℕ) (p : LightProof) (b : Header)
+    → AreHistories e faulty careless
+    → IsLightProof p → ProvesHandover e.committee p → HasLightProof e p
+    → IsFirstCommitted (committee_of e.committee) e IsHandover b
+    → handover_block p ≡ b

@@ -13,7 +13,7 @@ use blocks::{CommitteeView, Header};
 use certificates::{Certificate, check_vote};
 use handover::is_handover;
 
-/// How many certificates a light proof has.
+// How many certificates a light proof has.
 const CERTIFICATES: u8 = 3;
 
 /// Why a light proof proves no handover, in the order of the tests. Headers, certificates and the votes of each are counted from 0.
