@@ -12,9 +12,9 @@ pub fn a_light_proof_is_a_first_handover()
 {}
 
 /// Light proofs that one committee passes are of one block, where the replicas that are not correct weigh a third at the most, and those
-/// that do not keep the rule of one handover a chain weigh less than a quorum. A correct replica goes through a run of the voting rules,
-/// had a good certificate of the parent of each block that it voted for, and signed each vote at hand in its run. No two different
-/// headers among those of the light proofs, of the runs and genesis may have one id. So it is of a light proof and the first handover that
+/// that are not correct or do not keep the rule of one handover a chain weigh less than a quorum together. A correct replica goes through
+/// a run of the voting rules, had a good certificate of the parent of each block that it voted for, and signed each vote at hand in its
+/// run. No two different headers among those of the light proofs, of the runs, of the evidence and genesis may have one id. So it is of a light proof and the first handover that
 /// evidence proves by all headers.
 pub fn light_proofs_agree()
     ensures two { LightProofsAgree }

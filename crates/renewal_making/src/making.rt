@@ -151,7 +151,7 @@ fn make_renewal(
 /// The next committee that these endorsements make of the old one, and the renewal by which it renews it: the old committee's file with
 /// the keys of each slot, the place of a replica, whose replica is endorsed here replaced by those that it endorsed, and all else as it
 /// was; and the endorsements' signatures in the order of the replicas. The endorsements may be in any order. Refused by the first of
-/// `MakingRefusal`'s tests that is not passed. It costs two signature checks for each endorsement.
+/// `MakingRefusal`'s tests that is not passed. It costs two signature checks for each endorsement at the most.
 pub fn compose(
     alloc: Global,
     old: &CommitteeView,
