@@ -154,6 +154,8 @@ class NextKeys:
         """Judges the first endorsement that is new here, and no more at a time, since that takes as long as a vote. Who sent one that
         is not good is not heard again: who follows the rules hands on what it found good."""
         for (sender, replica), said in list(self.unjudged.items()):
+            if replica == self.number and self.status.get("next") == "making":
+                continue  # its signer may have endorsed: it still looks for its keys
             del self.unjudged[sender, replica]
             known = self.own_as_told if replica == self.number else self.held.get(replica)
             if known is None and sender not in self.liars:
@@ -165,7 +167,7 @@ class NextKeys:
         is_good = answer.status == 200 or answer.line.endswith(" TooFew")
         if said.replica == self.number and (is_good or "NotMine" in answer.line):
             self.own_as_told = said
-            self.compare(is_good and self.status.get("next") not in ("making", "made"))  # its signer has not endorsed yet
+            self.compare(is_good and self.status.get("next") != "made")  # which is: its signer has not endorsed yet
         elif is_good:
             self.held[said.replica] = said
         elif answer.status == 422 and not answer.line.endswith(" Memory"):
