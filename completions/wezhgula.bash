@@ -15,7 +15,7 @@ _wezhgula_options() {
 }
 
 # The commands of hs_tool.
-_wezhgula_commands() { echo keygen committee replica audit weighted migrate export; }
+_wezhgula_commands() { echo keygen committee replica audit weighted migrate export renewal; }
 
 _wezhgula() {
     local program=${COMP_WORDS[0]##*/} word=${COMP_WORDS[COMP_CWORD]} words

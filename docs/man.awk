@@ -6,7 +6,7 @@
 # unpacked; `-v version=VERSION` of which version the page is, and `-v date=DATE` of when.
 
 BEGIN {
-    commands = "hs_tool-audit hs_tool-committee hs_tool-export hs_tool-folder hs_tool-keygen hs_tool-migrate hs_tool-replica hs_tool-weighted "
+    commands = "hs_tool-audit hs_tool-committee hs_tool-export hs_tool-folder hs_tool-keygen hs_tool-migrate hs_tool-renewal hs_tool-replica hs_tool-weighted "
     about["hs_tool"] = "make keys and committees, run a replica, audit logs"
     about["hs_tool-keygen"] = "make the files of a replica's key"
     about["hs_tool-committee"] = "write the file of a committee whose replicas count once"
@@ -16,6 +16,7 @@ BEGIN {
     about["hs_tool-audit"] = "say what logs prove, and which replicas they accuse"
     about["hs_tool-migrate"] = "carry a log over from before votes named their keys"
     about["hs_tool-export"] = "write the export of a log that a file has"
+    about["hs_tool-renewal"] = "make the next committee's file and its renewal of endorsements"
     about["hs_check"] = "judge whether a verdict proves that a replica broke a voting rule"
     about["hs_show"] = "show what stands in a file of a committee, a verdict or a log"
     about["hs_draw"] = "draw what logs show and whom they accuse"

@@ -95,6 +95,9 @@ hs_tool replica, hs_signer, hs_tool migrate | fault store 9 | An entry of the lo
 hs_tool export | fault store 9 | LOG is an index journal. | Name the replica's log.hsj.\n\
 hs_tool replica, hs_signer, hs_tool migrate | fault store 10 | The log's entries are not in a legal order, or are of another committee. | Compare COMMITTEE and DIR.\n\
 hs_tool replica, hs_signer | fault receipts | The votes that were given out are not those of the log. It can't come: it is a bug. | Stop the replica, keep its folder as it is, and report it.\n\
+hs_tool renewal | fault endorsement I N NAME | Endorsement I, counted from 0 among the words, is refused by the test of this number and name. | Get it anew from that replica's signer (POST /endorse); 6 Chain: it was made in another chain, so compare COMMITTEE.\n\
+hs_tool renewal | fault renewal 3 Twice J K | Endorsements J and K, counted from 0 among the words, are of one replica. | Leave one out; where they differ, ask that replica's operator.\n\
+hs_tool renewal | fault renewal 5 TooFew | The replicas that endorsed weigh less than a quorum. | Get the endorsements of more replicas.\n\
 hs_tool replica, hs_signer, hs_watch | fault listen | The address can't be listened on. | Put it right, or see which program listens there (ss -ltnp).\n\
 hs_signer, hs_watch | fault threads | A thread can't be made. | Look at the limits of processes and of memory.\n\
 hs_tool replica, hs_signer | voted N HEX | The replica voted for the block: entry N of its log, synced before this was told. Where the block came before, hs_signer tells the vote that it gave it then. | Send the vote on. Its bytes stay the replica's only vote in that view.\n\
@@ -233,6 +236,9 @@ hs_tool audit, hs_follow | handover V ID committed, N commits after it | The com
 hs_follow | follows view V id ID | By what the logs prove the old committee handed its ledger over to NEW, in block ID of view V. | Go on with NEW.\n\
 hs_follow | follows another view V id ID payload HEX | The old committee handed its ledger over to another file than NEW. | Get the file whose digest begins as the payload says, behind HSN1.\n\
 hs_follow | follows none | The logs prove no handover. | Get more logs, or later ones.\n\
+hs_tool renewal | slot S new | FILE has in slot S, a replica by its number, the keys that it endorsed. | Nothing.\n\
+hs_tool renewal | slot S kept | FILE has the keys of COMMITTEE in slot S, a replica by its number: no endorsement of it was given. | Nothing, or get its endorsement.\n\
+hs_tool renewal | renews PAYLOAD new S of W | FILE's committee renews COMMITTEE's by RENEWAL: its new slots weigh S of the whole weight W. A block that hands over to it has this payload. | Show both files to each signer (POST /successor).\n\
 hs_follow | slot S new | OLD's keys signed for the keys that NEW has in slot S, a replica by its number. | Nothing.\n\
 hs_follow | slot S kept | NEW has the keys of OLD in slot S, a replica by its number. | Nothing.\n\
 hs_follow | slot S by hand | NEW has other keys than OLD in slot S, a replica by its number, and by the renewal no key of OLD signed for them. | Ask that replica's operator whether the keys are theirs.\n\

@@ -5,3 +5,4 @@ pub mod KeyLines
 pub mod Keepings
 pub mod Noted
 pub mod Openings
+pub mod RenewedSlots

@@ -7,12 +7,13 @@ use Rattle.log_transfer.specs.declared.connector.Connector.{Ghosts as ConnectorG
 use Rattle.log_transfer.specs.declared.source_connector.ServerOrFile.{ServerOrFile}
 use Rattle.replica_lines.specs.declared.request.LineRequest.{LineRequest}
 use Rattle.tool_words.specs.declared.command.Command.{Command}
-use Rattle.tool_words.specs.declared.command.Command.TheVariants.{Usage, Keygen, NextKeys, Committee, Weighted, Replica, Audit, Migrate, Export}
+use Rattle.tool_words.specs.declared.command.Command.TheVariants.{Usage, Keygen, NextKeys, Committee, Weighted, Replica, Audit, Migrate, Export, Renewal}
 use Rattle.tool_commands.specs.AuditFiles.{HasStored}
 use Rattle.tool_commands.specs.Audits.{AreCulpritsPrinted, IsEnoughPrinted, IsTooLittlePrinted}
 use Rattle.tool_commands.specs.Lines.{IsChainPrinted, IsExportPrinted, IsKeyPrinted, IsMigrationPrinted, IsTextOfKeys, IsTextOfReplicas}
 use Rattle.tool_commands.specs.NextKeys.{AreNextKeysPrinted}
 use Rattle.tool_commands.specs.Notes.{TellsNotes}
+use Rattle.tool_commands.specs.Renewals.{IsRenewalPrinted}
 use Rattle.tool_commands.specs.Seeds.{IsSeedOf}
 use Rattle.tool_commands.specs.Stays.{AreReadOf, IsReplicaDone, IsStopPrinted}
 use Rattle.tool_commands.specs.StoredFiles.{StoredFile}
@@ -45,6 +46,7 @@ IsDone lent (Replica committee replica folder workers service) before after = Is
 IsDone lent (Audit committee folder sources tries wishes) before after = IsEnoughPrinted lent.connector wishes.strictness sources.items tries.count before after (HasStored lent.stored folder.now sources.items wishes.json)
 IsDone lent (Migrate old new committee) before after = IsMigrationPrinted lent.disk before after
 IsDone lent (Export log out) before after = IsExportPrinted before after
+IsDone lent (Renewal committee file renewal endorsements) before after = IsRenewalPrinted (length endorsements.items) before after
 
 -- .. of one that found culprits: it is an audit
 abbrev pub AreCulpritsFound : {D S F : Type 0} → Lent D S F → Command → (before after : Option (List ℕ)) → Type 0

@@ -10,6 +10,7 @@ pub mod NextKeys
 pub mod Notes
 pub mod Occupied
 pub mod OpenedSources
+pub mod Renewals
 pub mod Seeds
 pub mod SourceTries
 pub mod Stays

@@ -1,14 +1,17 @@
 //! Why the tool gives up, and the line that it prints then.
 
-ghost use Rattle.std.specs.Prelude.{◌≡◌, ◌↔◌, ◌++◌, codes, OnOk, OnErr};
+ghost use Rattle.std.specs.Prelude.{◌≡◌, ◌≢◌, ◌≤◌, ◌↔◌, ◌++◌, codes, OnOk, OnErr, length};
 ghost use Rattle.blocks.specs.Headers.{Header as HeaderValue};
 ghost use Rattle.blocks.specs.declared.committee.CommitteeRefusal.{CommitteeRefusal as CommitteeRefusalValue};
-ghost use Rattle.tool_commands.specs.FaultLines.{name_behind, own_line, store_fault_line};
+ghost use Rattle.tool_commands.specs.FaultLines.{endorsement_fault_line, endorsement_refusal_name, name_behind, own_line, store_fault_line, twice_fault_line};
+ghost use Rattle.tool_commands.specs.Renewals.{making_fault};
 
 use itoa::Buffer;
 use log_server::ServiceFault;
+use next_keys::EndorsementRefusal;
 use printed_lines::{Line, write_file_fault};
 use program_parts::{FaultLine, ProgramFault, SourceFault};
+use renewal_making::MakingRefusal;
 use replica_command::ReplicaFile;
 use source_audit::RunError;
 use streams::{Sink, write_all};
@@ -31,6 +34,12 @@ pub enum ToolFault<'a> {
     Receipts,
     /// The address can't be listened on.
     Listen,
+    /// The endorsement at this place, counted from 0, is refused so.
+    Endorsement(usize, EndorsementRefusal),
+    /// The endorsements at these places are of one replica.
+    Twice(usize, usize),
+    /// The replicas that endorsed weigh too little to renew the committee.
+    TooFew,
 }
 
 /// A file of a folder that a word gave.
@@ -92,6 +101,13 @@ impl FaultLine for ToolFault<'_> {
             ToolFault::Store(number) => write_all(out, store_fault(*number).as_bytes()),
             ToolFault::Receipts => write_all(out, b"fault receipts\n"),
             ToolFault::Listen => write_all(out, b"fault listen\n"),
+            ToolFault::Endorsement(place, refusal) => {
+                write_all(out, endorsement_fault(*place, *refusal).as_bytes())
+            }
+            ToolFault::Twice(earlier, later) => {
+                write_all(out, twice_fault(*earlier, *later).as_bytes())
+            }
+            ToolFault::TooFew => write_all(out, b"fault renewal 5 TooFew\n"),
         }
     }
 }
@@ -104,6 +120,70 @@ fn store_fault(number: u8) -> Line
     line.push(Buffer::new().format(number).as_bytes());
     line.push(b"\n");
     line
+}
+
+// The name of a refusal, as it is printed.
+fn refusal_name(refusal: EndorsementRefusal) -> &'static str
+    ensures name { result.now ≡ endorsement_refusal_name refusal }
+    ensures short { length result.now ≤ 9 }
+{
+    match refusal {
+        EndorsementRefusal::Short => "Short",
+        EndorsementRefusal::Magic => "Magic",
+        EndorsementRefusal::Count => "Count",
+        EndorsementRefusal::Length => "Length",
+        EndorsementRefusal::Key => "Key",
+        EndorsementRefusal::Chain => "Chain",
+        EndorsementRefusal::Replica => "Replica",
+        EndorsementRefusal::KeyCount => "KeyCount",
+        EndorsementRefusal::KeyId => "KeyId",
+        EndorsementRefusal::KeyNumber => "KeyNumber",
+        EndorsementRefusal::Signature => "Signature",
+    }
+}
+
+fn endorsement_fault(place: usize, refusal: EndorsementRefusal) -> Line
+    ensures { result ≡ endorsement_fault_line place refusal }
+{
+    let mut line = Line::new();
+    line.push(b"fault endorsement ");
+    line.push(Buffer::new().format(place).as_bytes());
+    line.push(b" ");
+    line.push(Buffer::new().format(refusal.number()).as_bytes());
+    line.push(b" ");
+    line.push(refusal_name(refusal).as_bytes());
+    line.push(b"\n");
+    line
+}
+
+fn twice_fault(earlier: usize, later: usize) -> Line
+    ensures { result ≡ twice_fault_line earlier later }
+{
+    let mut line = Line::new();
+    line.push(b"fault renewal 3 Twice ");
+    line.push(Buffer::new().format(earlier).as_bytes());
+    line.push(b" ");
+    line.push(Buffer::new().format(later).as_bytes());
+    line.push(b"\n");
+    line
+}
+
+/// Why no renewal was made.
+pub(crate) fn fault_of_making<'a>(refusal: MakingRefusal) -> Fault<'a>
+    ensures exact { result ≡ making_fault refusal }
+    ensures fault { result ≢ ProgramFault.Output }
+{
+    match refusal {
+        MakingRefusal::Memory => ProgramFault::Memory,
+        MakingRefusal::Endorsement(place, why) => {
+            ProgramFault::Own(ToolFault::Endorsement(place, why))
+        }
+        MakingRefusal::Twice(earlier, later) => {
+            ProgramFault::Own(ToolFault::Twice(earlier, later))
+        }
+        MakingRefusal::Committee(why) => ProgramFault::Committee(why),
+        MakingRefusal::TooFew => ProgramFault::Own(ToolFault::TooFew),
+    }
 }
 
 /// Why an audit gave no report.

@@ -14,6 +14,7 @@ mod keys_behind;
 mod migrate;
 mod occupied;
 mod progress;
+mod renewal;
 mod replica;
 mod report_file;
 mod seeds;

@@ -16,6 +16,7 @@ use crate::host::Host;
 use crate::keygen::keygen;
 use crate::keys_behind::next_keys;
 use crate::migrate::migrate_log;
+use crate::renewal::renewal;
 use crate::replica::replica;
 use crate::stored::{Extras, StoreFiles};
 use chain_dialing::ChainSource;
@@ -317,6 +318,15 @@ where
         }
         Command::Export { log, out: path } => {
             export_log(files, alloc, log, path, out)?;
+            Ok(Ended::Done)
+        }
+        Command::Renewal {
+            committee,
+            file,
+            renewal: path,
+            endorsements,
+        } => {
+            renewal(files, alloc, committee, file, path, endorsements, out)?;
             Ok(Ended::Done)
         }
     }

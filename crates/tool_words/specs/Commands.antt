@@ -8,7 +8,7 @@ use Rattle.tool_words.specs.declared.command.SeedWord.{SeedWord}
 use Rattle.tool_words.specs.declared.command.SeedWord.TheVariants.{Random}
 use Rattle.tool_words.specs.declared.command.WeightedReplica.{WeightedReplica}
 use Rattle.tool_words.specs.declared.command.Command.{Command}
-use Rattle.tool_words.specs.declared.command.Command.TheVariants.{Usage, NextKeys, Committee, Weighted}
+use Rattle.tool_words.specs.declared.command.Command.TheVariants.{Usage, NextKeys, Committee, Weighted, Renewal}
 
 -- a weight, and one to four keys
 pub record IsWeighted (r : WeightedReplica) : Type 0 where
@@ -16,10 +16,11 @@ pub record IsWeighted (r : WeightedReplica) : Type 0 where
   pub some : 1 ≤ length r.paths.items
   pub few : length r.paths.items ≤ 4
 
--- F of 1 to 10 has 3F + 1 keys, and 4 to 31 replicas have weights. Other numbers keep their bounds by their types
+-- F of 1 to 10 has 3F + 1 keys, 4 to 31 replicas have weights, and a renewal is made of 1 to 31 endorsements. Other numbers keep their bounds by their types
 abbrev pub HasItsCounts : Command → Type 0
 HasItsCounts (Committee f out keys) = (1 ≤ f) × (f ≤ 10) × (length keys.items ≡ 3 * f + 1)
 HasItsCounts (Weighted out replicas) = (4 ≤ length replicas.items) × (length replicas.items ≤ 31) × All IsWeighted replicas.items
+HasItsCounts (Renewal committee file renewal endorsements) = (1 ≤ length endorsements.items) × (length endorsements.items ≤ 31)
 HasItsCounts command = ⊤
 
 -- a number of keys, if a word says one

@@ -61,6 +61,13 @@ pub enum Command<'a> {
         log: &'a str,
         out: &'a str,
     },
+    /// `renewal COMMITTEE FILE RENEWAL ENDORSEMENT..`
+    Renewal {
+        committee: &'a str,
+        file: &'a str,
+        renewal: &'a str,
+        endorsements: Vec<&'a str>,
+    },
 }
 
 /// Where the seed of a key comes from.

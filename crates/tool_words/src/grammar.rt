@@ -12,6 +12,7 @@ pub(crate) fn parsed<'a>(alloc: Global, words: &'a [String]) -> Result<ArgMatche
     let grammar = with_audit(alloc, grammar)?;
     let grammar = with_migrate(alloc, grammar)?;
     let grammar = with_export(alloc, grammar)?;
+    let grammar = with_renewal(alloc, grammar)?;
     grammar.try_get_matches_from(words)
 }
 
@@ -118,4 +119,17 @@ fn with_export<'a>(alloc: Global, grammar: Grammar<'a>) -> Result<Grammar<'a>, A
         .arg(Arg::new(alloc, "LOG").required(true))?
         .arg(Arg::new(alloc, "OUT").required(true))?;
     grammar.subcommand(export)
+}
+
+fn with_renewal<'a>(alloc: Global, grammar: Grammar<'a>) -> Result<Grammar<'a>, AllocError> {
+    let endorsements = Arg::new(alloc, "ENDORSEMENT")
+        .required(true)
+        .num_args(1..)
+        .action(ArgAction::Append);
+    let renewal = Grammar::new(alloc, "renewal")
+        .arg(Arg::new(alloc, "COMMITTEE").required(true))?
+        .arg(Arg::new(alloc, "FILE").required(true))?
+        .arg(Arg::new(alloc, "RENEWAL").required(true))?
+        .arg(endorsements)?;
+    grammar.subcommand(renewal)
 }

@@ -78,6 +78,7 @@ fn command<'a>(alloc: Global, matches: &ArgMatches<'a>) -> Result<Command<'a>, W
         Some(("audit", given)) => audit(alloc, given),
         Some(("migrate", given)) => migrate(given),
         Some(("export", given)) => export(given),
+        Some(("renewal", given)) => renewal(alloc, given),
         _ => Err(WordsFault::Usage),
     }
 }
@@ -394,6 +395,33 @@ fn export<'a>(given: &ArgMatches<'a>) -> Result<Command<'a>, WordsFault>
         return Err(WordsFault::Usage);
     }
     Ok(Command::Export { log, out })
+}
+
+// Two files that are not one, and 1 to 31 endorsements.
+fn renewal<'a>(alloc: Global, given: &ArgMatches<'a>) -> Result<Command<'a>, WordsFault>
+    ensures asked { IfOk result (λ command. command ≢ Command.Usage) }
+    ensures counts { IfOk result HasItsCounts }
+{
+    let (Some(committee), Some(file), Some(renewal), Some(endorsements)) = (
+        given.get_str("COMMITTEE"),
+        given.get_str("FILE"),
+        given.get_str("RENEWAL"),
+        given.get_strs("ENDORSEMENT"),
+    ) else {
+        return Err(WordsFault::Usage);
+    };
+    if committee.is_empty() || file.is_empty() || renewal.is_empty() || file == renewal {
+        return Err(WordsFault::Usage);
+    }
+    if !(1..=31).contains(&endorsements.len()) || has_empty(endorsements) {
+        return Err(WordsFault::Usage);
+    }
+    Ok(Command::Renewal {
+        committee,
+        file,
+        renewal,
+        endorsements: endorsements.to_vec(alloc)?,
+    })
 }
 
 fn has_empty(words: &[&str]) -> bool {
