@@ -1,4 +1,4 @@
-use Rattle.std.proofs.Common.{List, ℕ, ap, length, subst, sym, ◌∙◌}
+use Rattle.std.proofs.Common.{ap, length, subst, sym, ◌∙◌}
 use Rattle.streams.specs.Streams.{Wrote}
 use Rattle.blocks.specs.Committees.{IsCommittee}
 use Rattle.renewal_making.specs.Endorsed.{texts_of}
