@@ -1,2 +1,3 @@
 pub mod NamingLaws
 pub mod FirstBytesLaws
+pub mod PieceLaws

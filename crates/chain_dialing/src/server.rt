@@ -1,6 +1,6 @@
 //! A server that is asked for the log of one chain.
 
-ghost use Rattle.std.specs.Prelude.{◌≡◌, IfOk, IsTrue, OnOk, Some};
+ghost use Rattle.std.specs.Prelude.{◌≡◌, false, true, IfOk, IsTrue, OnOk, Some};
 ghost use Rattle.log_format.specs.Requests.{request_text};
 ghost use Rattle.chain_request.specs.ChainRequests.{IsChainRequest, chain_request_text, of_chain};
 
@@ -18,6 +18,8 @@ use std::sync::atomic::{AtomicU8, Ordering};
 pub struct ChainServer<D> {
     dialer: D,
     chain: Id,
+    // Whether it is asked without the chain's name where it closes without a byte.
+    falls_back: bool,
     heard: AtomicU8,
 }
 
@@ -26,12 +28,36 @@ impl<D> ChainServer<D> {
     pub fn new(dialer: D, chain: Id) -> ChainServer<D>
         ensures dialer { result.dialer ≡ dialer }
         ensures chain { result.chain ≡ chain }
+        ensures falls_back { result.falls_back ≡ true }
     {
         ChainServer {
             dialer,
             chain,
+            falls_back: true,
             heard: AtomicU8::new(Heard::Nothing.code()),
         }
+    }
+
+    /// The same, but it is asked by the chain's name alone: a server that closes without a byte, as earlier versions do, and one that
+    /// goes over to another chain just then, gave nothing.
+    pub fn named_only(dialer: D, chain: Id) -> ChainServer<D>
+        ensures dialer { result.dialer ≡ dialer }
+        ensures chain { result.chain ≡ chain }
+        ensures falls_back { result.falls_back ≡ false }
+    {
+        ChainServer {
+            dialer,
+            chain,
+            falls_back: false,
+            heard: AtomicU8::new(Heard::Nothing.code()),
+        }
+    }
+
+    /// Whether it is asked without the chain's name where it closes without a byte.
+    pub(crate) fn falls_back(&self) -> bool
+        ensures { result ≡ self.now.falls_back }
+    {
+        self.falls_back
     }
 
     /// What was heard of it last.

@@ -1,6 +1,6 @@
 //! A stream to a server that is asked for the log of one chain.
 
-ghost use Rattle.std.specs.Prelude.{◌≡◌, ◌≢◌, ◌<◌, ◌≤◌, IfOk, None, length};
+ghost use Rattle.std.specs.Prelude.{◌≡◌, ◌≢◌, ◌<◌, ◌≤◌, false, IfOk, None, length};
 ghost use Rattle.std.specs.Io.KnownBytes.{IsAtEnd};
 ghost use Rattle.chain_dialing.specs.Naming.{AsksAgain, HandsOn, left_at, left_in, stage_behind, written_to};
 
@@ -118,9 +118,14 @@ impl<S: Read + Write + Drop> Connection<S> {
             → IsAtEnd (left_at self.new.stage (S.Read.remaining self.new.stream))) }
 
         ensures stage { self.old.stage ≢ Stage.Waiting → self.new.stage ≡ self.old.stage }
+
+        // A server that is asked by the chain's name alone is never asked again.
+        ensures named_only { server.now.falls_back ≡ false → self.new.stage ≡ Stage.Unnamed
+            → self.old.stage ≡ Stage.Unnamed }
     {
         let outcome = self.stream.read(buffer);
-        if self.stage == Stage::Waiting && gave_nothing(&outcome, buffer.len()) {
+        let is_silent = self.stage == Stage::Waiting && gave_nothing(&outcome, buffer.len());
+        if is_silent && server.falls_back() {
             return self.read_again(server, buffer);
         }
         if let Ok(n) = &outcome {

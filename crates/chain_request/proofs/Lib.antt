@@ -1,3 +1,4 @@
 pub mod ChainRequestBytes
 pub mod AskedLaws
 pub mod GatheringLaws
+pub mod StepRequestBytes

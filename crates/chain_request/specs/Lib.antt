@@ -1,3 +1,4 @@
 pub use Rattle.log_format.specs.Requests
 pub mod ChainRequests
 pub mod Gathering
+pub mod StepRequests
