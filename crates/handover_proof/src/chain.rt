@@ -70,7 +70,7 @@ fn chain_to(
 
 /// The chain of the least commit that has the block, but genesis and the lowest first, and the two blocks that commit it. Nothing
 /// where no commit has it.
-pub(crate) fn proving_blocks(
+pub fn proving_blocks(
     alloc: Global,
     chains: &Ancestry,
     commits: &[NamedHeader],

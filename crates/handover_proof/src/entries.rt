@@ -80,8 +80,8 @@ fn votes_on(
     Ok(votes)
 }
 
-// The certificate of a quorum's votes on the block. None where there is no quorum.
-fn certificate_on(
+/// The certificate of a quorum's votes on the block. None where there is no quorum. Callers judge what they make of it.
+pub fn certificate_on(
     alloc: Global,
     evidence: &Evidence,
     block: &NamedHeader,

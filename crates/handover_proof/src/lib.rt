@@ -7,4 +7,6 @@ mod entries;
 mod proof;
 mod texts;
 
+pub use chain::proving_blocks;
+pub use entries::certificate_on;
 pub use proof::{ProofFile, prove_handover};

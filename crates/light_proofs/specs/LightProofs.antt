@@ -13,6 +13,11 @@ pub record LightProof : Type 0 where
   pub second : Certificate
   pub third : Certificate
 
+-- 3 to 4,097 headers
+pub record HasNumber (headers : List Header) : Type 0 where
+  pub least : 3 ≤ length headers
+  pub most : length headers ≤ 4097
+
 -- a light proof that has bytes: of 3 to 4,097 headers
 pub record IsLightProof (p : LightProof) : Type 0 where
   pub least : 3 ≤ length p.headers

@@ -1,6 +1,6 @@
 //! Light proofs and their bytes.
 
-ghost use Rattle.std.specs.Prelude.{◌≡◌, ◌≢◌, ◌<◌, ◌⊎◌, ◌≤◌, ◌+◌, ◌*◌, ◌++◌, None, Some, Ok, Err, true, false, IfErr, IfOk, IsTrue, MatchOption, OnOk, length};
+ghost use Rattle.std.specs.Prelude.{◌≡◌, ◌≢◌, ◌<◌, ◌⊎◌, ◌≤◌, ◌+◌, ◌*◌, ◌++◌, None, Some, Ok, Err, true, false, IfErr, IfOk, IfSome, IsSome, IsTrue, MatchOption, OnOk, length, ◌↔◌};
 ghost use Rattle.std.specs.List.{All, flat_map};
 ghost use Rattle.wire.specs.Refusals.{first_of};
 ghost use Rattle.blocks.specs.HeaderReading.{header_at, header_in};
@@ -8,7 +8,7 @@ ghost use Rattle.blocks.specs.Headers.{IsHeader, header_text};
 ghost use Rattle.certificates.specs.CertificateReading.{certificate_in};
 ghost use Rattle.certificates.specs.Certificates.{IsCertificate};
 ghost use Rattle.light_proofs.specs.LightProofReading.{IsMeasured, bad_header, certificate_as, certificate_end, count_in, first_place, form_refusal_name, form_refusal_number, has_head, header_piece, headers_in, is_whole, light_proof_in, second_place, third_place};
-ghost use Rattle.light_proofs.specs.LightProofs.{LightProof as LightProofValue, IsLightProof, light_proof_text};
+ghost use Rattle.light_proofs.specs.LightProofs.{LightProof as LightProofValue, HasNumber, IsLightProof, light_proof_text};
 ghost use Rattle.light_proofs.specs.Places.{ArePlaces};
 ghost use Rattle.light_proofs.specs.declared.format.LightProofFormRefusal.TheVariants.{Memory};
 ghost use Rattle.light_proofs.specs.Proving.{handover_block, nth_certificate, nth_header};
@@ -27,6 +27,11 @@ pub const LEAST_NUMBER: u32 = 2;
 
 /// The greatest number of headers after the first: as many as a replica's log has entries.
 pub const MOST_NUMBER: u32 = 4096;
+
+// The least and the greatest number of headers.
+const LEAST_HEADERS: usize = LEAST_NUMBER as usize + 1;
+
+const MOST_HEADERS: usize = MOST_NUMBER as usize + 1;
 
 /// Why bytes are no light proof, in the order of the tests.
 #[derive(Clone, Copy, Debug, PartialEq, Eq)]
@@ -100,8 +105,8 @@ impl<T: Drop> From<AllocFailed<T>> for LightProofFormRefusal {
     }
 }
 
-/// Headers of 3 to 4,097 blocks, and certificates. Made by `LightProof::read` alone. Nothing of them is checked before
-/// `check_light_proof`.
+/// Headers of 3 to 4,097 blocks, and certificates. Made by `LightProof::read` and `LightProof::of` alone. Nothing of them is checked
+/// before `check_light_proof`.
 #[derive(Drop)]
 pub struct LightProof {
     headers: Vec<Header>,
@@ -248,6 +253,15 @@ fn headers_in(alloc: Global, bytes: &[u8], count: u16) -> Result<Vec<Header>, Li
     Ok(headers)
 }
 
+// Each header has bytes.
+fn spell_headers(headers: &[Header])
+    ensures { All IsHeader headers.now }
+{
+    for header in headers {
+        let _bytes = header.to_bytes();
+    }
+}
+
 // Adds each header to the text.
 fn put_headers(text: &mut Vec<u8>, headers: &[Header]) -> Result<(), AllocError>
     ensures { OnOk result (text.new.items ≡ text.old.items ++ flat_map header_text headers.now) }
@@ -274,6 +288,36 @@ fn certificate_in(alloc: Global, bytes: &[u8], c: u8) -> Result<Certificate, Lig
 }
 
 impl LightProof {
+    /// The light proof of these headers, the lowest first from the block that is to hand over, and of the certificates that are to be on the
+    /// last header but two, on the last but one, and on the last. None where the headers are not 3 to 4,097. Whether they are on one
+    /// another and the certificates on them is for `check_light_proof`.
+    pub fn of(
+        headers: Vec<Header>,
+        committed: Certificate,
+        second: Certificate,
+        third: Certificate,
+    ) -> Option<LightProof>
+        ensures found { IsSome result ↔ HasNumber headers.items }
+        ensures value { IfSome result (λ p. p ≡ record {
+          headers = headers.items;
+          committed = committed;
+          second = second;
+          third = third;
+        }) }
+    {
+        if headers.len() < LEAST_HEADERS || MOST_HEADERS < headers.len() {
+            return None;
+        }
+        // For the proof: each header has bytes.
+        spell_headers(&headers);
+        Some(LightProof {
+            headers,
+            committed,
+            second,
+            third,
+        })
+    }
+
     /// The light proof that the bytes spell: `HSH1`, the number of headers after the first (4 bytes at 4), 2 to 4,096, the headers
     /// (84 each from 8 on), and behind them the certificates of the last three headers, the lowest first; numbers with the highest
     /// byte first. Whether the headers are on one another and the certificates on them is for `check_light_proof`. Refused in this

@@ -1,0 +1,85 @@
+//! What comes next, from servers. What they give is judged before it is stored.
+
+use blocks::{CommitteeView, Id};
+use chain_dialing::{Fetched, fetch_piece};
+use chain_request::{StepPiece, StepRequest};
+use lineage_lines::{MOST_OF_A_LIGHT_PROOF, MOST_OF_A_RENEWAL};
+use lineage_steps::{StepFiles, StepRefusal, check_step};
+use log_transfer::{Dial, TcpDialer};
+use program_parts::{MOST_OF_A_SHORT_FILE, Origin, SourceWord};
+use std::alloc::{AllocError, Global};
+use std::net::{Net, TcpStream};
+use std::time::Clock;
+
+// A piece of the step from this chain, of so many bytes at most.
+fn ask<D: Dial>(
+    alloc: Global,
+    dialer: &D,
+    chain: Id,
+    piece: StepPiece,
+    most: u64,
+) -> Result<Fetched, AllocError> {
+    let request = StepRequest { chain, piece };
+    fetch_piece(alloc, dialer, request, most as usize)
+}
+
+// The files of the step from this chain, if the server has a committee's file and a light proof of it.
+fn fetch_from<D: Dial>(
+    alloc: Global,
+    dialer: &D,
+    chain: Id,
+) -> Result<Option<StepFiles>, AllocError> {
+    let file = ask(alloc, dialer, chain, StepPiece::File, MOST_OF_A_SHORT_FILE)?;
+    let Fetched::Piece(file) = file else {
+        return Ok(None);
+    };
+    let proof = ask(
+        alloc,
+        dialer,
+        chain,
+        StepPiece::LightProof,
+        MOST_OF_A_LIGHT_PROOF,
+    )?;
+    let Fetched::Piece(proof) = proof else {
+        return Ok(None);
+    };
+    let renewal = match ask(alloc, dialer, chain, StepPiece::Renewal, MOST_OF_A_RENEWAL)? {
+        Fetched::Piece(renewal) => Some(renewal),
+        Fetched::NotThere => None,
+        Fetched::Failed => return Ok(None),
+    };
+    Ok(Some(StepFiles::of(file, renewal, proof)))
+}
+
+// Whether they are a good step from this committee.
+fn are_good(alloc: Global, old: &CommitteeView, step: &StepFiles) -> Result<bool, AllocError> {
+    match check_step(alloc, old, step.file(), step.renewal(), step.proof()) {
+        Ok(_) => Ok(true),
+        Err(StepRefusal::Memory) => Err(AllocError),
+        Err(_) => Ok(false),
+    }
+}
+
+/// The files of a good step from the committee of this file, of the first source that is a server and has them.
+pub(crate) fn fetch_next<T: Net<Stream = TcpStream> + Clock>(
+    rt: &T,
+    alloc: Global,
+    last: &[u8],
+    sources: &[SourceWord],
+) -> Result<Option<StepFiles>, AllocError> {
+    let Ok(old) = CommitteeView::parse(last) else {
+        return Ok(None);
+    };
+    for source in sources {
+        let Origin::Tcp(address) = source.origin else {
+            continue;
+        };
+        let dialer = TcpDialer::new(rt, address);
+        if let Some(step) = fetch_from(alloc, &dialer, old.chain())?
+            && are_good(alloc, &old, &step)?
+        {
+            return Ok(Some(step));
+        }
+    }
+    Ok(None)
+}

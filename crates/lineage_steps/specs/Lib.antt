@@ -1,0 +1,4 @@
+pub mod Steps
+pub mod StepRefusals
+pub mod Judged
+pub mod StepLaws
