@@ -189,14 +189,19 @@ fn clear_file<F: Files<File = File>, T>(
     }
 }
 
-// Whether the folder has keys already, or a log, as each has that a replica ran on.
+// Whether the folder has keys already, or their indices, or a log, as each has that a replica ran on: seeds and the log may have gone
+// from there.
 fn has_keys<F: Files<File = File>, T>(
     host: &Host<'_, F, T>,
     folder: &str,
 ) -> Result<bool, SetFault> {
-    let seed = format!(in host.alloc; "{folder}/key.seed")?;
-    let log = format!(in host.alloc; "{folder}/log.hsj")?;
-    Ok(!is_nothing_at(host.files, &seed)? || !is_nothing_at(host.files, &log)?)
+    for name in ["key.seed", "index.hsj", "log.hsj"] {
+        let path = format!(in host.alloc; "{folder}/{name}")?;
+        if !is_nothing_at(host.files, &path)? {
+            return Ok(true);
+        }
+    }
+    Ok(false)
 }
 
 // Makes the keys in a folder of their own, which is new.

@@ -1,3 +1,5 @@
+pub mod Clearing
+pub mod LightProofs
 pub mod Names
 pub mod Standing
 pub mod Steps

@@ -1,9 +1,12 @@
 //! The folder of a chain: its log and its words, which are there whole or not at all.
 
+ghost use Rattle.light_proofs.specs.Proving.{ProvesHandover};
+
 use crate::fault::LineageFault;
 use crate::folder::LineageFolder;
-use crate::names::{LOG, NEXT_FILE, NEXT_RENEWAL, WORDS};
-use blocks::Id;
+use crate::names::{LOG, NEXT_FILE, NEXT_PROOF, NEXT_RENEWAL, WORDS};
+use blocks::{CommitteeView, Id};
+use light_proofs::LightProof;
 use safe_files::{replace_file, sync_folder};
 use stable_log::{FileDisk, Journal};
 use std::fs::{File, Files, OpenOptions};
@@ -69,17 +72,30 @@ impl<F: Files<File = File>> LineageFolder<'_, F> {
     /// Stores the file of the committee that the signer goes over to from this chain, before it says so: whole, in place of one of which
     /// it did not say so.
     pub fn store_next(&self, chain: &Id, file: &[u8]) -> Result<(), LineageFault> {
-        let path = self.within(&self.chain_folder(chain)?, NEXT_FILE)?;
-        match self.store(&path, file) {
-            Ok(()) => Ok(()),
-            Err(error) => Err(LineageFault::of(&error, chain)),
-        }
+        self.store_beside(chain, NEXT_FILE, file)
     }
 
     /// Stores the renewal by which that committee follows this chain's, before the signer says that it goes over.
     pub fn store_renewal(&self, chain: &Id, renewal: &[u8]) -> Result<(), LineageFault> {
-        let path = self.within(&self.chain_folder(chain)?, NEXT_RENEWAL)?;
-        match self.store(&path, renewal) {
+        self.store_beside(chain, NEXT_RENEWAL, renewal)
+    }
+
+    /// Stores a light proof that a handover is committed in the chain of this committee, before the signer says that it goes over.
+    pub fn store_light_proof(
+        &self,
+        committee: &CommitteeView,
+        proof: &LightProof,
+    ) -> Result<(), LineageFault>
+        requires { ProvesHandover committee.now proof.now }
+    {
+        let bytes = proof.write(self.alloc)?;
+        self.store_beside(&committee.chain(), NEXT_PROOF, &bytes)
+    }
+
+    // Stores a file of this name in the folder of a chain, whole.
+    fn store_beside(&self, chain: &Id, name: &str, bytes: &[u8]) -> Result<(), LineageFault> {
+        let path = self.within(&self.chain_folder(chain)?, name)?;
+        match self.store(&path, bytes) {
             Ok(()) => Ok(()),
             Err(error) => Err(LineageFault::of(&error, chain)),
         }

@@ -18,6 +18,9 @@ pub const NEXT_FILE: &str = "next.hsc";
 /// The renewal by which it follows, where there is one, beside it.
 pub const NEXT_RENEWAL: &str = "next.hsr";
 
+/// The light proof that the handover to it is committed, where the log had all of it, beside it.
+pub const NEXT_PROOF: &str = "next.hsh";
+
 /// What says in DIR which chain it began with: the 64 hex digits of its id, and a line feed.
 pub(crate) const LINEAGE: &str = "lineage";
 
