@@ -1,5 +1,5 @@
 -- From the sources of a step to the step, and from that to words.
-use Rattle.std.proofs.Common.{◌≡◌, ◌≢◌, ℕ, List, [], ◌∷◌, Option, Result, String, Ok, Err, ◌⊎◌, refl, sym, subst, inl, inr, arith}
+use Rattle.std.proofs.Common.{◌≡◌, ◌≢◌, ℕ, List, [], ◌∷◌, Option, Result, String, Ok, Err, ◌⊎◌, refl, sym, ap, subst, inl, inr, arith}
 use Rattle.std.specs.Prelude.{IfErr, IfOk}
 use Rattle.std.specs.declared.alloc.Global.{Global}
 use Rattle.streams.specs.Streams.{Wrote, WrotePart}
@@ -10,6 +10,7 @@ use Rattle.program_parts.specs.declared.program_fault.ProgramFault.{ProgramFault
 use Rattle.program_parts.specs.declared.program_fault.ProgramFault.TheVariants.{Usage, Memory, File, Committee, Output, Own}
 use Rattle.program_parts.specs.declared.source_fault.SourceFault.TheVariants.{Word, Collision}
 use Rattle.program_parts.specs.declared.words.SourceWord.{SourceWord}
+use Rattle.follow_command.specs.FaultLines.{follow_fault_line}
 use Rattle.follow_command.specs.Faults.{GivesUp, GivesUpOver, GivesUpStep, IsCause, IsFollowFault, IsProofFault, IsSourcesFault, IsStepFault}
 use Rattle.blocks.specs.Committees.{IsCommittee}
 use Rattle.evidence.specs.Evidence.{Evidence}
@@ -19,9 +20,9 @@ use Rattle.follow_command.specs.Sources.{IsShown}
 use Rattle.culprit_search.specs.Reports.{Report}
 use Rattle.follow_command.specs.Followings.{IsFollowing, status_of}
 use Rattle.follow_command.specs.Outputs.{MayComeNext, ComesTo, IsOutput, IsReportOf, step_text, usage_line}
-use Rattle.follow_command.specs.Words.{AskForStep, HaveBadSource, IsUsage, IsWordsFault, before_renewal}
+use Rattle.follow_command.specs.Words.{AskForStep, HaveBadSource, IsUsage, IsWordsFault, OutPaths, before_renewal, usage_fault_line, wrong_word}
 use Rattle.follow_command.specs.declared.fault.FollowFault.{FollowFault}
-use Rattle.follow_command.specs.declared.fault.FollowFault.TheVariants.{Sources, OldKey, Renewal}
+use Rattle.follow_command.specs.declared.fault.FollowFault.TheVariants.{Sources, OldKey, Renewal, Word as Wrong}
 use Rattle.follow_command.specs.declared.following.Following.{Following}
 use Rattle.follow_command.specs.declared.following.Following.TheVariants.{Conflict, New, Another, Nobody}
 use Rattle.follow_command.proofs.Printing.{given_up_as, silent}
@@ -32,33 +33,34 @@ pub of_same_words : {S F : Type 0} (connector : Ghosts (ServerOrFile S F)) (rene
     → IfOk r (λ s. (t : List ℕ) × ComesTo connector renewal ws' s t × Wrote before after t) → IfOk r (λ s. (t : List ℕ) × ComesTo connector renewal ws s t × Wrote before after t)
 of_same_words connector renewal r ws ws' before after same is = subst (λ (xs : List SourceWord). IfOk r (λ s. (t : List ℕ) × ComesTo connector renewal xs s t × Wrote before after t)) same is
 
-step_cause : {S F : Type 0} (connector : Ghosts (ServerOrFile S F)) (old new : List ℕ) (renewal proof : Option (List ℕ)) (ws : List SourceWord) (fault : ProgramFault FollowFault) → IsFollowFault connector proof ws fault → IsStepFault connector old new renewal proof ws fault
-step_cause connector old new renewal proof ws Usage c = c
-step_cause connector old new renewal proof ws Memory c = tt
-step_cause connector old new renewal proof ws (File path) c = inr (inr (inr c))
-step_cause connector old new renewal proof ws (Committee r) c = absurd c.2
-step_cause connector old new renewal proof ws Output c = c
-step_cause connector old new renewal proof ws (Own (Sources s)) c = c
-step_cause connector old new renewal proof ws (Own (OldKey key)) c = absurd c.2
-step_cause connector old new renewal proof ws (Own (Renewal refusal)) c = absurd c.2
+step_cause : {S F : Type 0} (connector : Ghosts (ServerOrFile S F)) (old new : List ℕ) (renewal : Option (List ℕ)) (outs : OutPaths) (ws : List SourceWord) (fault : ProgramFault FollowFault) → IsFollowFault connector outs ws fault → IsStepFault connector old new renewal outs ws fault
+step_cause connector old new renewal outs ws Usage c = c
+step_cause connector old new renewal outs ws Memory c = tt
+step_cause connector old new renewal outs ws (File path) c = inr (inr (inr c))
+step_cause connector old new renewal outs ws (Committee r) c = absurd c.2
+step_cause connector old new renewal outs ws Output c = c
+step_cause connector old new renewal outs ws (Own (Sources s)) c = c
+step_cause connector old new renewal outs ws (Own (OldKey key)) c = absurd c.2
+step_cause connector old new renewal outs ws (Own (Renewal refusal)) c = absurd c.2
+step_cause connector old new renewal outs ws (Own (Wrong word)) c = absurd c.2
 
 -- a fault of the proof is one of the step
-pub proof_cause : {S F : Type 0} (connector : Ghosts (ServerOrFile S F)) (old new : List ℕ) (renewal proof : Option (List ℕ)) (ws : List SourceWord) (fault : ProgramFault FollowFault) → IsProofFault proof fault → IsStepFault connector old new renewal proof ws fault
-proof_cause connector old new renewal proof ws Usage c = absurd c
-proof_cause connector old new renewal proof ws Memory c = tt
-proof_cause connector old new renewal proof ws (File path) c = inr (inr (inr c))
-proof_cause connector old new renewal proof ws (Committee r) c = absurd c
-proof_cause connector old new renewal proof ws Output c = absurd c
-proof_cause connector old new renewal proof ws (Own own) c = absurd c
+pub proof_cause : {S F : Type 0} (connector : Ghosts (ServerOrFile S F)) (old new : List ℕ) (renewal : Option (List ℕ)) (outs : OutPaths) (ws : List SourceWord) (fault : ProgramFault FollowFault) → IsProofFault outs fault → IsStepFault connector old new renewal outs ws fault
+proof_cause connector old new renewal outs ws Usage c = absurd c
+proof_cause connector old new renewal outs ws Memory c = tt
+proof_cause connector old new renewal outs ws (File path) c = inr (inr (inr c))
+proof_cause connector old new renewal outs ws (Committee r) c = absurd c
+proof_cause connector old new renewal outs ws Output c = absurd c
+proof_cause connector old new renewal outs ws (Own own) c = absurd c
 
 -- .. and one of following
-pub proof_of_following : {S F : Type 0} (connector : Ghosts (ServerOrFile S F)) (committee : List ℕ) (proof : Option (List ℕ)) (ws : List SourceWord) (fault : ProgramFault FollowFault) → IsCommittee committee → IsProofFault proof fault → IsFollowFault connector proof ws fault
-proof_of_following connector committee proof ws Usage is c = absurd c
-proof_of_following connector committee proof ws Memory is c = (committee, is, tt)
-proof_of_following connector committee proof ws (File path) is c = c
-proof_of_following connector committee proof ws (Committee r) is c = absurd c
-proof_of_following connector committee proof ws Output is c = absurd c
-proof_of_following connector committee proof ws (Own own) is c = absurd c
+pub proof_of_following : {S F : Type 0} (connector : Ghosts (ServerOrFile S F)) (committee : List ℕ) (outs : OutPaths) (ws : List SourceWord) (fault : ProgramFault FollowFault) → IsCommittee committee → IsProofFault outs fault → IsFollowFault connector outs ws fault
+proof_of_following connector committee outs ws Usage is c = absurd c
+proof_of_following connector committee outs ws Memory is c = (committee, is, tt)
+proof_of_following connector committee outs ws (File path) is c = c
+proof_of_following connector committee outs ws (Committee r) is c = absurd c
+proof_of_following connector committee outs ws Output is c = absurd c
+proof_of_following connector committee outs ws (Own own) is c = absurd c
 
 -- sources that are the same show the same
 shown_of_same : {S F : Type 0} (connector : Ghosts (ServerOrFile S F)) (committee : List ℕ) (ws ws' : List SourceWord) (e : Evidence) → ws' ≡ ws → IsShown connector committee ws' e → IsShown connector committee ws e
@@ -86,35 +88,36 @@ comes_to connector old new path ws ws' e r f renewal judged next same shown repo
 }
 
 -- a fault of the sources is one of following
-pub sources_of_following : {S F : Type 0} (connector : Ghosts (ServerOrFile S F)) (committee : List ℕ) (proof : Option (List ℕ)) (ws : List SourceWord) (fault : ProgramFault FollowFault) → IsCommittee committee → IsSourcesFault connector committee ws fault → IsFollowFault connector proof ws fault
-sources_of_following connector committee proof ws Usage is c = absurd c
-sources_of_following connector committee proof ws Memory is c = (committee, is, tt)
-sources_of_following connector committee proof ws (File path) is c = absurd c
-sources_of_following connector committee proof ws (Committee r) is c = absurd c
-sources_of_following connector committee proof ws Output is c = absurd c
-sources_of_following connector committee proof ws (Own (Sources (Word i))) is c = absurd c
-sources_of_following connector committee proof ws (Own (Sources Collision)) is c = (committee, is, c)
-sources_of_following connector committee proof ws (Own (OldKey key)) is c = absurd c
-sources_of_following connector committee proof ws (Own (Renewal refusal)) is c = absurd c
+pub sources_of_following : {S F : Type 0} (connector : Ghosts (ServerOrFile S F)) (committee : List ℕ) (outs : OutPaths) (ws : List SourceWord) (fault : ProgramFault FollowFault) → IsCommittee committee → IsSourcesFault connector committee ws fault → IsFollowFault connector outs ws fault
+sources_of_following connector committee outs ws Usage is c = absurd c
+sources_of_following connector committee outs ws Memory is c = (committee, is, tt)
+sources_of_following connector committee outs ws (File path) is c = absurd c
+sources_of_following connector committee outs ws (Committee r) is c = absurd c
+sources_of_following connector committee outs ws Output is c = absurd c
+sources_of_following connector committee outs ws (Own (Sources (Word i))) is c = absurd c
+sources_of_following connector committee outs ws (Own (Sources Collision)) is c = (committee, is, c)
+sources_of_following connector committee outs ws (Own (OldKey key)) is c = absurd c
+sources_of_following connector committee outs ws (Own (Renewal refusal)) is c = absurd c
+sources_of_following connector committee outs ws (Own (Wrong word)) is c = absurd c
 
-pub step_given_up : {S F W : Type 0} (connector : Ghosts (ServerOrFile S F)) (old new : List ℕ) (renewal proof : Option (List ℕ)) (ws ws' : List SourceWord) (r : Result ℕ (ProgramFault FollowFault)) (text : W → Option (List ℕ)) (failed : W → ℕ) (out out' : W) → ws' ≡ ws
-    → IfErr r (λ f. GivesUpOver (IsFollowFault connector proof ws') (ComesTo connector renewal ws') f text failed out out') → IfErr r (λ f. GivesUpStep connector old new renewal proof ws f text failed out out')
-step_given_up connector old new renewal proof ws ws' (Ok s) text failed out out' same up = tt
-step_given_up connector old new renewal proof ws ws' (Err f) text failed out out' same up =
-    given_up_as (IsFollowFault connector proof ws') (IsStepFault connector old new renewal proof ws) (ComesTo connector renewal ws') (ComesTo connector renewal ws) f text failed out out'
-    (λ other c. step_cause connector old new renewal proof ws f (subst (λ (xs : List SourceWord). IsFollowFault connector proof xs f) same c))
+pub step_given_up : {S F W : Type 0} (connector : Ghosts (ServerOrFile S F)) (old new : List ℕ) (renewal : Option (List ℕ)) (outs : OutPaths) (ws ws' : List SourceWord) (r : Result ℕ (ProgramFault FollowFault)) (text : W → Option (List ℕ)) (failed : W → ℕ) (out out' : W) → ws' ≡ ws
+    → IfErr r (λ f. GivesUpOver (IsFollowFault connector outs ws') (ComesTo connector renewal ws') f text failed out out') → IfErr r (λ f. GivesUpStep connector old new renewal outs ws f text failed out out')
+step_given_up connector old new renewal outs ws ws' (Ok s) text failed out out' same up = tt
+step_given_up connector old new renewal outs ws ws' (Err f) text failed out out' same up =
+    given_up_as (IsFollowFault connector outs ws') (IsStepFault connector old new renewal outs ws) (ComesTo connector renewal ws') (ComesTo connector renewal ws) f text failed out out'
+    (λ other c. step_cause connector old new renewal outs ws f (subst (λ (xs : List SourceWord). IsFollowFault connector outs xs f) same c))
     (λ status whole is. subst (λ (xs : List SourceWord). ComesTo connector renewal xs status whole) same is) up
 
 -- ---- over words
 
-no_step_of_none : (old new : List ℕ) (ws : List SourceWord) (renewal proof : Option (List ℕ)) → AskForStep [] old new ws renewal proof → ⊥
+no_step_of_none : (old new : List ℕ) (ws : List SourceWord) (renewal : Option (List ℕ)) (outs : OutPaths) → AskForStep [] old new ws renewal outs → ⊥
 unfolding before_renewal
-no_step_of_none old new ws renewal proof ask = ask.are
+no_step_of_none old new ws renewal outs ask = ask.are
 
-output_of : {S F : Type 0} (connector : Ghosts (ServerOrFile S F)) (words : List (String Global)) (old new : List ℕ) (ws : List SourceWord) (renewal proof : Option (List ℕ)) (status : ℕ) (text : List ℕ) → AskForStep words old new ws renewal proof → ComesTo connector renewal ws status text
+output_of : {S F : Type 0} (connector : Ghosts (ServerOrFile S F)) (words : List (String Global)) (old new : List ℕ) (ws : List SourceWord) (renewal : Option (List ℕ)) (outs : OutPaths) (status : ℕ) (text : List ℕ) → AskForStep words old new ws renewal outs → ComesTo connector renewal ws status text
     → IsOutput connector words status text
-output_of connector [] old new ws renewal proof status text ask is = absurd (no_step_of_none old new ws renewal proof ask)
-output_of connector (w ∷ words) old new ws renewal proof status text ask is = (old, new, ws, renewal, proof, ask, is)
+output_of connector [] old new ws renewal outs status text ask is = absurd (no_step_of_none old new ws renewal outs ask)
+output_of connector (w ∷ words) old new ws renewal outs status text ask is = (old, new, ws, renewal, outs, ask, is)
 
 not_two : (f : Following) → status_of f ≢ 2
 not_two Conflict e = let no : ⊥ = omega (arith, e) in no
@@ -132,24 +135,24 @@ status_among Nobody = inr (inl refl)
 pub output_status : {S F : Type 0} (connector : Ghosts (ServerOrFile S F)) (words : List (String Global)) (status : ℕ) (text : List ℕ) → IsOutput connector words status text
     → (status ≡ 0) ⊎ ((status ≡ 1) ⊎ ((status ≡ 2) ⊎ (status ≡ 3)))
 output_status connector [] status text is = inl is.0
-output_status connector (w ∷ words) status text (old, new, ws, renewal, proof, ask, is) =
+output_status connector (w ∷ words) status text (old, new, ws, renewal, outs, ask, is) =
     subst (λ (n : ℕ). (n ≡ 0) ⊎ ((n ≡ 1) ⊎ ((n ≡ 2) ⊎ (n ≡ 3)))) (sym is.ends) (status_among is.following)
 
-pub printed_over : {S F : Type 0} (connector : Ghosts (ServerOrFile S F)) (words : List (String Global)) (old new : List ℕ) (ws : List SourceWord) (renewal proof : Option (List ℕ)) (r : Result ℕ (ProgramFault FollowFault)) (before after : Option (List ℕ))
-    → AskForStep words old new ws renewal proof → IfOk r (λ s. (t : List ℕ) × ComesTo connector renewal ws s t × Wrote before after t)
+pub printed_over : {S F : Type 0} (connector : Ghosts (ServerOrFile S F)) (words : List (String Global)) (old new : List ℕ) (ws : List SourceWord) (renewal : Option (List ℕ)) (outs : OutPaths) (r : Result ℕ (ProgramFault FollowFault)) (before after : Option (List ℕ))
+    → AskForStep words old new ws renewal outs → IfOk r (λ s. (t : List ℕ) × ComesTo connector renewal ws s t × Wrote before after t)
     → IfOk r (λ s. (s ≢ 2) × ((t : List ℕ) × IsOutput connector words s t × Wrote before after t))
-printed_over connector words old new ws renewal proof (Err f) before after ask is = tt
-printed_over connector words old new ws renewal proof (Ok s) before after ask is = (
+printed_over connector words old new ws renewal outs (Err f) before after ask is = tt
+printed_over connector words old new ws renewal outs (Ok s) before after ask is = (
   subst (λ (n : ℕ). n ≢ 2) (sym is.1.ends) (not_two is.1.following),
-  (is.0, output_of connector words old new ws renewal proof s is.0 ask is.1, is.2),
+  (is.0, output_of connector words old new ws renewal outs s is.0 ask is.1, is.2),
 )
 
-pub given_up_over : {S F W : Type 0} (connector : Ghosts (ServerOrFile S F)) (words : List (String Global)) (old new : List ℕ) (ws : List SourceWord) (renewal proof : Option (List ℕ)) (r : Result ℕ (ProgramFault FollowFault)) (text : W → Option (List ℕ)) (failed : W → ℕ) (out out' : W)
-    → AskForStep words old new ws renewal proof → IfErr r (λ f. GivesUpStep connector old new renewal proof ws f text failed out out') → IfErr r (λ f. GivesUp connector words f text failed out out')
-given_up_over connector words old new ws renewal proof (Ok s) text failed out out' ask up = tt
-given_up_over connector words old new ws renewal proof (Err f) text failed out out' ask up =
-    given_up_as (IsStepFault connector old new renewal proof ws) (IsCause connector words) (ComesTo connector renewal ws) (IsOutput connector words) f text failed out out'
-    (λ other c. inr (old, new, ws, renewal, proof, ask, c)) (λ status whole is. output_of connector words old new ws renewal proof status whole ask is) up
+pub given_up_over : {S F W : Type 0} (connector : Ghosts (ServerOrFile S F)) (words : List (String Global)) (old new : List ℕ) (ws : List SourceWord) (renewal : Option (List ℕ)) (outs : OutPaths) (r : Result ℕ (ProgramFault FollowFault)) (text : W → Option (List ℕ)) (failed : W → ℕ) (out out' : W)
+    → AskForStep words old new ws renewal outs → IfErr r (λ f. GivesUpStep connector old new renewal outs ws f text failed out out') → IfErr r (λ f. GivesUp connector words f text failed out out')
+given_up_over connector words old new ws renewal outs (Ok s) text failed out out' ask up = tt
+given_up_over connector words old new ws renewal outs (Err f) text failed out out' ask up =
+    given_up_as (IsStepFault connector old new renewal outs ws) (IsCause connector words) (ComesTo connector renewal ws) (IsOutput connector words) f text failed out out'
+    (λ other c. inr (old, new, ws, renewal, outs, ask, c)) (λ status whole is. output_of connector words old new ws renewal outs status whole ask is) up
 
 -- how the program is called could not be printed
 pub usage_cut : {S F W : Type 0} (connector : Ghosts (ServerOrFile S F)) (words : List (String Global)) (fault : ProgramFault FollowFault) (text : W → Option (List ℕ)) (failed : W → ℕ) (out out' : W) → words ≡ [] → fault ≡ Output
@@ -162,18 +165,19 @@ usage_cut connector words fault text failed out out' none is part counted = reco
 
 -- ---- words that ask for nothing
 
-no_usage : (words : List (String Global)) (old new : List ℕ) (ws : List SourceWord) (renewal proof : Option (List ℕ)) → IsUsage words → AskForStep words old new ws renewal proof → ⊥
-no_usage words old new ws renewal proof usage ask = usage.no_step ask.named
+no_usage : (words : List (String Global)) (old new : List ℕ) (ws : List SourceWord) (renewal : Option (List ℕ)) (outs : OutPaths) → IsUsage words → AskForStep words old new ws renewal outs → ⊥
+no_usage words old new ws renewal outs usage ask = usage.no_step ask.named
 
 pub output_is_no_usage : {S F : Type 0} (connector : Ghosts (ServerOrFile S F)) (words : List (String Global)) (status : ℕ) (text : List ℕ) → IsUsage words → IsOutput connector words status text → ⊥
 output_is_no_usage connector [] status text usage is = usage.some refl
-output_is_no_usage connector (w ∷ words) status text usage (old, new, ws, renewal, proof, ask, is) = no_usage (w ∷ words) old new ws renewal proof usage ask
+output_is_no_usage connector (w ∷ words) status text usage (old, new, ws, renewal, outs, ask, is) = no_usage (w ∷ words) old new ws renewal outs usage ask
 
 bad_is_no_usage : (words : List (String Global)) (i : ℕ) → IsUsage words → HaveBadSource words i → ⊥
 bad_is_no_usage words i usage bad = usage.no_step bad.0
 
-usage_of_words : (words : List (String Global)) (fault : ProgramFault FollowFault) → IsUsage words → IsWordsFault words fault → fault ≡ Usage
-usage_of_words words Usage usage is = refl
+usage_of_words : (words : List (String Global)) (fault : ProgramFault FollowFault) → IsUsage words → IsWordsFault words fault → follow_fault_line fault ≡ usage_fault_line (wrong_word words)
+usage_of_words words Usage usage is = sym (ap usage_fault_line is.1)
+usage_of_words words (Own (Wrong word)) usage is = sym (ap usage_fault_line is.1)
 usage_of_words words Memory usage is = absurd (usage.no_step is)
 usage_of_words words (File path) usage is = absurd is
 usage_of_words words (Committee r) usage is = absurd is
@@ -193,7 +197,7 @@ fault_cases (Own own) = inr (λ e. let no : ⊥ = cc in no)
 
 -- words that are no usage of the program give this fault
 pub is_usage : {S F W : Type 0} (connector : Ghosts (ServerOrFile S F)) (words : List (String Global)) (fault : ProgramFault FollowFault) (text : W → Option (List ℕ)) (failed : W → ℕ) (out out' : W) → IsUsage words
-    → GivesUp connector words fault text failed out out' → fault ≡ Usage
+    → GivesUp connector words fault text failed out out' → follow_fault_line fault ≡ usage_fault_line (wrong_word words)
 is_usage connector words fault text failed out out' usage gives = elim (fault_cases fault) [
   | inl e ↦ let cut = gives.cut_short e in absurd (output_is_no_usage connector words cut.0 cut.1 usage cut.2)
   | inr other ↦ elim (gives.cause other).0 [
@@ -206,8 +210,8 @@ is_usage connector words fault text failed out out' usage gives = elim (fault_ca
 no_output : {S F : Type 0} (connector : Ghosts (ServerOrFile S F)) (committee : List ℕ) (ws : List SourceWord) (fault : ProgramFault FollowFault) → IsSourcesFault connector committee ws fault → fault ≢ Output
 no_output connector committee ws fault c e = subst (λ (f : ProgramFault FollowFault). IsSourcesFault connector committee ws f) e c
 
-pub evidence_given_up : {S F W : Type 0} (connector : Ghosts (ServerOrFile S F)) (committee : List ℕ) (renewal proof : Option (List ℕ)) (ws ws' : List SourceWord) (fault : ProgramFault FollowFault) (text : W → Option (List ℕ)) (failed : W → ℕ) (out : W) → IsCommittee committee → ws' ≡ ws
-    → IsSourcesFault connector committee ws' fault → GivesUpOver (IsFollowFault connector proof ws) (ComesTo connector renewal ws) fault text failed out out
-evidence_given_up connector committee renewal proof ws ws' fault text failed out is same c =
-    silent (IsFollowFault connector proof ws) (ComesTo connector renewal ws) fault text failed out (no_output connector committee ws' fault c)
-    (sources_of_following connector committee proof ws fault is (subst (λ (xs : List SourceWord). IsSourcesFault connector committee xs fault) same c))
+pub evidence_given_up : {S F W : Type 0} (connector : Ghosts (ServerOrFile S F)) (committee : List ℕ) (renewal : Option (List ℕ)) (outs : OutPaths) (ws ws' : List SourceWord) (fault : ProgramFault FollowFault) (text : W → Option (List ℕ)) (failed : W → ℕ) (out : W) → IsCommittee committee → ws' ≡ ws
+    → IsSourcesFault connector committee ws' fault → GivesUpOver (IsFollowFault connector outs ws) (ComesTo connector renewal ws) fault text failed out out
+evidence_given_up connector committee renewal outs ws ws' fault text failed out is same c =
+    silent (IsFollowFault connector outs ws) (ComesTo connector renewal ws) fault text failed out (no_output connector committee ws' fault c)
+    (sources_of_following connector committee outs ws fault is (subst (λ (xs : List SourceWord). IsSourcesFault connector committee xs fault) same c))

@@ -5,7 +5,8 @@ use Rattle.program_parts.specs.declared.program_fault.ProgramFault.{ProgramFault
 use Rattle.renewals.specs.RenewalReading.{form_refusal_name, form_refusal_number}
 use Rattle.renewals.specs.declared.format.RenewalFormRefusal.{RenewalFormRefusal}
 use Rattle.follow_command.specs.declared.fault.FollowFault.{FollowFault}
-use Rattle.follow_command.specs.declared.fault.FollowFault.TheVariants.{Sources, OldKey, Renewal}
+use Rattle.follow_command.specs.declared.fault.FollowFault.TheVariants.{Sources, OldKey, Renewal, Word}
+use Rattle.follow_command.specs.Words.{word_line}
 
 -- "fault committee 8 OldKey K"
 abbrev pub old_key_line : ℕ → List ℕ
@@ -20,6 +21,7 @@ abbrev pub own_line : FollowFault → List ℕ
 own_line (Sources fault) = source_fault_line fault
 own_line (OldKey key) = old_key_line key
 own_line (Renewal refusal) = renewal_fault_line refusal
+own_line (Word word) = word_line word.now
 
 abbrev pub follow_fault_line : ProgramFault FollowFault → List ℕ
 follow_fault_line fault = fault_line own_line fault

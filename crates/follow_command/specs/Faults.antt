@@ -19,7 +19,7 @@ use Rattle.successor_files.specs.Successors.{IsSuccessorRefusal}
 use Rattle.successor_files.specs.declared.refusal.SuccessorRefusal.TheVariants.{OldKey as Taken}
 use Rattle.follow_command.specs.Outputs.{ComesTo, IsOutput}
 use Rattle.follow_command.specs.Sources.{AreOpenedAs}
-use Rattle.follow_command.specs.Words.{AskForStep, IsWordsFault}
+use Rattle.follow_command.specs.Words.{AskForStep, IsWordsFault, OutPaths}
 use Rattle.follow_command.specs.declared.fault.FollowFault.{FollowFault}
 use Rattle.follow_command.specs.declared.fault.FollowFault.TheVariants.{Sources, OldKey, Renewal}
 
@@ -43,16 +43,26 @@ IsRenewalFault renewal (File path) = renewal ≡ Some path.now
 IsRenewalFault renewal (Own (Renewal refusal)) = IsSome renewal × ((bytes : List ℕ) × (renewal_in bytes ≡ Err refusal))
 IsRenewalFault renewal fault = ⊥
 
--- memory was refused, or the proof could not be put at its path
-abbrev pub IsProofFault : Option (List ℕ) → ProgramFault FollowFault → Type 0
-IsProofFault proof Memory = ⊤
-IsProofFault proof (File path) = proof ≡ Some path.now
-IsProofFault proof fault = ⊥
+-- a proof goes to this path
+abbrev pub IsOut : OutPaths → List ℕ → Type 0
+IsOut outs path = (outs.proof ≡ Some path) ⊎ (outs.light ≡ Some path)
 
--- .. under some committee, or the proof could not be put at its path
-abbrev pub IsFollowFault : {S F : Type 0} → Ghosts (ServerOrFile S F) → Option (List ℕ) → List SourceWord → ProgramFault FollowFault → Type 0
-IsFollowFault connector proof words (File path) = proof ≡ Some path.now
-IsFollowFault connector proof words fault = (committee : List ℕ) × IsCommittee committee × IsSourcesFault connector committee words fault
+-- memory was refused, or a proof could not be put at its path
+abbrev pub IsProofFault : OutPaths → ProgramFault FollowFault → Type 0
+IsProofFault outs Memory = ⊤
+IsProofFault outs (File path) = IsOut outs path.now
+IsProofFault outs fault = ⊥
+
+-- .. of one path
+abbrev pub IsOutFault : Option (List ℕ) → ProgramFault FollowFault → Type 0
+IsOutFault out Memory = ⊤
+IsOutFault out (File path) = out ≡ Some path.now
+IsOutFault out fault = ⊥
+
+-- .. under some committee, or a proof could not be put at its path
+abbrev pub IsFollowFault : {S F : Type 0} → Ghosts (ServerOrFile S F) → OutPaths → List SourceWord → ProgramFault FollowFault → Type 0
+IsFollowFault connector outs words (File path) = IsOut outs path.now
+IsFollowFault connector outs words fault = (committee : List ℕ) × IsCommittee committee × IsSourcesFault connector committee words fault
 
 -- why the committee of this file may not come after the old one: it is none, or the key of this number is the first that is one of the
 -- old one in a slot that may not keep it
@@ -66,21 +76,21 @@ abbrev pub HaveOldKey : ℕ → Type 0
 HaveOldKey key = (old : List ℕ) × (file : List ℕ) × IsCommittee old × IsSuccessorRefusal [] old file (Taken key)
 
 -- why there is no step from the committee of the one file to that of the other, by these sources, with the renewal at this path, and its
--- proof at this one
-abbrev pub IsStepFault : {S F : Type 0} → Ghosts (ServerOrFile S F) → (old new : List ℕ) → (renewal proof : Option (List ℕ)) → List SourceWord → ProgramFault FollowFault → Type 0
-IsStepFault connector old new renewal proof words Memory = ⊤
-IsStepFault connector old new renewal proof words (File path) = (path.now ≡ old) ⊎ ((path.now ≡ new) ⊎ ((renewal ≡ Some path.now) ⊎ (proof ≡ Some path.now)))
-IsStepFault connector old new renewal proof words (Committee r) = (bytes : List ℕ) × (committee_in bytes ≡ Err r)
-IsStepFault connector old new renewal proof words (Own (OldKey key)) = HaveOldKey key
-IsStepFault connector old new renewal proof words (Own (Renewal refusal)) = IsRenewalFault renewal (Own (Renewal refusal))
-IsStepFault connector old new renewal proof words fault = IsFollowFault connector proof words fault
+-- proofs at these
+abbrev pub IsStepFault : {S F : Type 0} → Ghosts (ServerOrFile S F) → (old new : List ℕ) → (renewal : Option (List ℕ)) → (outs : OutPaths) → List SourceWord → ProgramFault FollowFault → Type 0
+IsStepFault connector old new renewal outs words Memory = ⊤
+IsStepFault connector old new renewal outs words (File path) = (path.now ≡ old) ⊎ ((path.now ≡ new) ⊎ ((renewal ≡ Some path.now) ⊎ IsOut outs path.now))
+IsStepFault connector old new renewal outs words (Committee r) = (bytes : List ℕ) × (committee_in bytes ≡ Err r)
+IsStepFault connector old new renewal outs words (Own (OldKey key)) = HaveOldKey key
+IsStepFault connector old new renewal outs words (Own (Renewal refusal)) = IsRenewalFault renewal (Own (Renewal refusal))
+IsStepFault connector old new renewal outs words fault = IsFollowFault connector outs words fault
 
 -- ---- over words
 
 -- why there is no step of those that they ask for
 abbrev pub IsFaultOfStep : {S F : Type 0} → Ghosts (ServerOrFile S F) → List (String Global) → ProgramFault FollowFault → Type 0
 IsFaultOfStep connector words fault =
-    (old : List ℕ) × (new : List ℕ) × (sources : List SourceWord) × (renewal : Option (List ℕ)) × (proof : Option (List ℕ)) × AskForStep words old new sources renewal proof × IsStepFault connector old new renewal proof sources fault
+    (old : List ℕ) × (new : List ℕ) × (sources : List SourceWord) × (renewal : Option (List ℕ)) × (outs : OutPaths) × AskForStep words old new sources renewal outs × IsStepFault connector old new renewal outs sources fault
 
 -- why the program gives up over them, but where a write failed
 abbrev pub IsCause : {S F : Type 0} → Ghosts (ServerOrFile S F) → List (String Global) → ProgramFault FollowFault → Type 0
@@ -94,8 +104,8 @@ pub record GivesUpOver {W : Type 0} (Cause : ProgramFault FollowFault → Type 0
   pub counted : CountsOutput fault (failed out) (failed out')
 
 -- .. in one step
-abbrev pub GivesUpStep : {S F W : Type 0} → Ghosts (ServerOrFile S F) → (old new : List ℕ) → (renewal proof : Option (List ℕ)) → List SourceWord → ProgramFault FollowFault → (W → Option (List ℕ)) → (W → ℕ) → W → W → Type 0
-GivesUpStep connector old new renewal proof words = GivesUpOver (IsStepFault connector old new renewal proof words) (ComesTo connector renewal words)
+abbrev pub GivesUpStep : {S F W : Type 0} → Ghosts (ServerOrFile S F) → (old new : List ℕ) → (renewal : Option (List ℕ)) → (outs : OutPaths) → List SourceWord → ProgramFault FollowFault → (W → Option (List ℕ)) → (W → ℕ) → W → W → Type 0
+GivesUpStep connector old new renewal outs words = GivesUpOver (IsStepFault connector old new renewal outs words) (ComesTo connector renewal words)
 
 -- .. over words
 abbrev pub GivesUp : {S F W : Type 0} → Ghosts (ServerOrFile S F) → List (String Global) → ProgramFault FollowFault → (W → Option (List ℕ)) → (W → ℕ) → W → W → Type 0

@@ -16,11 +16,11 @@ use Rattle.successor_files.specs.Successors.{IsSuccessorFile}
 use Rattle.renewals.specs.Renewals.{Renewal}
 use Rattle.follow_command.specs.RenewalLines.{AreLinesOn, IsReadAt}
 use Rattle.follow_command.specs.Sources.{IsShown}
-use Rattle.follow_command.specs.Words.{AskForStep}
+use Rattle.follow_command.specs.Words.{AskForStep, OutPaths}
 use Rattle.follow_command.specs.declared.following.Following.{Following}
 
 abbrev pub usage_line : List ℕ
-usage_line = codes "hs_follow OLD NEW SOURCE.. [--renewal FILE] [--proof OUT]\n"
+usage_line = codes "hs_follow OLD NEW SOURCE.. [--renewal FILE] [--proof OUT] [--light OUT]\nhs_follow C0 --lineage DIR [--fetch SOURCE..]\n"
 
 -- two committees, of which the second may come after the first: no key of it is one of the first, but in slots that it may keep
 pub record MayComeNext (old new : List ℕ) : Type 0 where
@@ -60,4 +60,4 @@ pub record ComesTo {S F : Type 0} (connector : Ghosts (ServerOrFile S F)) (path 
 abbrev pub IsOutput : {S F : Type 0} → Ghosts (ServerOrFile S F) → List (String Global) → ℕ → List ℕ → Type 0
 IsOutput connector [] status text = (status ≡ 0) × (text ≡ usage_line)
 IsOutput connector (word ∷ words) status text =
-    (old : List ℕ) × (new : List ℕ) × (sources : List SourceWord) × (renewal : Option (List ℕ)) × (proof : Option (List ℕ)) × AskForStep (word ∷ words) old new sources renewal proof × ComesTo connector renewal sources status text
+    (old : List ℕ) × (new : List ℕ) × (sources : List SourceWord) × (renewal : Option (List ℕ)) × (outs : OutPaths) × AskForStep (word ∷ words) old new sources renewal outs × ComesTo connector renewal sources status text

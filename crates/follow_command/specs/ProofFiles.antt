@@ -1,8 +1,10 @@
 -- What is put of a proof at the place for it.
-use Rattle.std.specs.Prelude.{◌≡◌, ◌⊎◌, ◌++◌, ℕ, List, Option, Some, IfSome, take}
+use Rattle.std.specs.Prelude.{◌≡◌, ◌⊎◌, ◌++◌, ◌∷◌, [], ℕ, List, Option, Some, IfSome, take}
 use Rattle.blocks.specs.Headers.{Header}
 use Rattle.evidence.specs.Evidence.{Evidence}
 use Rattle.handover_proof.specs.Proofs.{ProveHandover}
+use Rattle.light_making.specs.LightMaking.{IsLightProofOf}
+use Rattle.light_proofs.specs.LightProofs.{LightProof, IsLightProof, light_proof_text}
 use Rattle.follow_command.specs.declared.following.Following.{Following}
 use Rattle.follow_command.specs.declared.following.Following.TheVariants.{Conflict, New, Another, Nobody}
 
@@ -40,3 +42,20 @@ PutPartOfProofOf e Conflict before after = PutNothing before after
 PutPartOfProofOf e (New b) before after = PutPartOfProof e.committee b before after
 PutPartOfProofOf e (Another b) before after = PutPartOfProof e.committee b before after
 PutPartOfProofOf e Nobody before after = PutNothing before after
+
+-- ---- the light proof
+
+-- the bytes spell a light proof of the first handover on a chain that the evidence proves to be committed
+abbrev pub IsLightFile : Evidence → List ℕ → Type 0
+IsLightFile e bytes = (p : LightProof) × IsLightProof p × IsLightProofOf e p × (bytes ≡ light_proof_text p)
+
+-- the place has such a file
+abbrev pub PutLight : Evidence → Option (List (List ℕ)) → Option (List (List ℕ)) → Type 0
+PutLight e before after = (bytes : List ℕ) × IsLightFile e bytes × Put before after (bytes ∷ [])
+
+-- .. where the ledger was handed over, to whomever, and else nothing
+abbrev pub PutLightOf : Evidence → Following → Option (List (List ℕ)) → Option (List (List ℕ)) → Type 0
+PutLightOf e Conflict before after = PutNothing before after
+PutLightOf e (New b) before after = PutLight e before after
+PutLightOf e (Another b) before after = PutLight e before after
+PutLightOf e Nobody before after = PutNothing before after

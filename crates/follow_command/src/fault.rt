@@ -1,20 +1,23 @@
 //! Why the program gives up, and the line that it prints then.
 
-ghost use Rattle.std.specs.Prelude.{◌≡◌};
+ghost use Rattle.std.specs.Prelude.{◌≡◌, OnErr, OnOk};
+ghost use Rattle.streams.specs.Counting.{Counts};
+ghost use Rattle.streams.specs.Streams.{Wrote, WrotePart};
 ghost use Rattle.follow_command.specs.FaultLines.{old_key_line, own_line, renewal_fault_line};
+ghost use Rattle.follow_command.specs.Words.{word_line};
 
 use itoa::Buffer;
-use printed_lines::Line;
+use printed_lines::{Line, write_printed};
 use program_parts::{FaultLine, ProgramFault, SourceFault};
 use renewals::RenewalFormRefusal;
 use streams::{Sink, write_all};
 
 /// Why the program gives up. Each has exit status 2.
-pub type Fault<'a> = ProgramFault<'a, FollowFault>;
+pub type Fault<'a> = ProgramFault<'a, FollowFault<'a>>;
 
 /// What this program alone gives up for.
 #[derive(Clone, Copy, Debug, PartialEq, Eq)]
-pub enum FollowFault {
+pub enum FollowFault<'a> {
     /// The sources of the old committee's logs give no evidence.
     Sources(SourceFault),
     /// 8: the key of this number of the new committee is one of the old committee too, its slot may not keep it, and it is the least such
@@ -23,9 +26,11 @@ pub enum FollowFault {
     OldKey(u16),
     /// The bytes of the renewal are none.
     Renewal(RenewalFormRefusal),
+    /// This word is not as the program is called.
+    Word(&'a str),
 }
 
-impl FaultLine for FollowFault {
+impl FaultLine for FollowFault<'_> {
     ghost line = { own_line };
 
     fn write_line<W: Sink>(&self, out: &mut W) -> Result<(), streams::Fault> {
@@ -33,8 +38,20 @@ impl FaultLine for FollowFault {
             FollowFault::Sources(fault) => fault.write_line(out),
             FollowFault::OldKey(key) => write_all(out, old_key_fault(*key).as_bytes()),
             FollowFault::Renewal(refusal) => write_all(out, renewal_fault(*refusal).as_bytes()),
+            FollowFault::Word(word) => write_word(out, word),
         }
     }
+}
+
+// Writes `fault usage `, the word in one line, and a line feed.
+fn write_word<W: Sink>(out: &mut W, word: &str) -> Result<(), streams::Fault>
+    ensures ok { OnOk result (Wrote (W.text out.old) (W.text out.new) (word_line word.now)) }
+    ensures err { OnErr result (WrotePart (W.text out.old) (W.text out.new) (word_line word.now)) }
+    ensures counted { Counts (W.failed out.old) (W.failed out.new) result }
+{
+    write_all(out, b"fault usage ")?;
+    write_printed(out, word.as_bytes())?;
+    write_all(out, b"\n")
 }
 
 fn old_key_fault(key: u16) -> Line

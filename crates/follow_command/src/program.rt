@@ -1,6 +1,6 @@
 //! The program over handed-in words and streams, so that tests run it whole.
 
-ghost use Rattle.std.specs.Prelude.{◌≡◌, ◌≢◌, ◌⊎◌, ◌++◌, ℕ, List, IfErr, IfOk, OnErr, OnOk, codes, length};
+ghost use Rattle.std.specs.Prelude.{◌≡◌, ◌≢◌, ◌⊎◌, ◌++◌, ℕ, List, IfErr, IfOk, OnErr, OnOk, length};
 ghost use Rattle.streams.specs.Streams.{Wrote, WrotePart};
 ghost use Rattle.printed_lines.specs.Printed.{Told};
 ghost use Rattle.blocks.specs.Committees.{IsCommittee};
@@ -11,14 +11,14 @@ ghost use Rattle.follow_command.specs.FaultLines.{follow_fault_line};
 ghost use Rattle.follow_command.specs.Faults.{GivesUp, GivesUpOver, GivesUpStep, IsFollowFault, IsNextFault};
 ghost use Rattle.follow_command.specs.Outputs.{ComesTo, IsOutput, MayComeNext, step_text};
 ghost use Rattle.follow_command.specs.RenewalLines.{IsReadAt};
-ghost use Rattle.follow_command.specs.Words.{IsUsage, path_in};
+ghost use Rattle.follow_command.specs.Words.{IsUsage, outs_in, path_in, usage_fault_line, wrong_word};
 ghost use Rattle.follow_command.specs.declared.fault.FollowFault.{FollowFault as OwnFaultValue};
 
 use crate::fault::{Fault, FollowFault};
 use crate::following::{Following, follow};
 use crate::host::Host;
 use crate::lines::lines_text;
-use crate::proving::{see_new, write_proof};
+use crate::proving::{see_all_new, write_proofs};
 use crate::reading::read_evidence;
 use crate::renewing::{read_renewal, renewal_text};
 use crate::words::{Step, Words, read_words};
@@ -48,7 +48,8 @@ pub const FOLLOWS_NOT: u8 = 1;
 pub const CONFLICT: u8 = 3;
 
 /// How the program is called.
-const USAGE: &[u8] = b"hs_follow OLD NEW SOURCE.. [--renewal FILE] [--proof OUT]\n";
+const USAGE: &[u8] = b"hs_follow OLD NEW SOURCE.. [--renewal FILE] [--proof OUT] [--light OUT]\n\
+hs_follow C0 --lineage DIR [--fetch SOURCE..]\n";
 
 /// Audits the logs of the old committee, and says whether it handed the ledger over to the new one, as the words ask, or with
 /// no words prints how the program is called. Where a proof is asked for and a handover is proved, its files are written. Where a renewal
@@ -82,7 +83,7 @@ where
     ensures no_failure { result ≢ 2 → W.failed out.new ≡ W.failed out.old }
     ensures usage { IsUsage words.now → (result ≡ 2)
         × Told (E.text faults.old) (E.text faults.new) (E.failed faults.old) (E.failed faults.new)
-        (codes "fault usage\n") }
+        (usage_fault_line (wrong_word words.now)) }
     ensures told { result ≡ 2 → (fault : FaultValue OwnFaultValue)
         × GivesUp ⟦<ChainSource<'a, T, F> as Connector>⟧ words.now fault
         W.text W.failed out.old out.new
@@ -140,7 +141,7 @@ where
     ensures no_failure { IfOk result (λ status. W.failed out.new ≡ W.failed out.old) }
     ensures given_up { IfErr result (λ fault.
         GivesUpStep ⟦<ChainSource<'a, T, F> as Connector>⟧ step.now.old.now step.now.new.now
-        (path_in step.now.renewal) (path_in step.now.proof) step.now.sources.items fault
+        (path_in step.now.renewal) (outs_in step.now.proof step.now.light) step.now.sources.items fault
         W.text W.failed out.old out.new) }
     ensures noted { (notes.new ≡ notes.old) ⊎ TellsHeard (length step.now.sources.items)
         (N.text notes.old) (N.text notes.new) }
@@ -150,7 +151,7 @@ where
     let old = parse_committee(&old_bytes)?;
     let new = next_committee(&old, &new_bytes)?;
     let renewal = read_renewal(host.files, host.alloc, step.renewal)?;
-    see_new(host.files, step.proof)?;
+    see_all_new(host.files, step.proof, step.light)?;
     follow_sources(host, &old, &new, step, &renewal, out, notes)
 }
 
@@ -204,7 +205,7 @@ where
     ensures no_failure { IfOk result (λ status. W.failed out.new ≡ W.failed out.old) }
     ensures given_up { IfErr result (λ fault.
         GivesUpOver (IsFollowFault ⟦<ChainSource<'a, T, F> as Connector>⟧
-        (path_in step.now.proof) step.now.sources.items)
+        (outs_in step.now.proof step.now.light) step.now.sources.items)
         (ComesTo ⟦<ChainSource<'a, T, F> as Connector>⟧ (path_in step.now.renewal)
         step.now.sources.items)
         fault W.text W.failed out.old out.new) }
@@ -216,7 +217,7 @@ where
     let report = audit(alloc, &evidence)?;
     let following = follow(alloc, &evidence, &report, new.bytes())?;
     let judged = renewal_text(alloc, old, new, renewal)?;
-    write_proof(files, alloc, &evidence, &following, step.proof)?;
+    write_proofs(files, alloc, &evidence, &following, step.proof, step.light)?;
     print(alloc, &evidence, &report, &following, &judged, out)?;
     Ok(following.status())
 }

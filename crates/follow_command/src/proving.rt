@@ -1,9 +1,11 @@
 //! The proof of a handover, in files.
 
-ghost use Rattle.std.specs.Prelude.{◌≡◌, ◌≢◌, Some, IfErr, OnErr, OnOk};
-ghost use Rattle.follow_command.specs.Faults.{IsProofFault};
-ghost use Rattle.follow_command.specs.ProofFiles.{PutPart, PutPartOfProof, PutPartOfProofOf, PutProof, PutProofOf, Put};
-ghost use Rattle.follow_command.specs.Words.{path_in};
+ghost use Rattle.std.specs.Prelude.{◌≡◌, ◌≢◌, Some, IfErr, IfOk, OnErr, OnOk};
+ghost use Rattle.light_proofs.specs.LightProofs.{IsLightProof, light_proof_text};
+ghost use Rattle.light_making.specs.LightMaking.{IsLightProofOf};
+ghost use Rattle.follow_command.specs.Faults.{IsOutFault, IsProofFault};
+ghost use Rattle.follow_command.specs.ProofFiles.{IsLightFile, Put, PutLightOf, PutNothing, PutPart, PutPartOfProof, PutPartOfProofOf, PutProof, PutProofOf};
+ghost use Rattle.follow_command.specs.Words.{outs_in, path_in};
 
 use crate::fault::Fault;
 use crate::following::Following;
@@ -11,20 +13,21 @@ use crate::place::{NewFiles, ProofPlace};
 use blocks::NamedHeader;
 use evidence::{Evidence, EvidenceRefusal};
 use handover_proof::{ProofFile, prove_handover};
+use light_making::{LightMakingRefusal, make_light_proof};
 use program_parts::ProgramFault;
 use safe_files::is_nothing_at;
 use std::alloc::Global;
 use std::fs::{File, Files};
 use std::io;
 
-/// Whether nothing has the path of the proof, if there is to be one.
+/// Whether nothing has the path of a proof, if there is to be one.
 pub(crate) fn see_new<'a, F: Files<File = File>>(
     files: &F,
-    proof: Option<&'a str>,
+    out: Option<&'a str>,
 ) -> Result<(), Fault<'a>>
-    ensures { IfErr result (IsProofFault (path_in proof.entry)) }
+    ensures { IfErr result (IsOutFault (path_in out.entry)) }
 {
-    let Some(path) = proof else {
+    let Some(path) = out else {
         return Ok(());
     };
     match is_nothing_at(files, path) {
@@ -42,7 +45,7 @@ pub(crate) fn write_proof<'a, F: Files<File = File>>(
     following: &Following,
     proof: Option<&'a str>,
 ) -> Result<(), Fault<'a>>
-    ensures { IfErr result (IsProofFault (path_in proof.entry)) }
+    ensures { IfErr result (IsOutFault (path_in proof.entry)) }
 {
     match proof {
         Some(path) => {
@@ -65,7 +68,7 @@ pub(crate) fn put_proof<'a, P: ProofPlace>(
         (P.files place.old) (P.files place.new)) }
     ensures part { OnErr result (PutPartOfProofOf evidence.now following.now
         (P.files place.old) (P.files place.new)) }
-    ensures fault { IfErr result (IsProofFault (Some path.now)) }
+    ensures fault { IfErr result (IsOutFault (Some path.now)) }
 {
     match following {
         Following::New(block) | Following::Another(block) => {
@@ -87,7 +90,7 @@ fn put_proof_by<'a, P: ProofPlace>(
         (P.files place.old) (P.files place.new)) }
     ensures part { OnErr result (PutPartOfProof evidence.now.committee block.now
         (P.files place.old) (P.files place.new)) }
-    ensures fault { IfErr result (IsProofFault (Some path.now)) }
+    ensures fault { IfErr result (IsOutFault (Some path.now)) }
 {
     match prove_handover(alloc, evidence, block) {
         Ok(Some(files)) => match put_all(place, &files) {
@@ -109,4 +112,92 @@ fn put_all<P: ProofPlace>(place: &mut P, files: &[ProofFile]) -> io::Result<()>
         place.put(files[k].as_bytes())?;
     }
     Ok(())
+}
+
+// ---- the light proof
+
+// The bytes of the light proof of the handover that evidence proves.
+fn light_file<'a>(alloc: Global, evidence: &Evidence, path: &'a str) -> Result<Vec<u8>, Fault<'a>>
+    ensures found { IfOk result (λ bytes. IsLightFile evidence.now bytes.items) }
+    ensures fault { IfErr result (IsOutFault (Some path.now)) }
+{
+    match make_light_proof(alloc, evidence) {
+        Ok(Some(proof)) => Ok(proof.write(alloc)?),
+        Err(LightMakingRefusal::Memory) => Err(ProgramFault::Memory),
+        // More headers than a light proof has room for.
+        Ok(None) | Err(LightMakingRefusal::TooLong) => Err(ProgramFault::File(path)),
+    }
+}
+
+/// Puts the light proof of the handover, if evidence proves one. After a fault it was not put.
+pub(crate) fn put_light<'a, P: ProofPlace>(
+    place: &mut P,
+    alloc: Global,
+    evidence: &Evidence,
+    following: &Following,
+    path: &'a str,
+) -> Result<(), Fault<'a>>
+    ensures ok { OnOk result (PutLightOf evidence.now following.now
+        (P.files place.old) (P.files place.new)) }
+    ensures err { OnErr result (PutNothing (P.files place.old) (P.files place.new)) }
+    ensures fault { IfErr result (IsOutFault (Some path.now)) }
+{
+    match following {
+        Following::New(_) | Following::Another(_) => {
+            let bytes = light_file(alloc, evidence, path)?;
+            match place.put(&bytes) {
+                Ok(()) => Ok(()),
+                Err(error) => Err(ProgramFault::unless_memory(&error, ProgramFault::File(path))),
+            }
+        }
+        Following::Conflict | Following::Nobody => Ok(()),
+    }
+}
+
+/// Writes the light proof of the handover, if one is asked for and evidence proves one, as a new file at the path.
+pub(crate) fn write_light<'a, F: Files<File = File>>(
+    files: &F,
+    alloc: Global,
+    evidence: &Evidence,
+    following: &Following,
+    light: Option<&'a str>,
+) -> Result<(), Fault<'a>>
+    ensures { IfErr result (IsOutFault (path_in light.entry)) }
+{
+    match light {
+        Some(path) => {
+            let mut place = NewFiles::at(files, alloc, path);
+            put_light(&mut place, alloc, evidence, following, path)
+        }
+        None => Ok(()),
+    }
+}
+
+// ---- both
+
+/// Whether nothing has the paths of the proofs.
+pub(crate) fn see_all_new<'a, F: Files<File = File>>(
+    files: &F,
+    proof: Option<&'a str>,
+    light: Option<&'a str>,
+) -> Result<(), Fault<'a>>
+    ensures { IfErr result (IsProofFault (outs_in proof.entry light.entry)) }
+{
+    see_new(files, proof)?;
+    see_new(files, light)
+}
+
+/// Writes the proofs that are asked for.
+pub(crate) fn write_proofs<'a, F: Files<File = File>>(
+    files: &F,
+    alloc: Global,
+    evidence: &Evidence,
+    following: &Following,
+    proof: Option<&'a str>,
+    light: Option<&'a str>,
+) -> Result<(), Fault<'a>>
+    ensures { IfErr result (IsProofFault (outs_in proof.entry light.entry)) }
+{
+    write_proof(files, alloc, evidence, following, proof)?;
+    write_light(files, alloc, evidence, following, light)
 }

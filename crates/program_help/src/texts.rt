@@ -18,7 +18,8 @@ Status: 0 it was drawn; 2 a fault. See hs_draw(1).\n",
 /// Of `hs_follow`.
 pub const FOLLOW: Help = Help {
     name: "hs_follow",
-    text: "hs_follow OLD NEW SOURCE.. [--renewal FILE] [--proof OUT]\n\
+    text: "hs_follow OLD NEW SOURCE.. [--renewal FILE] [--proof OUT] [--light OUT]\n\
+hs_follow C0 --lineage DIR [--fetch SOURCE..]\n\
 hs_follow --help\n\
 hs_follow --version\n\
 \n\
@@ -28,6 +29,9 @@ R=tcp:HOST:PORT, as hs_signer --serve hands it out.\n\
 \n\
 \x20 --renewal FILE   says what the renewal in FILE says of each slot of NEW\n\
 \x20 --proof OUT      writes what proves the handover to the new file OUT\n\
+\x20 --light OUT      writes a light proof of it to the new file OUT\n\
+\x20 --lineage DIR    judges the steps in DIR from the committee of C0 on\n\
+\x20 --fetch SOURCE   asks servers for the steps that come next; R=tcp:HOST:PORT\n\
 \n\
 Status: 0 it names NEW; 1 it names another, or there is none; 3 commits\n\
 conflict; 2 a fault. See hs_follow(1).\n",

@@ -2,6 +2,7 @@
 #![tactic(auto)]
 
 use follow_command::run_follow;
+use lineage_command::{asks_for_lineage, run_lineage};
 use program_parts::FAULT;
 use runs_script::run_script;
 use std::fs::{File, Files};
@@ -26,6 +27,9 @@ where
     R::Dir: Send,
 {
     match name {
+        "hs_follow" if asks_for_lineage(words) => {
+            Some(run_lineage(rt, rt, rt.alloc(), words, out, faults))
+        }
         "hs_follow" => Some(run_noted(rt, words, out, faults)),
         _ => None,
     }

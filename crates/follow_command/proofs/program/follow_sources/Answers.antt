@@ -3,7 +3,7 @@ use Rattle.program_parts.proofs.Endings.{handed_on}
 use Rattle.follow_command.specs.Followings.{IsFollowing}
 use Rattle.follow_command.specs.Outputs.{IsReportOf, step_text}
 use Rattle.follow_command.specs.RenewalLines.{AreLinesOn}
-use Rattle.follow_command.specs.Words.{path_in}
+use Rattle.follow_command.specs.Words.{outs_in, path_in}
 use Rattle.follow_command.proofs.Printing.{print_failed}
 use Rattle.follow_command.proofs.Steps.{comes_to, evidence_given_up}
 use Rattle.follow_command.proofs.program.follow_sources.Goals as goal

@@ -1,6 +1,6 @@
 use Rattle.std.proofs.Common.{subst}
 use Rattle.program_parts.proofs.Endings.{handed_on}
-use Rattle.follow_command.specs.Words.{AskFor, path_in}
+use Rattle.follow_command.specs.Words.{AskFor, outs_in, path_in}
 use Rattle.follow_command.specs.declared.words.Words.{Words}
 use Rattle.follow_command.proofs.Steps.{given_up_over, printed_over, usage_cut}
 use Rattle.follow_command.proofs.program.run.Goals as goal
@@ -17,10 +17,10 @@ pub returns-in-Step-clause-printed : goal.returns-in-Step-clause-printed
 returns-in-Step-clause-printed g c =
     let step = c.in-Step.step in
     let ask = subst (λ (w : Words). AskFor c.args.words.now w) c.in-Step.is c.in_ok-read_words.ensures.read in
-    printed_over _ c.args.words.now step.old.now step.new.now step.sources.items (path_in step.renewal) (path_in step.proof) c.take_step.result _ _ ask c.take_step.ensures.printed
+    printed_over _ c.args.words.now step.old.now step.new.now step.sources.items (path_in step.renewal) (outs_in step.proof step.light) c.take_step.result _ _ ask c.take_step.ensures.printed
 
 pub returns-in-Step-clause-given_up : goal.returns-in-Step-clause-given_up
 returns-in-Step-clause-given_up g c =
     let step = c.in-Step.step in
     let ask = subst (λ (w : Words). AskFor c.args.words.now w) c.in-Step.is c.in_ok-read_words.ensures.read in
-    given_up_over _ c.args.words.now step.old.now step.new.now step.sources.items (path_in step.renewal) (path_in step.proof) c.take_step.result g.W.Sink.text g.W.Sink.failed c.args.out.now c.take_step.new.out ask c.take_step.ensures.given_up
+    given_up_over _ c.args.words.now step.old.now step.new.now step.sources.items (path_in step.renewal) (outs_in step.proof step.light) c.take_step.result g.W.Sink.text g.W.Sink.failed c.args.out.now c.take_step.new.out ask c.take_step.ensures.given_up

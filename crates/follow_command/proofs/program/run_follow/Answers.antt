@@ -1,9 +1,6 @@
-use Rattle.std.proofs.Common.{inl, inr, subst}
+use Rattle.std.proofs.Common.{ℕ, List, inl, inr, subst}
 use Rattle.printed_lines.specs.Printed.{Told}
 use Rattle.program_parts.proofs.Endings.{came_to, ends, gave_up, must_give_up}
-use Rattle.program_parts.specs.declared.program_fault.ProgramFault.{ProgramFault}
-use Rattle.follow_command.specs.FaultLines.{follow_fault_line}
-use Rattle.follow_command.specs.declared.fault.FollowFault.{FollowFault}
 use Rattle.follow_command.proofs.Steps.{is_usage, output_is_no_usage, output_status}
 use Rattle.follow_command.proofs.program.run_follow.Goals as goal
 
@@ -26,6 +23,6 @@ returns-clause-usage g c usage =
     let up = must_give_up c.run.result c.exit_status.result _ _ _ _ c.exit_status.ensures.done c.exit_status.ensures.told c.run.ensures.printed
     (λ s is. output_is_no_usage _ c.args.words.now s is.1.0 usage is.1.1) c.run.ensures.given_up in (
       up.0,
-      subst (λ (f : ProgramFault FollowFault). Told (g.E.Sink.text c.args.faults.now) (g.E.Sink.text c.exit_status.new.faults) (g.E.Sink.failed c.args.faults.now) (g.E.Sink.failed c.exit_status.new.faults) (follow_fault_line f))
+      subst (λ (line : List ℕ). Told (g.E.Sink.text c.args.faults.now) (g.E.Sink.text c.exit_status.new.faults) (g.E.Sink.failed c.args.faults.now) (g.E.Sink.failed c.exit_status.new.faults) line)
           (is_usage _ c.args.words.now up.1.0 g.W.Sink.text g.W.Sink.failed c.args.out.now c.run.new.out usage up.1.1) up.1.2,
     )
