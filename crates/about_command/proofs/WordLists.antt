@@ -1,8 +1,9 @@
 -- Words one by one.
-use Rattle.std.proofs.Common.{◌≡◌, ◌≢◌, ◌-◌, ◌<◌, ◌≤◌, ℕ, Result, Ok, Err, IfOk, List, [], ◌∷◌, String, drop, get_or, length, string_bytes, take, sym, ap, ◌∙◌, arith}
+use Rattle.std.proofs.Common.{◌≡◌, ◌≢◌, ◌↔◌, ◌-◌, ◌<◌, ◌≤◌, ℕ, Result, Ok, Err, IfOk, List, [], ◌∷◌, String, drop, get_or, length, string_bytes, take, sym, ap, ◌∙◌, arith}
 use Rattle.std.proofs.lemmas.List.{take_all}
 use Rattle.std.specs.declared.alloc.Global.{Global}
 use Rattle.program_help.specs.Helps.{texts}
+use Rattle.about_command.specs.LineageSheets.{AreOptions, AskForLineageSheet}
 
 pub four_words : (words : List (String Global)) (a b c d : String Global) → length words ≡ 4
     → a ≡ get_or words 0 a → b ≡ get_or words 1 b → c ≡ get_or words 2 c → d ≡ get_or words 3 d
@@ -17,6 +18,23 @@ four_words (x ∷ y ∷ z ∷ w ∷ []) a b c d four e f g h =
     ∙ ap (λ (t : String Global). string_bytes a ∷ string_bytes b ∷ string_bytes t ∷ string_bytes w ∷ []) (sym g)
     ∙ ap (λ (t : String Global). string_bytes a ∷ string_bytes b ∷ string_bytes c ∷ string_bytes t ∷ []) (sym h)
 four_words (x ∷ y ∷ z ∷ w ∷ v ∷ more) a b c d four e f g h = absurd (omega arith)
+
+-- the first, the third and the fifth of six words are the options
+pub six_words : (words : List (String Global)) (a b c : String Global) → length words ≡ 6
+    → a ≡ get_or words 0 a → b ≡ get_or words 2 b → c ≡ get_or words 4 c
+    → AskForLineageSheet words ↔ AreOptions a b c
+six_words [] a b c six e f g = absurd (omega arith)
+six_words (x ∷ []) a b c six e f g = absurd (omega arith)
+six_words (x ∷ y ∷ []) a b c six e f g = absurd (omega arith)
+six_words (x ∷ y ∷ z ∷ []) a b c six e f g = absurd (omega arith)
+six_words (x ∷ y ∷ z ∷ w ∷ []) a b c six e f g = absurd (omega arith)
+six_words (x ∷ y ∷ z ∷ w ∷ v ∷ []) a b c six e f g = absurd (omega arith)
+six_words (x ∷ y ∷ z ∷ w ∷ v ∷ u ∷ []) a b c six e f g =
+    let first : string_bytes a ≡ string_bytes x = ap (λ (t : String Global). string_bytes t) e in
+    let third : string_bytes b ≡ string_bytes z = ap (λ (t : String Global). string_bytes t) f in
+    let fifth : string_bytes c ≡ string_bytes v = ap (λ (t : String Global). string_bytes t) g in
+    (λ h. (first ∙ h.0, third ∙ h.1, fifth ∙ h.2), λ h. (sym first ∙ h.0, sym third ∙ h.1, sym fifth ∙ h.2))
+six_words (x ∷ y ∷ z ∷ w ∷ v ∷ u ∷ t ∷ more) a b c six e f g = absurd (omega arith)
 
 pub first_word : (words : List (String Global)) (a : String Global) → 1 ≤ length words → a ≡ get_or words 0 a
     → texts words ≡ string_bytes a ∷ texts (take (length words - 1) (drop 1 words))

@@ -4,8 +4,10 @@
 
 mod about;
 mod explaining;
+mod lineage;
 mod program;
 mod sheet;
 mod table;
 
+pub use lineage::{SheetFault, asks_for_lineage_sheet, run_lineage_sheet};
 pub use program::{asks_about, run_about};

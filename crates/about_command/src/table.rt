@@ -62,6 +62,7 @@ hs_signer | successor not mine | With --renew: the replica has in FILE, or in a 
 hs_signer | successor never enough | With --renew: the replicas that --ask names could never be enough under FILE, so it is as if it were not there. | Start the signer with --ask of all others.\n\
 hs_signer | successor 8 OldKey K | Key K of the file of --successor is a key of this committee too: it would sign twice under one one-time key. The file is as if it were not there. | Have that replica make a new key in a new folder, and a new committee's file be made.\n\
 hs_check, hs_tool, hs_show, hs_draw, hs_signer, hs_watch, hs_follow | fault usage | The words are not those of the manual page. | Put the words right.\n\
+hs_follow | fault usage WORD | WORD is the first word that is not as the manual page has it: a path or a source is empty or begins with -, or an option stands where none may. | Put that word right.\n\
 hs_check | fault hex | Standard input is not two lines of hex digits. | Give committee and verdict as two lines of hex digits, or name two files.\n\
 hs_tool keygen | fault hex | SEED is not 96 hex digits. | Put SEED right.\n\
 hs_check, hs_tool, hs_show, hs_draw, hs_signer, hs_watch, hs_follow | fault file PATH.. | The file can't be opened, read, made or written, or is there and must not be; of a replica's folder its lock may be held, or put-back says that its log was put back to a backup. | Look at the path, its mode and the disk. Never remove a replica's lock, and never write over a file in a replica's folder: the manual page says what was left.\n\
@@ -244,6 +245,16 @@ hs_follow | slot S kept | NEW has the keys of OLD in slot S, a replica by its nu
 hs_follow | slot S by hand | NEW has other keys than OLD in slot S, a replica by its number, and by the renewal no key of OLD signed for them. | Ask that replica's operator whether the keys are theirs.\n\
 hs_follow | renews new S of W | NEW renews OLD by the renewal: its slots with other keys weigh S of the whole weight W. | Nothing.\n\
 hs_follow | renews not: N NAME.. | NEW does not renew OLD by the renewal, by the test of this number and name, of this slot if there is one. What the lines above say of the handover stands. | Get the renewal of that handover. If operators made NEW, ask them.\n\
+hs_follow, hs_show | step N chain ID new S of W | Step N of the lineage is good: a quorum of the committee before committed that ID's committee follows, and its slots with other keys, which weigh S of the whole weight W, were signed for. | Nothing.\n\
+hs_follow, hs_show | step N chain ID by hand | Step N of the lineage is good, and has no renewal: nobody signed for the keys of slots that are not kept. | Ask the operators of these replicas whether the keys are theirs.\n\
+hs_follow | followed N | All N steps in the folder are good, with those that were fetched: the last line of a step has the chain where you are. | Compare that chain id with others' where much depends on it being the newest.\n\
+hs_follow | step N refused NUMBER NAME | Step N is refused, by the test of this number and name of REFUSALS.md, lineage_steps. | Remove the files of this step and the later ones from the folder, and fetch them anew.\n\
+hs_follow | step M is there without step N | The committee's file of step N is not in the folder, and that of step M is. | Put the files of the steps between into the folder, or remove those of step M and after it.\n\
+hs_show | step N slot R new | A key of the replica in the committee before signed for its keys after step N. | Nothing.\n\
+hs_show | step N slot R kept | The replica has the same keys after step N as before. | Nothing.\n\
+hs_show | step N slot R by hand | The replica has other keys after step N, and nobody signed for them. | Ask its operator whether the keys are theirs.\n\
+hs_show | step N slot R absent | The committee of step N has no such replica. | The steps prove nothing of its keys from before.\n\
+hs_show | fault lineage | Neither the first committee nor a good step of the lineage has the verdict's chain. | See by hs_follow --lineage how far the folder is good, and that the verdict is of this ledger.\n\
 hs_watch | TIME round N commit V ID | It is proved that the block ID of view V was committed. | Nothing.\n\
 hs_watch | TIME round N commits N before V ID | The round has more than 100 new commits: so many of them are not listed. The last 100 are, the first of which is the block ID of view V. | Nothing.\n\
 hs_watch | TIME round N handover V ID payload HEX committed, N commits after it | It is proved that the committee hands its ledger over, by the block ID of view V, and that so many blocks after it are committed by now. | See by hs_follow that the payload names the file that you approved.\n\

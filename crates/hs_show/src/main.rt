@@ -2,7 +2,7 @@
 //! line means. docs/hs_show.md is its manual page.
 #![tactic(auto)]
 
-use about_command::{asks_about, run_about};
+use about_command::{asks_about, asks_for_lineage_sheet, run_about, run_lineage_sheet};
 use program_parts::run_main;
 use show_command::run_show;
 use std::io::{Stderr, Stdout};
@@ -15,7 +15,9 @@ fn main(rt: HostRuntime) -> ExitCode {
         rt.stdout(),
         rt.stderr(),
         &|words: &[String], out: &mut StdSink<Stdout>, faults: &mut StdSink<Stderr>| {
-            if asks_about(words) {
+            if asks_for_lineage_sheet(words) {
+                run_lineage_sheet(&rt, rt.alloc(), words, out, faults)
+            } else if asks_about(words) {
                 run_about(&rt, rt.alloc(), words, out, faults)
             } else {
                 run_show(&rt, rt.alloc(), words, out, faults)

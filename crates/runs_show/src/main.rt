@@ -1,7 +1,7 @@
 //! Runs scenarios of the program that shows files: the script on standard input, over the files of `data`.
 #![tactic(auto)]
 
-use about_command::{asks_about, run_about};
+use about_command::{asks_about, asks_for_lineage_sheet, run_about, run_lineage_sheet};
 use runs_script::run_script;
 use show_command::run_show;
 use std::fs::{File, Files};
@@ -19,6 +19,9 @@ fn run_named<R: Files<File = File> + AllocGlobal>(
 ) -> Option<u8> {
     let alloc = rt.alloc();
     match name {
+        "hs_show" if asks_for_lineage_sheet(words) => {
+            Some(run_lineage_sheet(rt, alloc, words, out, faults))
+        }
         "hs_show" if asks_about(words) => Some(run_about(rt, alloc, words, out, faults)),
         "hs_show" => Some(run_show(rt, alloc, words, out, faults)),
         _ => None,
