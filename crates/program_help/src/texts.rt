@@ -62,6 +62,7 @@ put it back to a backup.\n\
 \x20 --while-input      ends where standard input ends\n\
 \x20 --verbose          a line on standard error for each call\n\
 \x20 --renew            goes over to the next committee in one process\n\
+\x20 --keep N           keeps the logs of the last N chains; only with --renew\n\
 \n\
 Status: 0 ended; 4 the log was put back; 2 a fault. See hs_signer(1).\n",
 };
@@ -87,6 +88,7 @@ hs_signer --serve hands it out, or R=file:PATH, an export.\n\
 \x20 --keep-most BYTES   how much DIR may hold; only with --state\n\
 \x20 --until-culprit     ends with status 3 once the first verdict is stored\n\
 \x20 --until-input-ends  ends where standard input ends\n\
+\x20 --lineage           goes over with the ledger, to each next committee\n\
 \x20 --export R-I OUT    writes the logs that DIR keeps of source I of replica R\n\
 \n\
 Status: 0 ended, no culprit; 3 ended, culprits; 2 a fault. See hs_watch(1).\n",
