@@ -103,6 +103,7 @@ class Host:
         self.folder, self.number = folder, number
         self.signer_options, self.ledger_options = signer_options, ledger_options
         self.program = os.path.abspath(__file__)  # of the ledger process
+        self.first = f"{folder}/committee.hsc"  # the committee with which the folder of its signer began
         self.home = self.keys = f"{folder}/signer-{number}"  # and where the keys are that it has in the last committee
         self.signer = self.ledger = None
         self.lock = threading.Lock()
@@ -112,7 +113,7 @@ class Host:
         env = os.environ | {f"MEDDLE_{name.upper()}": word for name, word in meddling.items()}
         if meddling:
             env["LD_PRELOAD"] = f"{self.folder}/meddle.so"
-        words = [cluster.program("hs_signer"), f"{self.folder}/committee.hsc", str(self.number), self.home, "--sessions", "8"]
+        words = [cluster.program("hs_signer"), self.first, str(self.number), self.home, "--sessions", "8"]
         words += ["--while-input", "--successor", cluster.successor_of(self.folder, self.number), *self.signer_options]
         with open(f"{self.folder}/faults-{self.number}", "a") as faults:
             pipes = {"stdin": subprocess.PIPE, "stdout": subprocess.PIPE, "stderr": faults}
