@@ -7,8 +7,8 @@ use crate::table::table;
 use std::alloc::AllocError;
 use wire::append;
 
-// How many words may stand in front of a line: a time, `round` and its number; or a path.
-const MOST_WORDS_IN_FRONT: usize = 3;
+// How many words may stand in front of a line: a time, `round` and its number, `committee` and its number; or a path.
+const MOST_WORDS_IN_FRONT: usize = 5;
 
 /// Adds what the table says of a line as it was printed: for each row that fits it which programs print it, what it means and what to
 /// do. If none does, of the line without its first word, its first two, and so on. Answers whether there is such a row. Memory is
