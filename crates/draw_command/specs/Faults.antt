@@ -13,10 +13,11 @@ use Rattle.parallel_verify.specs.Collections.{HaveCollision}
 use Rattle.program_parts.specs.Writes.{CountsOutput}
 use Rattle.program_parts.specs.declared.program_fault.ProgramFault.{ProgramFault}
 use Rattle.program_parts.specs.declared.program_fault.ProgramFault.TheVariants.{Usage, Memory, File, Committee, Output, Own}
-use Rattle.program_parts.specs.declared.source_fault.SourceFault.{SourceFault}
 use Rattle.program_parts.specs.declared.source_fault.SourceFault.TheVariants.{Word, Collision}
 use Rattle.draw_command.specs.Outputs.{IsLogOf, IsOutput}
-use Rattle.draw_command.specs.Words.{AskForPicture, HaveBadSource, IsUsage, NameSources}
+use Rattle.draw_command.specs.Words.{AskForPicture, IsWordsFault}
+use Rattle.draw_command.specs.declared.fault.DrawFault.{DrawFault}
+use Rattle.draw_command.specs.declared.fault.DrawFault.TheVariants.{Sources, Word as Wrong}
 use Rattle.draw_command.specs.declared.words.SourceFile.{SourceFile}
 
 -- ---- over files
@@ -42,48 +43,40 @@ abbrev pub ShowCollision : List ℕ → List SourceFile → Type 0
 ShowCollision committee sources = (h : Header) × (k : Header) × HaveCollision IsLogOf committee sources (Colliding h k)
 
 -- why these files show nothing under this committee
-abbrev pub IsSourcesFault : List ℕ → List SourceFile → ProgramFault SourceFault → Type 0
+abbrev pub IsSourcesFault : List ℕ → List SourceFile → ProgramFault DrawFault → Type 0
 IsSourcesFault committee sources Usage = ⊥
 IsSourcesFault committee sources Memory = ⊤
 IsSourcesFault committee sources (File path) = IsUnread sources path.now
 IsSourcesFault committee sources (Committee r) = ⊥
 IsSourcesFault committee sources Output = ⊥
-IsSourcesFault committee sources (Own (Word i)) = ⊥
-IsSourcesFault committee sources (Own Collision) = ShowCollision committee sources
+IsSourcesFault committee sources (Own (Wrong word)) = ⊥
+IsSourcesFault committee sources (Own (Sources (Word i))) = ⊥
+IsSourcesFault committee sources (Own (Sources Collision)) = ShowCollision committee sources
 
 -- why there is no picture of them under the committee of the file at this path
-abbrev pub IsPictureFault : List ℕ → List SourceFile → ProgramFault SourceFault → Type 0
+abbrev pub IsPictureFault : List ℕ → List SourceFile → ProgramFault DrawFault → Type 0
 IsPictureFault path sources Usage = ⊥
 IsPictureFault path sources Memory = ⊤
 IsPictureFault path sources (File p) = (p.now ≡ path) ⊎ IsUnread sources p.now
 IsPictureFault path sources (Committee r) = (bytes : List ℕ) × (committee_in bytes ≡ Err r)
 IsPictureFault path sources Output = ⊥
-IsPictureFault path sources (Own (Word i)) = ⊥
-IsPictureFault path sources (Own Collision) = (committee : List ℕ) × IsCommittee committee × ShowCollision committee sources
+IsPictureFault path sources (Own (Wrong word)) = ⊥
+IsPictureFault path sources (Own (Sources (Word i))) = ⊥
+IsPictureFault path sources (Own (Sources Collision)) = (committee : List ℕ) × IsCommittee committee × ShowCollision committee sources
 
 -- ---- over words
 
--- why they ask for nothing
-abbrev pub IsWordsFault : List (String Global) → ProgramFault SourceFault → Type 0
-IsWordsFault words Usage = IsUsage words
-IsWordsFault words Memory = NameSources words
-IsWordsFault words (File path) = ⊥
-IsWordsFault words (Committee r) = ⊥
-IsWordsFault words Output = ⊥
-IsWordsFault words (Own (Word i)) = HaveBadSource words i
-IsWordsFault words (Own Collision) = ⊥
-
 -- why there is no picture of what they ask for
-abbrev pub IsFaultOfPicture : List (String Global) → ProgramFault SourceFault → Type 0
+abbrev pub IsFaultOfPicture : List (String Global) → ProgramFault DrawFault → Type 0
 IsFaultOfPicture words fault =
     (committee : List ℕ) × (sources : List SourceFile) × AskForPicture words committee sources × IsPictureFault committee sources fault
 
 -- why the program gives up over them, but where a write failed
-abbrev pub IsCause : List (String Global) → ProgramFault SourceFault → Type 0
+abbrev pub IsCause : List (String Global) → ProgramFault DrawFault → Type 0
 IsCause words fault = IsWordsFault words fault ⊎ IsFaultOfPicture words fault
 
 -- it gives up over the fault: the fault has its cause, and nothing was written but where a write failed
-pub record GivesUp {W : Type 0} (words : List (String Global)) (fault : ProgramFault SourceFault) (text : W → Option (List ℕ)) (failed : W → ℕ) (out out' : W) : Type 0 where
+pub record GivesUp {W : Type 0} (words : List (String Global)) (fault : ProgramFault DrawFault) (text : W → Option (List ℕ)) (failed : W → ℕ) (out out' : W) : Type 0 where
   pub cause : fault ≢ Output → IsCause words fault × (out' ≡ out)
   pub cut_short : fault ≡ Output → (whole : List ℕ) × IsOutput words whole × WrotePart (text out) (text out') whole
   pub counted : CountsOutput fault (failed out) (failed out')

@@ -2,8 +2,10 @@
 //! streams are handed in.
 #![tactic(auto)]
 
+mod fault;
 mod program;
 mod reading;
 mod words;
 
+pub use fault::DrawFault;
 pub use program::{DRAWN, run_draw};

@@ -1,22 +1,21 @@
 //! The program over handed-in words and streams, so that tests run it whole.
 
-ghost use Rattle.std.specs.Prelude.{◌≡◌, ◌≢◌, ◌⊎◌, ℕ, List, IfErr, IfOk, codes, string_bytes};
+ghost use Rattle.std.specs.Prelude.{◌≡◌, ◌≢◌, ◌⊎◌, ℕ, List, IfErr, IfOk, string_bytes};
 ghost use Rattle.streams.specs.Streams.{Wrote};
 ghost use Rattle.printed_lines.specs.Printed.{Told};
 ghost use Rattle.program_parts.specs.declared.program_fault.ProgramFault.{ProgramFault as FaultValue};
-ghost use Rattle.program_parts.specs.declared.source_fault.SourceFault.{SourceFault as OwnFaultValue};
 ghost use Rattle.draw_command.specs.FaultLines.{draw_fault_line};
 ghost use Rattle.draw_command.specs.Faults.{GivesUp, IsPictureFault};
 ghost use Rattle.draw_command.specs.Outputs.{IsOutput, IsPictureOf};
-ghost use Rattle.draw_command.specs.Words.{IsUsage};
+ghost use Rattle.draw_command.specs.Words.{IsUsage, first_wrong, usage_fault_line};
+ghost use Rattle.draw_command.specs.declared.fault.DrawFault.{DrawFault as OwnFaultValue};
 
+use crate::fault::Fault;
 use crate::reading::read_evidence;
 use crate::words::{SourceFile, Words, read_words};
 use culprit_search::{audit_searched, search_evidence};
 use fork_picture::{Purpose, draw, scene_of};
-use program_parts::{
-    ProgramFault, SourceFault, exit_status, parse_committee, read_committee, write_out,
-};
+use program_parts::{exit_status, parse_committee, read_committee, write_out};
 use std::alloc::Global;
 use std::fs::{File, Files};
 use std::sync::Wait;
@@ -49,7 +48,7 @@ where
     ensures no_failure { result ≢ 2 → W.failed out.new ≡ W.failed out.old }
     ensures usage { IsUsage words.now → (result ≡ 2)
         × Told (E.text faults.old) (E.text faults.new) (E.failed faults.old) (E.failed faults.new)
-        (codes "fault usage\n") }
+        (usage_fault_line (first_wrong words.now)) }
     ensures told { result ≡ 2 → (fault : FaultValue OwnFaultValue)
         × GivesUp words.now fault W.text W.failed out.old out.new
         × Told (E.text faults.old) (E.text faults.new) (E.failed faults.old) (E.failed faults.new)
@@ -64,7 +63,7 @@ fn run<'a, F: Files<File = File> + Sync, T: Threads + Wait + Sync, W: Sink>(
     alloc: Global,
     words: &'a [String],
     out: &mut W,
-) -> Result<u8, ProgramFault<'a, SourceFault>>
+) -> Result<u8, Fault<'a>>
 where
     F::Dir: Send,
     ensures drawn { IfOk result (λ status. (status ≡ 0) × ((text : List ℕ)
@@ -93,7 +92,7 @@ fn picture_of<'a, F: Files<File = File> + Sync, T: Threads + Wait + Sync>(
     alloc: Global,
     committee: &'a str,
     sources: &[SourceFile<'a>],
-) -> Result<String, ProgramFault<'a, SourceFault>>
+) -> Result<String, Fault<'a>>
 where
     F::Dir: Send,
     ensures drawn { IfOk result (λ text. IsPictureOf sources.now (string_bytes text)) }

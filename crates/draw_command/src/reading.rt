@@ -7,6 +7,7 @@ ghost use Rattle.parallel_verify.specs.Collections.{MayBeTried};
 ghost use Rattle.draw_command.specs.Faults.{IsFirstUnread, IsSourcesFault};
 ghost use Rattle.draw_command.specs.Outputs.{IsShown};
 
+use crate::fault::{DrawFault, Fault};
 use crate::words::SourceFile;
 use blocks::CommitteeView;
 use evidence::{Evidence, EvidenceRefusal, SourceReport};
@@ -73,7 +74,7 @@ pub(crate) fn read_evidence<'a, 'c, F: Files<File = File> + Sync, T: Threads + W
     alloc: Global,
     committee: &CommitteeView<'c>,
     words: &[SourceFile<'a>],
-) -> Result<Evidence<'c>, ProgramFault<'a, SourceFault>>
+) -> Result<Evidence<'c>, Fault<'a>>
 where
     F::Dir: Send,
     requires { IsCommittee committee.now }
@@ -87,6 +88,8 @@ where
             None => Ok(evidence),
         },
         Err(EvidenceRefusal::Memory) => Err(ProgramFault::Memory),
-        Err(EvidenceRefusal::Collision(_, _)) => Err(ProgramFault::Own(SourceFault::Collision)),
+        Err(EvidenceRefusal::Collision(_, _)) => {
+            Err(ProgramFault::Own(DrawFault::Sources(SourceFault::Collision)))
+        }
     }
 }

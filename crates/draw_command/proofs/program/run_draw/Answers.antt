@@ -1,9 +1,6 @@
 use Rattle.std.proofs.Common.{◌≡◌, ℕ, List, inl, inr, subst, arith}
 use Rattle.streams.specs.Streams.{Wrote}
 use Rattle.printed_lines.specs.Printed.{Told}
-use Rattle.program_parts.specs.declared.program_fault.ProgramFault.{ProgramFault}
-use Rattle.program_parts.specs.declared.source_fault.SourceFault.{SourceFault}
-use Rattle.draw_command.specs.FaultLines.{draw_fault_line}
 use Rattle.draw_command.specs.Faults.{GivesUp}
 use Rattle.draw_command.specs.Outputs.{IsOutput}
 use Rattle.draw_command.proofs.Causes.{is_usage, output_is_no_usage}
@@ -36,6 +33,6 @@ returns-clause-usage g c usage =
     (λ f. GivesUp c.args.words.now f g.W.Sink.text g.W.Sink.failed c.args.out.now c.run.new.out)
     c.exit_status.ensures.done c.exit_status.ensures.told c.run.ensures.drawn (λ s is. output_is_no_usage c.args.words.now is.1.0 usage is.1.1) c.run.ensures.given_up in (
       up.0,
-      subst (λ (f : ProgramFault SourceFault). Told (g.E.Sink.text c.args.faults.now) (g.E.Sink.text c.exit_status.new.faults) (g.E.Sink.failed c.args.faults.now) (g.E.Sink.failed c.exit_status.new.faults) (draw_fault_line f))
+      subst (λ (line : List ℕ). Told (g.E.Sink.text c.args.faults.now) (g.E.Sink.text c.exit_status.new.faults) (g.E.Sink.failed c.args.faults.now) (g.E.Sink.failed c.exit_status.new.faults) line)
           (is_usage c.args.words.now up.1.0 g.W.Sink.text g.W.Sink.failed c.args.out.now c.run.new.out usage up.1.1) up.1.2,
     )
