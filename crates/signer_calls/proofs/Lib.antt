@@ -1,5 +1,6 @@
 pub mod Ids
 pub mod Parameters
 pub mod Pairs
+pub mod BlockLists
 pub mod VoteReading
 pub mod OneReading

@@ -13,7 +13,7 @@ use Rattle.certificates.specs.declared.vote.TheConstants.{VOTE_LEN}
 use Rattle.replica_answers.specs.Requests.{IsOfBlock}
 use Rattle.replica_answers.specs.declared.request.Request.{Request as Asked}
 use Rattle.replica_answers.specs.declared.request.Request.TheVariants as asks
-use Rattle.signer_calls.specs.Asking.{ARequestHasOneReading, EndorseAsked, HasContentType, HasGoodTarget, HasNoOrigin, HasRightMethod, IsAdmitted, IsAskedAs, IsAskedAt, IsAskedOf, IsAskedPlace, IsHeldTo, IsRefusedAt, IsThere, NamesHost, OverAsked, OverFrom, PartAsked, PassesDoor, RenewAsked, SuccessorAsked, TimeoutAsked, VoteAsked, query_in}
+use Rattle.signer_calls.specs.Asking.{ARequestHasOneReading, BlocksAsked, EndorseAsked, HasContentType, HasGoodTarget, HasNoOrigin, HasRightMethod, IsAdmitted, IsAskedAs, IsAskedAt, IsAskedOf, IsAskedPlace, IsHeldTo, IsRefusedAt, IsThere, NamesHost, OverAsked, OverFrom, PartAsked, PassesDoor, RenewAsked, SuccessorAsked, TimeoutAsked, VoteAsked, query_in}
 use Rattle.signer_calls.specs.Places.{HasNoArgument, HasNoName, IsIdOf, IsNamedPlace, IsNumberOf, IsPlace, methods_of}
 use Rattle.signer_calls.specs.SpelledVotes.{IsVote, SpellsVote}
 use Rattle.signer_calls.specs.declared.call.Call.{Call}
@@ -24,6 +24,7 @@ use Rattle.signer_calls.specs.declared.place.Place.{Place}
 use Rattle.signer_calls.specs.declared.place.Place.TheVariants as place
 use Rattle.signer_calls.specs.declared.query.Query.{Query}
 use Rattle.signer_calls.specs.declared.rules.Rules.{Rules}
+use Rattle.signer_calls.proofs.BlockLists.{one_list}
 use Rattle.signer_calls.proofs.Ids.{one_spelled}
 use Rattle.signer_calls.proofs.Pairs.{one_pair}
 use Rattle.signer_calls.proofs.Parameters.{one_query}
@@ -34,6 +35,7 @@ use Rattle.signer_calls.proofs.Parameters.{one_query}
 abbrev named : List ℕ → Place
 named path =
     if bytes_eq path (codes "/block") then place.Block
+    else if bytes_eq path (codes "/blocks") then place.Blocks
     else if bytes_eq path (codes "/vote") then place.Vote
     else if bytes_eq path (codes "/certificate") then place.Certificate
     else if bytes_eq path (codes "/over") then place.Over
@@ -51,6 +53,7 @@ IsNamed path p = ((named path ≡ p) × (HasNoName path → ⊥)) ⊎ ((p ≡ pl
 
 is_named : (path : List ℕ) (p : Place) → IsNamedPlace path p → IsNamed path p
 is_named path place.Block is = inl (ap named is, λ none. none.block is)
+is_named path place.Blocks is = inl (ap named is, λ none. none.blocks is)
 is_named path place.Vote is = inl (ap named is, λ none. none.vote is)
 is_named path place.Certificate is = inl (ap named is, λ none. none.certificate is)
 is_named path place.Over is = inl (ap named is, λ none. none.over is)
@@ -101,6 +104,7 @@ names path (place.Timeout view) (digits, at, is) = inl (view, digits, refl, at, 
 names path (place.VoteIn view) (digits, at, is) = inr (inl (view, digits, refl, at, is))
 names path (place.Header id) (digits, at, is) = inr (inr (inl (id, digits, refl, at, is)))
 names path place.Block is = without path place.Block is
+names path place.Blocks is = without path place.Blocks is
 names path place.Vote is = without path place.Vote is
 names path place.Certificate is = without path place.Certificate is
 names path place.Over is = without path place.Over is
@@ -236,6 +240,7 @@ VoteCase body a = ((v : SignedVote) × (a ≡ call.Judge v) × SpellsVote body v
 vote_case : (body : List ℕ) (a : Call) → VoteAsked body a → VoteCase body a
 vote_case body (call.Judge v) is = inl (v, refl, is)
 vote_case body (call.Replica x) is = inr is
+vote_case body (call.Blocks x) is = inr is
 vote_case body (call.Certificate x) is = inr is
 vote_case body (call.Over x) is = inr is
 vote_case body call.Endorse is = inr is
@@ -267,6 +272,12 @@ one_timeout view body a b (inl (empty, is)) (inl (empty', is')) = is ∙ sym is'
 one_timeout view body a b (inl (empty, is)) (inr (some, is')) = absurd (some empty)
 one_timeout view body a b (inr (some, is)) (inl (empty, is')) = absurd (some empty)
 one_timeout view body a b (inr (some, is)) (inr (some', is')) = is ∙ sym is'
+
+one_blocks : (body : List ℕ) (a b : Call) → BlocksAsked body a → BlocksAsked body b → a ≡ b
+one_blocks body a b (inl (xs, at, is)) (inl (ys, at', is')) = is ∙ ap (λ (l : List (List ℕ)). call.Blocks l) (one_list body xs ys at at') ∙ sym is'
+one_blocks body a b (inl (xs, at, is)) (inr (none, is')) = absurd (none xs at)
+one_blocks body a b (inr (none, is)) (inl (ys, at', is')) = absurd (none ys at')
+one_blocks body a b (inr (none, is)) (inr (none', is')) = is ∙ sym is'
 
 one_part : (q : Query) (a b : Call) → PartAsked q a → PartAsked q b → a ≡ b
 one_part q a b (inl (none, is)) (inl (none', is')) = is ∙ sym is'
@@ -308,6 +319,7 @@ one_renew body a b (inr (none, is)) (inr (none', is')) = is ∙ sym is'
 
 one_asked : (r : Request (List ℕ)) (p : Place) (q : Query) (a b : Call) → IsAskedAt r p q a → IsAskedAt r p q b → a ≡ b
 one_asked r place.Block q a b (x, is, of) (y, is', of') = is ∙ ap (λ (z : Asked). call.Replica z) (one_block (body_of r) x y of of') ∙ sym is'
+one_asked r place.Blocks q a b of of' = one_blocks (body_of r) a b of of'
 one_asked r (place.Timeout (Some view)) q a b of of' = one_timeout view (body_of r) a b of of'
 one_asked r (place.Timeout None) q a b is is' = is ∙ sym is'
 one_asked r place.Vote q a b of of' = one_vote_call (body_of r) a b (vote_case (body_of r) a of) (vote_case (body_of r) b of')

@@ -11,6 +11,7 @@ use Rattle.replica_answers.specs.Requests.{IsOfBlock}
 use Rattle.replica_answers.specs.declared.request.Request.{Request as Asked}
 use Rattle.replica_answers.specs.declared.request.Request.TheVariants as asks
 use Rattle.host_rule.specs.HostRules.{HasGoodHost}
+use Rattle.signer_calls.specs.BlockLists.{SpellsBlocks, SpellsNoBlocks}
 use Rattle.signer_calls.specs.Doors.{HasBytesType}
 use Rattle.signer_calls.specs.LogParts.{part_of}
 use Rattle.signer_calls.specs.Pairs.{SpellsNoPair, SpellsPair}
@@ -116,6 +117,12 @@ abbrev pub TimeoutAsked : ℕ → List ℕ → Call → Type 0
 TimeoutAsked view body asked =
     ((body ≡ []) × (asked ≡ call.Replica (asks.Timeout view))) ⊎ ((body ≢ []) × (asked ≡ call.Refused refused.Length))
 
+-- the blocks that it spells
+abbrev pub BlocksAsked : List ℕ → Call → Type 0
+BlocksAsked body asked =
+    ((blocks : List (List ℕ)) × SpellsBlocks body blocks × (asked ≡ call.Blocks blocks))
+    ⊎ (SpellsNoBlocks body × (asked ≡ call.Refused refused.Length))
+
 -- a vote of 1,495 bytes
 abbrev pub VoteAsked : List ℕ → Call → Type 0
 VoteAsked body (call.Judge vote) = SpellsVote body vote
@@ -158,6 +165,7 @@ RenewAsked body asked =
 -- what is asked of a place by a request that is admitted, and whose query names this
 abbrev pub IsAskedAt : Request (List ℕ) → Place → Query → Call → Type 0
 IsAskedAt r place.Block query asked = (block : Asked) × (asked ≡ call.Replica block) × IsOfBlock (body_of r) block
+IsAskedAt r place.Blocks query asked = BlocksAsked (body_of r) asked
 IsAskedAt r (place.Timeout (Some view)) query asked = TimeoutAsked view (body_of r) asked
 IsAskedAt r place.Vote query asked = VoteAsked (body_of r) asked
 IsAskedAt r place.Certificate query asked = CertificateAsked (body_of r) asked

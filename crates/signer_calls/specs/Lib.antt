@@ -3,6 +3,7 @@ pub mod Doors
 pub mod Queries
 pub mod LogParts
 pub mod Pairs
+pub mod BlockLists
 pub mod SpelledVotes
 pub mod CallRefusals
 pub mod Asking

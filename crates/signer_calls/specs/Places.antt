@@ -2,7 +2,7 @@
 use Rattle.std.specs.Prelude.{◌≡◌, ◌≢◌, ◌<◌, ◌^◌, ◌++◌, ℕ, Bool, true, false, List, Option, Some, None, codes, decimal, length}
 use Rattle.hex.specs.Hex.{IsBytes, encode_lower}
 use Rattle.signer_calls.specs.declared.place.Place.{Place}
-use Rattle.signer_calls.specs.declared.place.Place.TheVariants.{Block, Timeout, Vote, Certificate, Over, Endorse, Renewal, VoteIn, Header, Successor, Log, Status, Live, Health, Metrics, Nowhere}
+use Rattle.signer_calls.specs.declared.place.Place.TheVariants.{Block, Blocks, Timeout, Vote, Certificate, Over, Endorse, Renewal, VoteIn, Header, Successor, Log, Status, Live, Health, Metrics, Nowhere}
 use Rattle.signer_calls.specs.declared.place.Methods.{Methods}
 use Rattle.signer_calls.specs.declared.place.Methods.TheVariants.{Post, Get}
 use Rattle.signer_calls.specs.declared.place.Queries.{Queries}
@@ -25,6 +25,7 @@ IsIdOf digits None = (id : List ℕ) → IsId id → digits ≡ encode_lower id 
 -- the path is none of those without an argument
 pub record HasNoName (path : List ℕ) : Type 0 where
   pub block : path ≢ codes "/block"
+  pub blocks : path ≢ codes "/blocks"
   pub vote : path ≢ codes "/vote"
   pub certificate : path ≢ codes "/certificate"
   pub over : path ≢ codes "/over"
@@ -39,6 +40,7 @@ pub record HasNoName (path : List ℕ) : Type 0 where
 -- a place without an argument
 abbrev pub IsNamedPlace : List ℕ → Place → Type 0
 IsNamedPlace path Block = path ≡ codes "/block"
+IsNamedPlace path Blocks = path ≡ codes "/blocks"
 IsNamedPlace path Vote = path ≡ codes "/vote"
 IsNamedPlace path Certificate = path ≡ codes "/certificate"
 IsNamedPlace path Over = path ≡ codes "/over"
@@ -68,6 +70,7 @@ IsPlace path place = HasNoArgument path × IsNamedPlace path place
 -- by which methods a place is asked
 abbrev pub methods_of : Place → Methods
 methods_of Block = Post
+methods_of Blocks = Post
 methods_of (Timeout view) = Post
 methods_of Vote = Post
 methods_of Certificate = Post
@@ -85,6 +88,7 @@ abbrev pub queries_of : Place → Queries
 queries_of Log = Part
 queries_of Successor = Payload
 queries_of Block = Chain
+queries_of Blocks = Chain
 queries_of (Timeout view) = Chain
 queries_of Vote = Chain
 queries_of Certificate = Chain

@@ -2,10 +2,11 @@
 
 ghost use Rattle.std.specs.Prelude.{◌≡◌, ◌↔◌, IfOk, IsTrue, MatchOption, option_copied};
 ghost use Rattle.http.specs.Request.{head_of};
-ghost use Rattle.signer_calls.specs.Asking.{AsksFor, CertificateAsked, EndorseAsked, HasContentType, HasGoodTarget, HasNoOrigin, HasRightMethod, IsAdmitted, IsAnother, IsAskedAt, IsAskedOf, IsAskedPlace, IsHeldTo, IsOfChain, IsRefusedAt, IsThere, NamesHost, OverAsked, PartAsked, PassesDoor, PostsRenewal, RenewAsked, SuccessorAsked, VoteAsked};
+ghost use Rattle.signer_calls.specs.Asking.{AsksFor, BlocksAsked, CertificateAsked, EndorseAsked, HasContentType, HasGoodTarget, HasNoOrigin, HasRightMethod, IsAdmitted, IsAnother, IsAskedAt, IsAskedOf, IsAskedPlace, IsHeldTo, IsOfChain, IsRefusedAt, IsThere, NamesHost, OverAsked, PartAsked, PassesDoor, PostsRenewal, RenewAsked, SuccessorAsked, VoteAsked};
 ghost use Rattle.signer_calls.specs.Places.{queries_of};
 ghost use Rattle.signer_calls.specs.Queries.{HasGoodQuery, IsChainAlone};
 
+use crate::block_list::blocks_in;
 use crate::call::{Call, CallRefusal, Over};
 use crate::door::has_bytes_type;
 use crate::log_part::part_of;
@@ -129,6 +130,7 @@ fn asked_at(
     let body = request.body().as_slice();
     match place {
         Place::Block => Ok(Call::Replica(block_in(alloc, body)?)),
+        Place::Blocks => blocks_asked(alloc, request.body()),
         Place::Timeout(Some(view)) if body.is_empty() => Ok(Call::Replica(Asked::Timeout(view))),
         Place::Timeout(Some(_)) => Ok(Call::Refused(CallRefusal::Length)),
         Place::Vote => Ok(vote_asked(body)),
@@ -145,6 +147,15 @@ fn asked_at(
         Place::Health => Ok(Call::Health),
         Place::Metrics => Ok(Call::Metrics),
         _ => Ok(Call::Refused(CallRefusal::Number)),
+    }
+}
+
+fn blocks_asked(alloc: Global, body: &Bytes) -> Result<Call, AllocError>
+    ensures { IfOk result (BlocksAsked body.now) }
+{
+    match blocks_in(alloc, body)? {
+        Some(blocks) => Ok(Call::Blocks(blocks)),
+        None => Ok(Call::Refused(CallRefusal::Length)),
     }
 }
 

@@ -3,6 +3,7 @@
 ghost use Rattle.std.specs.Prelude.{◌≡◌, ◌≤◌, length};
 ghost use Rattle.signer_calls.specs.CallRefusals.{call_refusal_name, call_refusal_number, call_refusal_status};
 
+use crate::block_list::BlockList;
 use crate::log_part::LogPart;
 use crate::place::Methods;
 use blocks::Id;
@@ -36,6 +37,8 @@ pub struct Renewing {
 pub enum Call {
     /// To deliver a block, `POST /block`, or to give up on views, `POST /timeout/V`; or what is refused of a block's bytes.
     Replica(Request),
+    /// To deliver blocks one after the other: `POST /blocks`.
+    Blocks(BlockList),
     /// Whether a vote is good: `POST /vote`.
     Judge(SignedVote),
     /// Whether a certificate is good, or why its bytes are none, which is not for want of memory: `POST /certificate`.

@@ -2,6 +2,7 @@
 #![tactic(auto)]
 
 mod asking;
+mod block_list;
 mod call;
 mod door;
 mod laws;
@@ -13,6 +14,7 @@ mod rules;
 mod vote_reading;
 
 pub use asking::call_of;
+pub use block_list::{BlockList, MOST_BLOCKS_AT_ONCE};
 pub use call::{Call, CallRefusal, Over, Renewing};
 pub use laws::a_request_has_one_reading;
 pub use log_part::{LogPart, MOST_ENTRIES_AT_ONCE};

@@ -11,6 +11,8 @@ use printed_lines::{id_digits, number_in};
 pub enum Place {
     /// `/block`
     Block,
+    /// `/blocks`
+    Blocks,
     /// `/timeout/V`, if V is a number of 64 bits as it is printed.
     Timeout(Option<u64>),
     /// `/vote`
@@ -71,7 +73,7 @@ impl Place {
     {
         match self {
             Place::Block | Place::Timeout(_) | Place::Vote | Place::Certificate => Methods::Post,
-            Place::Over | Place::Endorse | Place::Renewal => Methods::Post,
+            Place::Blocks | Place::Over | Place::Endorse | Place::Renewal => Methods::Post,
             _ => Methods::Get,
         }
     }
@@ -93,7 +95,7 @@ impl Place {
             Place::Log => Queries::Part,
             Place::Successor => Queries::Payload,
             Place::Block | Place::Timeout(_) | Place::Vote | Place::Certificate => Queries::Chain,
-            Place::Over | Place::Endorse | Place::Renewal => Queries::Chain,
+            Place::Blocks | Place::Over | Place::Endorse | Place::Renewal => Queries::Chain,
             Place::VoteIn(_) | Place::Header(_) => Queries::Chain,
             _ => Queries::Nothing,
         }
@@ -151,6 +153,9 @@ fn named_place(path: &[u8]) -> Place
 {
     if is_same(path, b"/block") {
         return Place::Block;
+    }
+    if is_same(path, b"/blocks") {
+        return Place::Blocks;
     }
     if is_same(path, b"/vote") {
         return Place::Vote;
