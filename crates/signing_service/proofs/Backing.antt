@@ -1,5 +1,5 @@
 -- The calls of a connection, one after another.
-use Rattle.std.proofs.Common.{◌≡◌, ◌∙◌, ℕ, Bool, List, [], ◌∷◌, Option, Some, None, ap, subst, sym}
+use Rattle.std.proofs.Common.{◌≡◌, ◌∙◌, ℕ, Bool, List, [], ◌∷◌, ◌++◌, Option, Some, None, inl, inr, ap, subst, sym}
 use Rattle.std.specs.Prelude.{IfSome, IsSome}
 use Rattle.blocks.specs.Replica.{Stored}
 use Rattle.http.specs.declared.request.Request.{Request}
@@ -14,7 +14,9 @@ use Rattle.signer_answers.specs.Showings.{Showing}
 use Rattle.signer_answers.specs.Tellings.{HasItsReceipt}
 use Rattle.signer_answers.specs.declared.told.Told.{Told}
 use Rattle.signer_answers.specs.declared.told.Told.TheVariants.{Came, Again, Unread, PutBack, Asking}
-use Rattle.signing_service.specs.CallAnswers.{AreBacked, IsServed, receipts_told}
+use Rattle.signing_service.specs.CallAnswers.{AnyTold, AreBacked, AreBlocksServed, AreMoreServed, IsAllBacked, IsAllServed, IsBlockServed, IsCallServed, IsServed, receipts_told}
+use Rattle.signer_calls.specs.declared.call.Call.{Call}
+use Rattle.signer_calls.specs.declared.call.Call.TheVariants as call
 use Rattle.signer_calls.specs.declared.rules.Rules.{Rules}
 
 -- ---- what was told
@@ -43,6 +45,125 @@ told_among_more receipts more (Some (PutBack ballot)) grown has = tt
 told_among_more receipts more (Some Asking) grown has = tt
 told_among_more receipts more None grown has = tt
 
+-- ---- one call
+
+-- of a caller who has more receipts behind it
+abbrev Backs : List Receipt → Option Told → Type 0
+Backs receipts told = IfSome told (HasItsReceipt receipts)
+
+module _ {D : Type 0} (disk : Ghosts D) (committee : List ℕ) (replica : ℕ) (opening : List Stored) (rules : Rules) (asks : Bool) (tells : Telling) where
+  abbrev One : Call → List Receipt → Option Showing → Response → List Receipt → Option Showing → Option Told → Type 0
+  One asked before shown response after shown_after told =
+      IsCallServed disk committee replica opening rules asks tells asked before shown response after shown_after told
+
+  abbrev Block : (Option Told → Type 0) → List ℕ → List Receipt → Option Showing → Response → List Receipt → Option Showing → Option Told → Type 0
+  Block Also block before shown response after shown_after told =
+      IsBlockServed disk committee replica opening Also rules asks tells block before shown response after shown_after told
+
+  abbrev More : (Option Told → Type 0) → List ℕ → Response → Option Told → List (List ℕ) → List Receipt → Option Showing → Response → List Receipt → Option Showing → Option Told → Type 0
+  More Also lines one last blocks before shown response after shown_after told =
+      AreMoreServed disk committee replica opening Also rules asks tells lines one last blocks before shown response after shown_after told
+
+  abbrev Blocks : (Option Told → Type 0) → List (List ℕ) → List Receipt → Option Showing → Response → List Receipt → Option Showing → Option Told → Type 0
+  Blocks Also blocks before shown response after shown_after told =
+      AreBlocksServed disk committee replica opening Also rules asks tells blocks before shown response after shown_after told
+
+  one_grows : (asked : Call) (before : List Receipt) (shown : Option Showing) (response : Response) (after : List Receipt) (shown_after : Option Showing) (told : Option Told)
+      → One asked before shown response after shown_after told → ReceiptsGrow before after
+  one_grows asked before shown response after shown_after told it =
+      subst (λ (rs : List Receipt). ReceiptsGrow before rs) (sym it.receipts) (grow_told before told)
+
+  one_backs : (asked : Call) (before : List Receipt) (shown : Option Showing) (response : Response) (after : List Receipt) (shown_after : Option Showing) (told : Option Told)
+      → One asked before shown response after shown_after told → (receipts : List Receipt) → ReceiptsGrow after receipts → Backs receipts told
+  one_backs asked before shown response after shown_after told it receipts grown =
+      told_among_more after receipts told grown
+      (subst (λ (rs : List Receipt). Backs rs told) (sym it.receipts) (has_told before told))
+
+  stay_grown : (before after : List Receipt) → after ≡ before → ReceiptsGrow before after
+  stay_grown before after is = subst (λ (rs : List Receipt). ReceiptsGrow before rs) (sym is) (grow_none before)
+
+  more_grows : (lines : List ℕ) (one : Response) (last : Option Told) (blocks : List (List ℕ)) (before : List Receipt) (shown : Option Showing) (response : Response) (after : List Receipt) (shown_after : Option Showing) (told : Option Told)
+      → More AnyTold lines one last blocks before shown response after shown_after told → ReceiptsGrow before after
+  more_grows lines one last [] before shown response after shown_after told h = stay_grown before after h.receipts
+  more_grows lines one last (block ∷ blocks) before shown response after shown_after told (inl (not, h)) = stay_grown before after h.receipts
+  more_grows lines one last (block ∷ blocks) before shown response after shown_after told (inr (taken, inl h)) = stay_grown before after h.receipts
+  more_grows lines one last (block ∷ blocks) before shown response after shown_after told (inr (taken, inr (next, its, between, shown_between, it, h))) =
+      grow_then before between after (one_grows (call.Replica it.asked) before shown next between shown_between its it.served)
+      (more_grows (lines ++ one.body.items) next its blocks between shown_between response after shown_after told h)
+
+  more_shows : (lines : List ℕ) (one : Response) (last : Option Told) (blocks : List (List ℕ)) (before : List Receipt) (shown : Option Showing) (response : Response) (after : List Receipt) (shown_after : Option Showing) (told : Option Told)
+      → More AnyTold lines one last blocks before shown response after shown_after told → IsSome shown → IsSome shown_after
+  more_shows lines one last [] before shown response after shown_after told h is = subst (λ (o : Option Showing). IsSome o) (sym h.shows) is
+  more_shows lines one last (block ∷ blocks) before shown response after shown_after told (inl (not, h)) is = subst (λ (o : Option Showing). IsSome o) (sym h.shows) is
+  more_shows lines one last (block ∷ blocks) before shown response after shown_after told (inr (taken, inl h)) is = subst (λ (o : Option Showing). IsSome o) (sym h.shows) is
+  more_shows lines one last (block ∷ blocks) before shown response after shown_after told (inr (taken, inr (next, its, between, shown_between, it, h))) is =
+      more_shows (lines ++ one.body.items) next its blocks between shown_between response after shown_after told h (it.served.keeps is)
+
+  block_backs : (block : List ℕ) (before : List Receipt) (shown : Option Showing) (response : Response) (after : List Receipt) (shown_after : Option Showing) (told : Option Told)
+      → Block AnyTold block before shown response after shown_after told → (receipts : List Receipt) → ReceiptsGrow after receipts
+      → Block (Backs receipts) block before shown response after shown_after told
+  block_backs block before shown response after shown_after told it receipts grown = record {
+    asked = it.asked;
+    reads = it.reads;
+    served = it.served;
+    also = one_backs (call.Replica it.asked) before shown response after shown_after told it.served receipts grown;
+  }
+
+  more_backs : (receipts : List Receipt) (lines : List ℕ) (one : Response) (last : Option Told) (blocks : List (List ℕ)) (before : List Receipt) (shown : Option Showing) (response : Response) (after : List Receipt) (shown_after : Option Showing) (told : Option Told)
+      → ReceiptsGrow after receipts → More AnyTold lines one last blocks before shown response after shown_after told
+      → More (Backs receipts) lines one last blocks before shown response after shown_after told
+  more_backs receipts lines one last [] before shown response after shown_after told grown h = h
+  more_backs receipts lines one last (block ∷ blocks) before shown response after shown_after told grown (inl h) = inl h
+  more_backs receipts lines one last (block ∷ blocks) before shown response after shown_after told grown (inr (taken, inl h)) = inr (taken, inl h)
+  more_backs receipts lines one last (block ∷ blocks) before shown response after shown_after told grown (inr (taken, inr (next, its, between, shown_between, it, h))) =
+      let later = more_grows (lines ++ one.body.items) next its blocks between shown_between response after shown_after told h in
+      let is = block_backs block before shown next between shown_between its it receipts (grow_then between after receipts later grown) in
+      inr (taken, inr (next, its, between, shown_between, is, more_backs receipts (lines ++ one.body.items) next its blocks between shown_between response after shown_after told grown h))
+
+  blocks_grow : (blocks : List (List ℕ)) (before : List Receipt) (shown : Option Showing) (response : Response) (after : List Receipt) (shown_after : Option Showing) (told : Option Told)
+      → Blocks AnyTold blocks before shown response after shown_after told → ReceiptsGrow before after
+  blocks_grow [] before shown response after shown_after told (refusal, of, receipts, shows) = stay_grown before after receipts
+  blocks_grow (block ∷ blocks) before shown response after shown_after told (one, its, between, shown_between, it, h) =
+      grow_then before between after (one_grows (call.Replica it.asked) before shown one between shown_between its it.served)
+      (more_grows [] one its blocks between shown_between response after shown_after told h)
+
+  blocks_show : (blocks : List (List ℕ)) (before : List Receipt) (shown : Option Showing) (response : Response) (after : List Receipt) (shown_after : Option Showing) (told : Option Told)
+      → Blocks AnyTold blocks before shown response after shown_after told → IsSome shown → IsSome shown_after
+  blocks_show [] before shown response after shown_after told (refusal, of, receipts, shows) is = subst (λ (o : Option Showing). IsSome o) (sym shows) is
+  blocks_show (block ∷ blocks) before shown response after shown_after told (one, its, between, shown_between, it, h) is =
+      more_shows [] one its blocks between shown_between response after shown_after told h (it.served.keeps is)
+
+  blocks_back : (receipts : List Receipt) (blocks : List (List ℕ)) (before : List Receipt) (shown : Option Showing) (response : Response) (after : List Receipt) (shown_after : Option Showing) (told : Option Told)
+      → ReceiptsGrow after receipts → Blocks AnyTold blocks before shown response after shown_after told
+      → Blocks (Backs receipts) blocks before shown response after shown_after told
+  blocks_back receipts [] before shown response after shown_after told grown h = h
+  blocks_back receipts (block ∷ blocks) before shown response after shown_after told grown (one, its, between, shown_between, it, h) =
+      let later = more_grows [] one its blocks between shown_between response after shown_after told h in
+      let is = block_backs block before shown one between shown_between its it receipts (grow_then between after receipts later grown) in
+      (one, its, between, shown_between, is, more_backs receipts [] one its blocks between shown_between response after shown_after told grown h)
+
+  abbrev All : Call → List Receipt → Option Showing → Response → List Receipt → Option Showing → Option Told → Type 0
+  All asked before shown response after shown_after told =
+      IsAllServed disk committee replica opening rules asks tells asked before shown response after shown_after told
+
+  pub all_grows : (asked : Call) (before : List Receipt) (shown : Option Showing) (response : Response) (after : List Receipt) (shown_after : Option Showing) (told : Option Told)
+      → All asked before shown response after shown_after told → ReceiptsGrow before after
+  all_grows asked before shown response after shown_after told (inl (blocks, is, h)) = blocks_grow blocks before shown response after shown_after told h
+  all_grows asked before shown response after shown_after told (inr it) = one_grows asked before shown response after shown_after told it
+
+  pub all_shows : (asked : Call) (before : List Receipt) (shown : Option Showing) (response : Response) (after : List Receipt) (shown_after : Option Showing) (told : Option Told)
+      → All asked before shown response after shown_after told → IsSome shown → IsSome shown_after
+  all_shows asked before shown response after shown_after told (inl (blocks, is, h)) is_some = blocks_show blocks before shown response after shown_after told h is_some
+  all_shows asked before shown response after shown_after told (inr it) is_some = it.keeps is_some
+
+  pub all_backs : (receipts : List Receipt) (asked : Call) (before : List Receipt) (shown : Option Showing) (response : Response) (after : List Receipt) (shown_after : Option Showing) (told : Option Told)
+      → ReceiptsGrow after receipts → All asked before shown response after shown_after told
+      → IsAllBacked disk committee replica opening rules asks tells receipts asked before shown response after shown_after told
+  all_backs receipts asked before shown response after shown_after told grown (inl (blocks, is, h)) =
+      inl (blocks, is, blocks_back receipts blocks before shown response after shown_after told grown h)
+  all_backs receipts asked before shown response after shown_after told grown (inr it) =
+      inr (it, one_backs asked before shown response after shown_after told it receipts grown)
+
 -- ---- a chain of calls
 
 -- of a service whose state lends a place of calls and an office
@@ -57,12 +178,15 @@ module _ {D S P O : Type 0} (disk : Ghosts D) (committee : List ℕ) (replica : 
   chain_grows (c ∷ calls) old new h =
       let it = h.1.0 in
       grow_then (receipts old) (receipts h.0) (receipts new)
-      (subst (λ (rs : List Receipt). ReceiptsGrow (receipts old) rs) (sym it.served.receipts) (grow_told (receipts old) it.told))
+      (all_grows disk committee replica opening (rules (placed old)) (asks (placed old)) (tells (housed old)) it.asked (receipts old) (shown old) c.1 (receipts h.0) (shown h.0) it.told it.served)
       (chain_grows calls h.0 new h.2)
 
   pub chain_shows : (calls : List Exchanged) (old new : S) → Chain Steps old calls new → IsSome (shown old) → IsSome (shown new)
   chain_shows [] old new h is = subst (λ (s : S). IsSome (shown s)) (sym h) is
-  chain_shows (c ∷ calls) old new h is = chain_shows calls h.0 new h.2 (h.1.0.served.keeps is)
+  chain_shows (c ∷ calls) old new h is =
+      let it = h.1.0 in
+      chain_shows calls h.0 new h.2
+      (all_shows disk committee replica opening (rules (placed old)) (asks (placed old)) (tells (housed old)) it.asked (receipts old) (shown old) c.1 (receipts h.0) (shown h.0) it.told it.served is)
 
   -- office and place stay
   pub chain_stays : (calls : List Exchanged) (old new : S) → Chain Steps old calls new → (housed new ≡ housed old) × (placed new ≡ placed old)
@@ -78,21 +202,18 @@ module _ {D S P O : Type 0} (disk : Ghosts D) (committee : List ℕ) (replica : 
   chain_backs [] old new h = ap shown (sym h)
   chain_backs (c ∷ calls) old new h =
       let it = h.1.0 in
-      let has = subst (λ (rs : List Receipt). IfSome it.told (HasItsReceipt rs)) (sym it.served.receipts) (has_told (receipts old) it.told) in
       let later = subst (λ (o : O). Back o (placed old) (shown h.0) calls (shown new) (receipts new)) h.1.1
-      (subst (λ (p : P). Back (housed h.0) p (shown h.0) calls (shown new) (receipts new)) h.1.2 (chain_backs calls h.0 new h.2)) in (
+      (subst (λ (p : P). Back (housed h.0) p (shown h.0) calls (shown new) (receipts new)) h.1.2 (chain_backs calls h.0 new h.2)) in
+      let grown = chain_grows calls h.0 new h.2 in (
         shown h.0,
         record {
           asked = it.asked;
           reads = it.reads;
           told = it.told;
           before = receipts old;
-          answers = it.served.answers;
-          grown = chain_grows (c ∷ calls) old new h;
-          backed = told_among_more (receipts h.0) (receipts new) it.told (chain_grows calls h.0 new h.2) has;
-          stops = it.served.stops;
-          keeps = it.served.keeps;
-          learns = it.served.learns;
+          after = receipts h.0;
+          answers = all_backs disk committee replica opening (rules (placed old)) (asks (placed old)) (tells (housed old)) (receipts new) it.asked (receipts old) (shown old) c.1 (receipts h.0) (shown h.0) it.told grown it.served;
+          grown = grown;
         },
         later,
       )

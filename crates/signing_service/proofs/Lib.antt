@@ -2,6 +2,7 @@ pub mod Desks
 pub mod Exports
 pub mod Pieces
 pub mod Backing
+pub mod SeveralBlocks
 pub mod Counted
 pub mod Results
 pub mod Settled

@@ -9,7 +9,7 @@ use Rattle.handover.specs.Handovers.{handover_mark, handover_payload}
 use Rattle.http.specs.declared.request.Request.{Request}
 use Rattle.http_server.specs.declared.response.Response.{Response}
 use Rattle.http_server.specs.Exchange.{Call as Exchanged}
-use Rattle.http_server.specs.Response.{IsResponse}
+use Rattle.http_server.specs.Response.{IsResponse, fields_of}
 use Rattle.stable_log.specs.declared.disk.Disk.{Ghosts}
 use Rattle.vote_log.specs.declared.export_error.ExportError.{ExportError}
 use Rattle.vote_log.specs.declared.export_error.ExportError.TheVariants as export
@@ -26,6 +26,7 @@ use Rattle.vote_desk.specs.declared.desk_error.DeskError.TheVariants as desk
 use Rattle.vote_desk.specs.declared.parts.DeskStatus.{DeskStatus}
 use Rattle.vote_desk.specs.declared.reply.Answer.TheVariants.{Voted}
 use Rattle.vote_desk.specs.declared.reply.Receipt.{Receipt}
+use Rattle.replica_answers.specs.Requests.{IsOfBlock}
 use Rattle.replica_answers.specs.SessionReceipts.{ReceiptsGrow}
 use Rattle.replica_answers.specs.declared.outcome.Outcome.{Outcome}
 use Rattle.replica_answers.specs.declared.outcome.Outcome.TheVariants as came
@@ -159,6 +160,24 @@ from_export _ = log.Memory
 abbrev pub receipts_told : List Receipt → Option Told → List Receipt
 receipts_told receipts (Some it) = receipts_behind receipts it
 receipts_told receipts None = receipts
+
+-- ---- blocks behind each other
+
+-- the response is this one with these lines in front
+abbrev pub IsBehind : List ℕ → Response → Response → Type 0
+IsBehind lines one response = IsResponse one.status (fields_of one) (lines ++ one.body.items) response
+
+-- the response tells no line, since memory was refused for one
+abbrev pub IsUnheld : Response → Type 0
+IsUnheld response = IsResponse 503 [] [] response
+
+-- it is this one with these lines in front, or there are such lines and no memory for all
+abbrev pub IsPutBehind : List ℕ → Response → Response → Type 0
+IsPutBehind lines one response = IsBehind lines one response ⊎ ((lines ≢ []) × IsUnheld response)
+
+-- nothing more is asked of what is told of one
+abbrev pub AnyTold : Option Told → Type 0
+AnyTold told = Unit {0}
 
 -- ---- a call to go over
 
@@ -367,10 +386,12 @@ module _ {D : Type 0} (disk : Ghosts D) (committee : List ℕ) (replica : ℕ) (
 
   -- ---- a call
 
-  -- what a call is told of a caller who has these receipts, and was shown so much, and the outcome among it
+  -- what a call is told of a caller who has these receipts, and was shown so much, and the outcome among it; several blocks are told as
+  -- is said below
   abbrev pub IsCallTold : Rules → Bool → Telling → List Receipt → Option Showing → Call → Option Told → Response → Type 0
   IsCallTold rules asks tells receipts shown (call.Replica asked) told response =
       IsOutcomeOf rules.furthest asks tells receipts asked told × IsOutcomeTold (block_asked asked) told response
+  IsCallTold rules asks tells receipts shown (call.Blocks blocks) told response = ⊥
   IsCallTold rules asks tells receipts shown (call.Judge vote) told response = (told ≡ None) × IsVoteJudged asks shown vote response
   IsCallTold rules asks tells receipts shown (call.Certificate read) told response = (told ≡ None) × IsCertificateTold committee read response
   IsCallTold rules asks tells receipts shown (call.Over over) told response = (told ≡ None) × IsOverTold asks tells shown over response
@@ -395,26 +416,79 @@ module _ {D : Type 0} (disk : Ghosts D) (committee : List ℕ) (replica : ℕ) (
     pub keeps : IsSome shown → IsSome shown_after
     pub learns : IsStopTo told → IsSome shown_after
 
+  -- one of several blocks is told so, as by a call of its own; this holds of what is told besides
+  pub record IsBlockServed (Also : Option Told → Type 0) (rules : Rules) (asks : Bool) (tells : Telling) (block : List ℕ) (before : List Receipt) (shown : Option Showing) (response : Response) (after : List Receipt) (shown_after : Option Showing) (told : Option Told) : Type 0 where
+    pub asked : Asked
+    pub reads : IsOfBlock block asked
+    pub served : IsCallServed rules asks tells (call.Replica asked) before shown response after shown_after told
+    pub also : Also told
+
+  -- no further block is delivered: the answer is that of the last with the lines of those before it
+  pub record IsEnded (lines : List ℕ) (one : Response) (last : Option Told) (before : List Receipt) (shown : Option Showing) (response : Response) (after : List Receipt) (shown_after : Option Showing) (told : Option Told) : Type 0 where
+    pub answer : IsPutBehind lines one response
+    pub of : told ≡ last
+    pub receipts : after ≡ before
+    pub shows : shown_after ≡ shown
+
+  -- no further block is delivered, for want of memory
+  pub record IsCutShort (before : List Receipt) (shown : Option Showing) (response : Response) (after : List Receipt) (shown_after : Option Showing) (told : Option Told) : Type 0 where
+    pub answer : IsUnheld response
+    pub of : told ≡ None
+    pub receipts : after ≡ before
+    pub shows : shown_after ≡ shown
+
+  -- behind these lines, and one block that was told this, the others are told: each as by a call of its own, as long as the one before it
+  -- was taken, and there is memory
+  abbrev pub AreMoreServed : (Option Told → Type 0) → Rules → Bool → Telling → List ℕ → Response → Option Told → List (List ℕ) → List Receipt → Option Showing → Response → List Receipt → Option Showing → Option Told → Type 0
+  AreMoreServed Also rules asks tells lines one last [] before shown response after shown_after told =
+      IsEnded lines one last before shown response after shown_after told
+  AreMoreServed Also rules asks tells lines one last (block ∷ blocks) before shown response after shown_after told =
+      ((one.status ≢ 200) × IsEnded lines one last before shown response after shown_after told)
+      ⊎ ((one.status ≡ 200)
+      × (IsCutShort before shown response after shown_after told
+      ⊎ ((next : Response) × (its : Option Told) × (between : List Receipt) × (shown_between : Option Showing)
+      × IsBlockServed Also rules asks tells block before shown next between shown_between its
+      × AreMoreServed Also rules asks tells (lines ++ one.body.items) next its blocks between shown_between response after shown_after told)))
+
+  -- so several blocks are told, one after the other, up to the first that is refused; no body spells none
+  abbrev pub AreBlocksServed : (Option Told → Type 0) → Rules → Bool → Telling → List (List ℕ) → List Receipt → Option Showing → Response → List Receipt → Option Showing → Option Told → Type 0
+  AreBlocksServed Also rules asks tells [] before shown response after shown_after told =
+      IsRefusalTold refused.Length response × (told ≡ None) × (after ≡ before) × (shown_after ≡ shown)
+  AreBlocksServed Also rules asks tells (block ∷ blocks) before shown response after shown_after told =
+      (one : Response) × (its : Option Told) × (between : List Receipt) × (shown_between : Option Showing)
+      × IsBlockServed Also rules asks tells block before shown one between shown_between its
+      × AreMoreServed Also rules asks tells [] one its blocks between shown_between response after shown_after told
+
+  -- .. or any other call
+  abbrev pub IsAllServed : Rules → Bool → Telling → Call → List Receipt → Option Showing → Response → List Receipt → Option Showing → Option Told → Type 0
+  IsAllServed rules asks tells asked before shown response after shown_after told =
+      ((blocks : List (List ℕ)) × (asked ≡ call.Blocks blocks) × AreBlocksServed AnyTold rules asks tells blocks before shown response after shown_after told)
+      ⊎ IsCallServed rules asks tells asked before shown response after shown_after told
+
   -- .. to a request, by what it asks for
   pub record IsServed (rules : Rules) (asks : Bool) (tells : Telling) (before : List Receipt) (shown : Option Showing) (request : Request (List ℕ)) (response : Response) (after : List Receipt) (shown_after : Option Showing) : Type 0 where
     pub asked : Call
     pub reads : AsksFor rules committee request asked
     pub told : Option Told
-    pub served : IsCallServed rules asks tells asked before shown response after shown_after told
+    pub served : IsAllServed rules asks tells asked before shown response after shown_after told
 
-  -- the response tells what the request's call is told, and the receipt of a new vote is among these, as those are that the caller had.
-  -- Who was shown before it that the log was put back is told so of each block and timeout, and who is told so is shown behind it
+  -- .. where the receipt of each new vote that is told, also of one among several blocks, is among these
+  abbrev pub IsAllBacked : Rules → Bool → Telling → List Receipt → Call → List Receipt → Option Showing → Response → List Receipt → Option Showing → Option Told → Type 0
+  IsAllBacked rules asks tells receipts asked before shown response after shown_after told =
+      ((blocks : List (List ℕ)) × (asked ≡ call.Blocks blocks)
+      × AreBlocksServed (λ t. IfSome t (HasItsReceipt receipts)) rules asks tells blocks before shown response after shown_after told)
+      ⊎ (IsCallServed rules asks tells asked before shown response after shown_after told × IfSome told (HasItsReceipt receipts))
+
+  -- the response tells what the request's call is told, and the receipt of each new vote is among these, as those are that the caller
+  -- had. Who was shown before it that the log was put back is told so of each block and timeout, and who is told so is shown behind it
   pub record IsBacked (rules : Rules) (asks : Bool) (tells : Telling) (receipts : List Receipt) (shown : Option Showing) (exchanged : Exchanged) (shown_after : Option Showing) : Type 0 where
     pub asked : Call
     pub reads : AsksFor rules committee exchanged.0 asked
     pub told : Option Told
     pub before : List Receipt
-    pub answers : IsCallTold rules asks tells before shown asked told exchanged.1
-    pub grown : ReceiptsGrow before receipts
-    pub backed : IfSome told (HasItsReceipt receipts)
-    pub stops : IsSome shown → IsStopped asked told
-    pub keeps : IsSome shown → IsSome shown_after
-    pub learns : IsStopTo told → IsSome shown_after
+    pub after : List Receipt
+    pub answers : IsAllBacked rules asks tells receipts asked before shown exchanged.1 after shown_after told
+    pub grown : ReceiptsGrow after receipts
 
   -- .. and so each of these calls, from what was shown before the first of them to what was behind the last
   abbrev pub AreBacked : Rules → Bool → Telling → List Receipt → Option Showing → List Exchanged → Option Showing → Type 0

@@ -9,6 +9,7 @@ mod endorsing;
 mod going;
 mod halt;
 mod health;
+mod joining;
 mod judging;
 mod laws;
 mod metrics;

@@ -1,11 +1,11 @@
 //! One caller's side of a desk, as a service.
 
-ghost use Rattle.std.specs.Prelude.{◌≡◌, ◌≢◌, ◌<◌, ◌≤◌, ◌+◌, IfOk, IfSome, IsFalse, IsSome, IsTrue, MatchOption, None, OnErr, OnOk, Option, codes};
+ghost use Rattle.std.specs.Prelude.{◌≡◌, ◌≢◌, ◌<◌, ◌≤◌, ◌+◌, [], IfOk, IfSome, IsFalse, IsSome, IsTrue, MatchOption, None, OnErr, OnOk, Option, codes};
 ghost use Rattle.blocks.specs.Genesis.{chain_id_of};
 ghost use Rattle.blocks.specs.declared.ballot.Ballot.{Ballot as BallotValue};
 ghost use Rattle.http_server.specs.Response.{IsBlank};
 ghost use Rattle.signer_answers.specs.Guards.{WasPutBack};
-ghost use Rattle.signing_service.specs.CallAnswers.{IsCallServed, IsCrossingOf, IsDeskHealthTold, IsDeskMetricsTold, IsDeskStatusTold, IsEndorsementTold, IsEndorsingOf, IsFar, IsGoneTo, IsHalted, IsHandedOver, IsHeaderTold, IsMeasured, IsNear, IsNoneHandedOver, IsOfFile, IsOutcomeOf, IsOverTold, IsPartTold, IsRenewalTold, IsServed, IsShut, IsStopTo, IsVoteJudged, IsVoteTold, SomeOne, committed_by, from_export, parent_view_of, receipts_told};
+ghost use Rattle.signing_service.specs.CallAnswers.{AnyTold, AreBlocksServed, AreMoreServed, IsAllServed, IsBlockServed, IsCallServed, IsCrossingOf, IsDeskHealthTold, IsDeskMetricsTold, IsDeskStatusTold, IsEndorsementTold, IsEndorsingOf, IsFar, IsGoneTo, IsHalted, IsHandedOver, IsHeaderTold, IsMeasured, IsNear, IsNoneHandedOver, IsOfFile, IsOutcomeOf, IsOverTold, IsPartTold, IsRenewalTold, IsServed, IsShut, IsStopTo, IsVoteJudged, IsVoteTold, SomeOne, committed_by, from_export, parent_view_of, receipts_told};
 ghost use Rattle.signer_answers.specs.Sparings.{reserve_of};
 ghost use Rattle.signing_service.specs.Judging.{IsCertificateTold};
 ghost use Rattle.signing_service.specs.Refusals.{IsRefusalTold, refusal_fields};
@@ -19,6 +19,7 @@ use crate::endorsing::{Endorsing, tell_endorsing};
 use crate::going::Going;
 use crate::halt::{Halt, tell_halt, tell_unhealthy};
 use crate::health::tell_health;
+use crate::joining::{put_behind, tell_unheld};
 use crate::judging::{tell_certificate, tell_judgement};
 use crate::metrics::{METRICS_ROOM, Measured, tell_metrics};
 use crate::reception::Reception;
@@ -33,14 +34,14 @@ use bytes::Bytes;
 use certificates::{Certificate, CertificateRefusal, SignedVote};
 use good_votes::{Checker, Known};
 use handover::{HANDOVER_MARK, handover_payload};
-use http::Request;
-use http_server::{Response, Service};
+use http::{Request, StatusCode};
+use http_server::{Response, Rope, Service};
 use next_keys::{NextKeysView, write_endorsement};
-use replica_answers::{Outcome, Request as Asked};
+use replica_answers::{Outcome, Request as Asked, block_in};
 use signer_answers::{
     Approver, Caller, Keeper, NextFault, Office, OverFault, Told, answer, reserve_of,
 };
-use signer_calls::{Call, CallRefusal, LogPart, Over, Renewing, call_of};
+use signer_calls::{BlockList, Call, CallRefusal, LogPart, Over, Renewing, call_of};
 use stable_log::Disk;
 use std::alloc::{AllocError, Global};
 use std::io;
@@ -263,6 +264,85 @@ impl<
         let told = self.counted_outcome_of(asked);
         tell_told(response, &block, &told);
         Ok(told)
+    }
+
+    // Delivers one of several blocks, as by a call of its own.
+    fn ask_block(
+        &mut self,
+        block: &Bytes,
+        response: &mut Response,
+    ) -> Result<Option<Told>, AllocError>
+        requires { IsBlank response.old }
+        ensures ok { IfOk result (IsBlockServed D.Disk N.committee N.replica N.opening AnyTold
+            self.old.reception.now.rules.now self.old.reception.now.gate.now.asks
+            (K.tells self.old.office.now.keeper.now) block.now
+            self.old.caller.session.receipts.items self.old.caller.shown response.new
+            self.new.caller.session.receipts.items self.new.caller.shown) }
+        ensures same { (self.new.office ≡ self.old.office) × (self.new.reception ≡ self.old.reception) }
+        ensures err { OnErr result (self.new ≡ self.old) }
+    {
+        let asked = block_in(self.alloc, block.as_slice())?;
+        self.ask(asked, response)
+    }
+
+    // Delivers blocks one after the other, each once the vote for the one before it is stored, up to the first that is refused.
+    fn ask_blocks(
+        &mut self,
+        blocks: &BlockList,
+        response: &mut Response,
+    ) -> Result<Option<Told>, AllocError>
+        requires { IsBlank response.old }
+        ensures ok { IfOk result (AreBlocksServed D.Disk N.committee N.replica N.opening AnyTold
+            self.old.reception.now.rules.now self.old.reception.now.gate.now.asks
+            (K.tells self.old.office.now.keeper.now) blocks.now
+            self.old.caller.session.receipts.items self.old.caller.shown response.new
+            self.new.caller.session.receipts.items self.new.caller.shown) }
+        ensures same { (self.new.office ≡ self.old.office) × (self.new.reception ≡ self.old.reception) }
+        ensures err { OnErr result (self.new ≡ self.old) }
+    {
+        let [first, more @ ..] = blocks.as_slice() else {
+            self.tell_refusal(response, CallRefusal::Length)?;
+            return Ok(None);
+        };
+        let told = self.ask_block(first, response)?;
+        Ok(self.ask_more(told, more, response))
+    }
+
+    // .. those behind one that was told this. Nothing fails behind a block that was taken: where memory is refused, no line is told.
+    fn ask_more(
+        &mut self,
+        first: Option<Told>,
+        blocks: &[Bytes],
+        response: &mut Response,
+    ) -> Option<Told>
+        ensures told { AreMoreServed D.Disk N.committee N.replica N.opening AnyTold
+            self.old.reception.now.rules.now self.old.reception.now.gate.now.asks
+            (K.tells self.old.office.now.keeper.now) [] response.old first blocks.now
+            self.old.caller.session.receipts.items self.old.caller.shown response.new
+            self.new.caller.session.receipts.items self.new.caller.shown result }
+        ensures same { (self.new.office ≡ self.old.office) × (self.new.reception ≡ self.old.reception) }
+    {
+        let mut told = first;
+        let mut lines = Rope::new(self.alloc);
+        let mut left = blocks;
+        while let [block, more @ ..] = left {
+            if response.status != StatusCode::OK {
+                break;
+            }
+            if lines.append(&mut response.body).is_err() {
+                tell_unheld(response);
+                return None;
+            }
+            response.clear();
+            let Ok(next) = self.ask_block(block, response) else {
+                tell_unheld(response);
+                return None;
+            };
+            told = next;
+            left = more;
+        }
+        put_behind(&mut lines, response);
+        told
     }
 
     // Tells that something is not there.
@@ -647,7 +727,7 @@ impl<
     // Does what a call asks for, and tells what came of it. Answers what was told of a block or a timeout.
     fn do_call(&mut self, call: Call, response: &mut Response) -> Result<Option<Told>, AllocError>
         requires { IsBlank response.old }
-        ensures ok { IfOk result (IsCallServed D.Disk N.committee N.replica N.opening
+        ensures ok { IfOk result (IsAllServed D.Disk N.committee N.replica N.opening
             self.old.reception.now.rules.now self.old.reception.now.gate.now.asks
             (K.tells self.old.office.now.keeper.now) call
             self.old.caller.session.receipts.items self.old.caller.shown response.new
@@ -657,6 +737,7 @@ impl<
     {
         match call {
             Call::Replica(asked) => return self.ask(asked, response),
+            Call::Blocks(blocks) => return self.ask_blocks(&blocks, response),
             Call::Judge(vote) => self.judge(&vote, response)?,
             Call::Certificate(read) => self.judge_certificate(read, response)?,
             Call::Over(over) => self.tell_over(&over, response)?,
