@@ -359,6 +359,32 @@ GET /live?now HTTP/1.1\r\nhost: a\r\n\r\n\
 POST /vote HTTP/1.1\r\nhost: a\r\ncontent-length: 1\r\n\r\n0\
 GET /metrics HTTP/1.1\r\nhost: a\r\n\r\n";
 
+const WITH_SEVERAL_BLOCKS: &[u8] =
+    b"POST /blocks HTTP/1.1\r\nhost: a\r\ncontent-length: 9125\r\n\r\n";
+
+// A1, A2, a byte that is no block, and A3, in one call; what is no block behind its length; and the votes in views 2 and 3.
+fn calls_of_several(alloc: Global) -> Result<Vec<u8>, AllocError> {
+    let mut calls = Vec::new(alloc);
+    for piece in [
+        WITH_SEVERAL_BLOCKS,
+        b"\0\0\0\x7e",
+        core_blocks::a1(),
+        texts::of_genesis(),
+        b"\0\0\x11\x8b",
+        texts::header_a2(),
+        core_blocks::certificate_of_a1(),
+        b"\0\0\0\x010",
+        b"\0\0\x11\x8b",
+        core_blocks::a3(),
+        core_blocks::certificate_of_a2(),
+        b"POST /blocks HTTP/1.1\r\nhost: a\r\ncontent-length: 5\r\n\r\n\0\0\0\x020",
+        b"GET /vote/2 HTTP/1.1\r\nhost: a\r\n\r\nGET /vote/3 HTTP/1.1\r\nhost: a\r\n\r\n",
+    ] {
+        calls.extend_from_slice(piece)?;
+    }
+    Ok(calls)
+}
+
 // A2, whose certificate of A1 has a vote of replica 1, which its empty log lacks, and then other calls.
 fn put_back_calls(alloc: Global) -> Result<Vec<u8>, AllocError> {
     let mut calls = Vec::new(alloc);
@@ -433,3 +459,22 @@ fn a_log_that_was_put_back_is_told(rt: HostRuntime) {
 // What is told of A1.
 const PUT_BACK: &[u8] =
     b"\r\n\r\nstopped vote view 1 id 5b526f8ffa3d66249b11ba8431f9d960b08aad60e33b288aeef2d11f58c1c938 not in the log\n";
+
+#[test]
+fn several_blocks_end_at_the_first_that_is_refused(rt: HostRuntime) {
+    let alloc = rt.alloc();
+    let input = calls_of_several(alloc).expect(&rt, "memory");
+    let keys = RandomState::new(&rt).ok().expect(&rt, "keys");
+    let (sent, counted) = told(&rt, alloc, keys, 0, &input);
+    let sent = sent.expect(&rt, "answers");
+    assert!(rt; counted == [4, 1, 0]);
+    assert!(rt; are_answers(alloc, &sent, b"400 400 200 404 ", &OF_SEVERAL));
+    assert!(rt; is_told_twice(&sent, b"voted 1 0000"));
+}
+
+// What is told of them.
+const OF_SEVERAL: [&[u8]; 3] = [
+    b"\r\n\r\nvoted 0 0000",
+    b"\nrefused header 1 Length\nHTTP/1.1 400",
+    b"\r\n\r\nrefused call 11 Length\n",
+];
