@@ -175,7 +175,7 @@ hs_signer | refused call 7 Far | The view lies further above the vote view than 
 hs_signer | refused call 8 NoVote | The log has no vote in this view. | Nothing: the replica did not vote there.\n\
 hs_signer | refused call 9 Target | The target is not a path, or has a query that the call does not take, or an id or a payload that is not 64 digits in lower case. | Put it right.\n\
 hs_signer | refused call 10 NotHeld | No block of this id is held. | Deliver it, its parents first.\n\
-hs_signer | refused call 11 Length | A vote has not 1,495 bytes, a timeout has a body, or a call to go over does not begin with four zero bytes. | Put it right.\n\
+hs_signer | refused call 11 Length | A vote has not 1,495 bytes, a timeout has a body, a call to go over has not as many bytes as it names, or blocks are none, more than 64, or not each after its length. | Put it right.\n\
 hs_signer | refused call 12 Chain | The call names another chain than the one that the signer stands in, or, with --renew, none; nothing was done. | Drop it if that chain ended; else ask the signer of that chain.\n\
 hs_signer | over CHAIN | The signer has gone over to this chain: it votes in the one before no more. | Nothing: name this chain in calls from here on.\n\
 hs_signer | refused over 1 NoCommit | This process told no block as committed that has a handover block in its chain. | Hand in the block that commits again, then repeat the call.\n\
