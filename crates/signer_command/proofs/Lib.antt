@@ -1,2 +1,5 @@
 pub mod Printing
 pub mod Running
+mod Handed
+mod FirstWrong
+mod Values

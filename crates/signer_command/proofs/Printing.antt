@@ -10,7 +10,7 @@ use Rattle.signer_command.specs.Ends.{Fault, IsEndBehind, IsGivenUp, IsLate, IsP
 use Rattle.signer_command.specs.Lines.{IsAnnounced, Places, closed_line, listening_text}
 use Rattle.signer_command.specs.declared.announcing.Announced.{Announced}
 use Rattle.signer_command.specs.declared.announcing.Announced.TheVariants.{NotBegun, Unsaid, Over}
-use Rattle.signer_command.specs.declared.fault.SignerFault.TheVariants.{DiskFailed, Endless, FileIn, Lineage, Store, Receipts, Socket, Listen, Threads}
+use Rattle.signer_command.specs.declared.fault.SignerFault.TheVariants.{DiskFailed, Endless, FileIn, Lineage, Store, Receipts, Socket, Listen, Threads, Word}
 
 -- a part of where calls are taken
 pub part_printed : (before after : Option (List ℕ)) (places : Places) → WrotePart before after (listening_text places) → IsPart before after
@@ -55,6 +55,7 @@ nothing_given_up (program.Own Listen) before = refl
 nothing_given_up (program.Own Threads) before = nothing_printed before
 nothing_given_up (program.Own (Lineage chain)) before = nothing_printed before
 nothing_given_up (program.Own Endless) before = nothing_printed before
+nothing_given_up (program.Own (Word word)) before = refl
 
 -- whatever came of announcing, a part of it was printed
 pub announced_part : (announced : Announced) (before after : Option (List ℕ)) (failures failures' : ℕ) (places : Places) (text : List ℕ)
@@ -89,6 +90,7 @@ given_up_late (program.Committee refusal) before after late part = absurd late
 given_up_late program.Output before after late part = absurd late
 given_up_late (program.Own (Socket folder)) before after late part = absurd late
 given_up_late (program.Own Listen) before after late part = absurd late
+given_up_late (program.Own (Word word)) before after late part = absurd late
 
 -- and behind the output's failure
 pub given_up_writing : (fault : Fault) (before after : Option (List ℕ)) → fault ≡ program.Output → IsPart before after → IsGivenUp fault before after

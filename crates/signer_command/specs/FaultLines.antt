@@ -13,7 +13,7 @@ use Rattle.replica_command.specs.declared.fault.ReplicaFile.TheVariants as file
 use Rattle.replica_command.specs.declared.fault.ReplicaFault.{ReplicaFault}
 use Rattle.replica_command.specs.declared.fault.ReplicaFault.TheVariants as replica
 use Rattle.signer_command.specs.declared.fault.SignerFault.{SignerFault}
-use Rattle.signer_command.specs.declared.fault.SignerFault.TheVariants.{FileIn, Store, Receipts, DiskFailed, Socket, Listen, Threads, Lineage, Endless}
+use Rattle.signer_command.specs.declared.fault.SignerFault.TheVariants.{FileIn, Store, Receipts, DiskFailed, Socket, Listen, Threads, Lineage, Endless, Word}
 
 -- a file behind its folder
 abbrev pub name_behind : ReplicaFile → List ℕ
@@ -36,6 +36,10 @@ store_fault_line number = codes "fault store " ++ decimal number ++ codes "\n"
 abbrev pub lineage_line : List ℕ → List ℕ
 lineage_line chain = codes "fault lineage " ++ encode_lower chain ++ codes "\n"
 
+-- "fault usage WORD"
+abbrev pub word_line : List ℕ → List ℕ
+word_line word = codes "fault usage " ++ (printed word ++ codes "\n")
+
 -- of those that this program alone has
 abbrev pub own_line : SignerFault → List ℕ
 own_line (FileIn folder it) = file_in_folder_line folder.now it
@@ -47,6 +51,7 @@ own_line Listen = codes "fault listen\n"
 own_line Threads = codes "fault threads\n"
 own_line (Lineage chain) = lineage_line chain
 own_line Endless = codes "fault lineage\n"
+own_line (Word word) = word_line word.now
 
 -- of a folder of chains
 abbrev pub fault_of_lineage : Bor (List ℕ) → LineageFault → ProgramFault SignerFault

@@ -6,3 +6,7 @@ pub mod Approved
 pub mod Ends
 pub mod Ruled
 pub mod Outrunning
+pub mod Steps
+pub mod StepAnswers
+pub mod WrongWords
+pub mod WordFaults

@@ -5,7 +5,7 @@ ghost use Rattle.arrayvec.specs.ArrayVec.{array_vec_len};
 ghost use Rattle.std.specs.Prelude.{OnErr, OnOk};
 ghost use Rattle.streams.specs.Counting.{Counts};
 ghost use Rattle.streams.specs.Streams.{Wrote, WrotePart};
-ghost use Rattle.signer_command.specs.FaultLines.{disk_line, fault_in_folder, file_in_folder_line, fault_of_lineage, lineage_line, name_behind, own_line, store_fault_line};
+ghost use Rattle.signer_command.specs.FaultLines.{disk_line, fault_in_folder, file_in_folder_line, fault_of_lineage, lineage_line, name_behind, own_line, store_fault_line, word_line};
 ghost use Rattle.signer_command.specs.declared.fault.TheConstants.{LINEAGE_LINE};
 
 use arrayvec::ArrayVec;
@@ -45,6 +45,8 @@ pub enum SignerFault<'a> {
     Lineage(Id),
     /// The folder's words lead through too many committees.
     Endless,
+    /// This word is not as the program is called.
+    Word(&'a str),
 }
 
 impl FaultLine for SignerFault<'_> {
@@ -61,6 +63,7 @@ impl FaultLine for SignerFault<'_> {
             SignerFault::Threads => write_all(out, b"fault threads\n"),
             SignerFault::Lineage(chain) => write_all(out, &lineage_fault(chain)),
             SignerFault::Endless => write_all(out, b"fault lineage\n"),
+            SignerFault::Word(word) => write_word(out, word),
         }
     }
 }
@@ -94,6 +97,17 @@ fn write_disk_fault<W: Sink>(out: &mut W, path: &str, behind: &[u8]) -> Result<(
     write_all(out, b"fault disk ")?;
     write_printed(out, path.as_bytes())?;
     write_all(out, behind)
+}
+
+// "fault usage WORD"
+fn write_word<W: Sink>(out: &mut W, word: &str) -> Result<(), streams::Fault>
+    ensures ok { OnOk result (Wrote (W.text out.old) (W.text out.new) (word_line word.now)) }
+    ensures err { OnErr result (WrotePart (W.text out.old) (W.text out.new) (word_line word.now)) }
+    ensures counted { Counts (W.failed out.old) (W.failed out.new) result }
+{
+    write_all(out, b"fault usage ")?;
+    write_printed(out, word.as_bytes())?;
+    write_all(out, b"\n")
 }
 
 // A file's name behind its folder's path.

@@ -1,13 +1,19 @@
 //! A log that is handed out to all who ask, while votes go on.
 
+ghost use Rattle.std.specs.Prelude.{◌≡◌, ◌↔◌, IfSome, IsFalse, IsTrue, length};
+ghost use Rattle.chain_request.specs.Gathering.{request_len};
+ghost use Rattle.chain_request.specs.StepRequests.{begins_step};
+ghost use Rattle.signer_command.specs.StepAnswers.{IsStepAnswer, IsStepOf};
+
 use crate::past::PastLog;
+use crate::step_file::StepFile;
 use blocks::Id;
-use chain_request::{ChainRequest, RequestBytes, asked_in};
+use chain_request::{Asked, ChainRequest, RequestBytes, StepBytes, StepRequest, asked_in};
 use lineage_folder::LineageFolder;
 use log_format::FrameRequest;
 use log_handout::Reply;
 use patient_sockets::{Bounds, Next, Rules, Talk};
-use stable_log::Disk;
+use stable_log::{Disk, FileDisk};
 use std::alloc::Global;
 use std::fs::{File, Files};
 use std::io;
@@ -35,8 +41,8 @@ pub(crate) fn rules(most: usize) -> Rules {
 }
 
 /// Answers one request of each connection, which may name a chain: by the entries that there are when it comes, in pieces that are
-/// copied under the desk's lock and sent behind it, as one export; or by the word that there is no log of the chain that it names. A
-/// piece is copied once the one before was taken.
+/// copied under the desk's lock and sent behind it, as one export; or by the word that there is no log of the chain that it names. Or it
+/// asks for a piece of a step. What goes out next is copied once all before was taken.
 #[derive(Drop)]
 pub(crate) struct LogTalk<'a, N: DeskNaming, T, D: Disk> {
     pub rt: &'a T,
@@ -59,19 +65,42 @@ pub(crate) struct Past<'a, T> {
 #[derive(Drop)]
 pub(crate) struct LogLine {
     request: RequestBytes,
+    // The same bytes, which may ask for a piece of a step.
+    step: StepBytes,
     reply: Option<Answering>,
 }
 
-// What answers a request: the desk, or the log of an earlier chain.
+// What answers a request: the desk, the log of an earlier chain, or a piece of the step by which one was left.
 #[derive(Drop)]
 enum Answering {
     Desk(Reply),
     Past(PastLog),
+    Step(StepFile<FileDisk>),
+}
+
+impl LogLine {
+    // Whether all of the request came: its first four bytes say of how many it is.
+    fn is_whole(&self) -> bool
+        ensures step { IsTrue (begins_step self.now.step)
+            → (IsTrue result ↔ (length self.now.step ≡ 37)) }
+        ensures log { IsFalse (begins_step self.now.step)
+            → (IsTrue result ↔ (length self.now.request ≡ request_len self.now.request)) }
+    {
+        if self.step.begin_step() {
+            self.step.is_whole()
+        } else {
+            self.request.is_whole()
+        }
+    }
 }
 
 impl<'a, N: DeskNaming, T: Wait + Files<File = File>, D: Disk> LogTalk<'a, N, T, D> {
-    // What answers these bytes, which are a request. One that names no chain asks for the log of the first chain.
-    fn answer(&self, bytes: &[u8]) -> Option<Answering> {
+    // What answers a request that is whole. One that names no chain asks for the log of the first chain.
+    fn answer(&self, line: &LogLine) -> Option<Answering> {
+        if line.step.begin_step() {
+            return Some(self.answer_step(line.step.as_bytes()));
+        }
+        let bytes = line.request.as_bytes();
         if let Some(past) = &self.past {
             if let Some(log) = self.earlier(past, bytes) {
                 return Some(Answering::Past(log));
@@ -82,6 +111,28 @@ impl<'a, N: DeskNaming, T: Wait + Files<File = File>, D: Disk> LogTalk<'a, N, T,
         }
         let asked = asked_in(&self.chain, bytes)?;
         Some(Answering::Desk(Reply::begin(self.rt, self.desk, asked)))
+    }
+
+    // A piece of the step by which a chain was left, or that there is none.
+    fn answer_step(&self, bytes: &[u8]) -> Answering
+        ensures { IsStepAnswer self.now.chain bytes.now result }
+    {
+        match self.step_in(bytes) {
+            Some(file) => Answering::Step(file),
+            None => Answering::Desk(Reply::begin(self.rt, self.desk, Asked::OtherChain)),
+        }
+    }
+
+    // The piece that these bytes ask for. The present chain was not left.
+    fn step_in(&self, bytes: &[u8]) -> Option<StepFile<FileDisk>>
+        ensures { IfSome result (IsStepOf self.now.chain bytes.now) }
+    {
+        let past = self.past.as_ref()?;
+        let wanted = StepRequest::from_bytes(bytes)?;
+        if wanted.chain == self.chain {
+            return None;
+        }
+        StepFile::open(&past.folder, &wanted)
     }
 
     // The log of an earlier chain, if that is what is asked for.
@@ -117,6 +168,7 @@ impl<N: DeskNaming, T: Wait + Files<File = File>, D: Disk> Talk for LogTalk<'_, 
     fn begin(&mut self) -> io::Result<LogLine> {
         Ok(LogLine {
             request: RequestBytes::new(),
+            step: StepBytes::new(),
             reply: None,
         })
     }
@@ -126,10 +178,11 @@ impl<N: DeskNaming, T: Wait + Files<File = File>, D: Disk> Talk for LogTalk<'_, 
             return Ok(());
         }
         line.request.take(bytes);
-        if !line.request.is_whole() {
+        line.step.take(bytes);
+        if !line.is_whole() {
             return Ok(());
         }
-        let Some(answering) = self.answer(line.request.as_bytes()) else {
+        let Some(answering) = self.answer(line) else {
             return Err(io::Error::from(ErrorKind::InvalidData));
         };
         line.reply = Some(answering);
@@ -149,6 +202,7 @@ impl<N: DeskNaming, T: Wait + Files<File = File>, D: Disk> Talk for LogTalk<'_, 
                 }
             }
             Answering::Past(log) => log.next_piece(self.alloc, share)?,
+            Answering::Step(file) => file.next_part(self.alloc)?,
         };
         match piece {
             Some(piece) => Ok(Next::Piece(piece)),

@@ -73,6 +73,18 @@ impl<T: Wait + Files<File = File>, S: Sink> Home<'_, T, S> {
         if is_said { next.take() } else { None }
     }
 
+    // Stores the light proof that this block is committed, if the log of the chain that is left has all of it. It goes over without one, too.
+    fn store_proof(&self, handover: &Id) -> Result<(), OverFault> {
+        let (lineage, before) = (self.lineage(), self.successor.committee);
+        let Some(proof) = lineage.light_proof(before, handover) else {
+            return Ok(());
+        };
+        match lineage.store_light_proof(before, &proof) {
+            Ok(()) => Ok(()),
+            Err(fault) => Err(fault_of_words(fault)),
+        }
+    }
+
     // Stores the word that it goes over by this block to the committee of this file.
     fn store_word(&self, handover: &Id, file: &[u8]) -> Result<(), OverFault> {
         let word = GoneOver {
@@ -178,6 +190,7 @@ impl<T: Threads + Wait + Files<File = File>, S: Sink> Approver for Home<'_, T, S
             return Err(OverFault::Stopped);
         }
         if ready.handover.is_none() {
+            self.store_proof(handover)?;
             self.store_word(handover, file)?;
             ready.handover = Some(*handover);
         }

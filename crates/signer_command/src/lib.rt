@@ -29,8 +29,10 @@ mod seeds;
 mod socket_file;
 mod stay;
 mod staying;
+mod step_file;
 mod successor;
 mod words;
+mod wrong_words;
 
 pub use fault::{Fault, SignerFault};
 pub use program::{DONE, Host, REFUSED, run_signer};

@@ -6,7 +6,7 @@ ghost use Rattle.signer_command.specs.Ends.{IsLate};
 
 use crate::fault::{Fault, SignerFault, in_folder, of_lineage};
 use crate::fitness::Means;
-use crate::notes::Notes;
+use crate::notes::{Leftover, Notes};
 use crate::outrunning::{boundary_of, endorsement_outruns};
 use crate::program::{Host, disk_fault};
 use crate::words::Words;
@@ -82,7 +82,30 @@ pub(crate) fn stand_in<'a, T: Files<File = File> + Threads + Wait + Sync, S: Sin
         Standing::first(host.alloc, first)
     };
     let (parts, lock) = opened_at(host, words, notes, &at)?;
+    clear_behind(host, words, notes, &at);
     Ok(Stand { at, parts, lock })
+}
+
+/// Removes what no chain needs any more where a signer stands that goes over: seeds, and, if the words say so, logs. A later removal
+/// makes up for one that fails or is cut short.
+pub(crate) fn clear_behind<T: Files<File = File> + Wait, S: Sink>(
+    host: &Host<'_, T>,
+    words: &Words<'_>,
+    notes: &Notes<'_, T, S>,
+    at: &Standing,
+) {
+    if !words.renew {
+        return;
+    }
+    let folder = folder_of(host.rt, host.alloc, words);
+    if folder.remove_old_seeds(at, words.replica).is_err() {
+        notes.tell_left(Leftover::Seeds);
+    }
+    if let Some(keep) = words.keep
+        && folder.remove_old_logs(at, usize::from(keep)).is_err()
+    {
+        notes.tell_left(Leftover::Logs);
+    }
 }
 
 // Which chain it stands in. Where words could not be read since a disk failed that is written down, as under a desk.

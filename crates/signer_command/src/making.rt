@@ -452,7 +452,8 @@ fn states(said: &Option<Vec<u8>>, statement: &[u8]) -> bool {
     }
 }
 
-fn copy_of(alloc: Global, bytes: &[u8]) -> Result<Vec<u8>, AllocError>
+/// The same bytes once more.
+pub(crate) fn copy_of(alloc: Global, bytes: &[u8]) -> Result<Vec<u8>, AllocError>
     ensures { IfOk result (λ copy. copy.items ≡ bytes.now) }
 {
     bytes.to_vec(alloc)

@@ -22,7 +22,15 @@ const LONGEST_BODY: usize = 80;
 /// What is told where it could be written down nowhere that a disk failed.
 const NOT_WRITTEN: &[u8] = b"disk-failed not written\n";
 
-/// Tells of calls, of sources, and once that a disk stopped the desk or the log was put back. What the sink does not take is lost.
+/// What could not be removed though no chain needs it any more.
+#[derive(Clone, Copy, Debug, PartialEq, Eq)]
+pub(crate) enum Leftover {
+    Seeds,
+    Logs,
+}
+
+/// Tells of calls, of sources, and once that a disk stopped the desk, that the log was put back, or what could not be removed. What the
+/// sink does not take is lost.
 #[derive(Drop)]
 pub(crate) struct Notes<'a, T: Wait, S: Sink> {
     rt: &'a T,
@@ -33,6 +41,8 @@ pub(crate) struct Notes<'a, T: Wait, S: Sink> {
     places: DiskFailedPlaces<'a>,
     has_stopped: AtomicBool,
     was_put_back: AtomicBool,
+    has_old_seeds: AtomicBool,
+    has_old_logs: AtomicBool,
 }
 
 impl<'a, T: Wait, S: Sink> Notes<'a, T, S> {
@@ -51,6 +61,8 @@ impl<'a, T: Wait, S: Sink> Notes<'a, T, S> {
             places,
             has_stopped: AtomicBool::new(false),
             was_put_back: AtomicBool::new(false),
+            has_old_seeds: AtomicBool::new(false),
+            has_old_logs: AtomicBool::new(false),
         }
     }
 
@@ -78,6 +90,17 @@ impl<'a, T: Wait, S: Sink> Notes<'a, T, S> {
     /// Whether it was told that the log was put back.
     pub fn has_told_put_back(&self) -> bool {
         self.was_put_back.load(Ordering::SeqCst)
+    }
+
+    /// Tells once what could not be removed.
+    pub fn tell_left(&self, leftover: Leftover) {
+        let (was_told, line): (&AtomicBool, &[u8]) = match leftover {
+            Leftover::Seeds => (&self.has_old_seeds, b"seeds not removed\n"),
+            Leftover::Logs => (&self.has_old_logs, b"logs not removed\n"),
+        };
+        if !was_told.swap(true, Ordering::SeqCst) {
+            self.tell(line);
+        }
     }
 
     /// Tells that `put-back` could not be written in this folder.

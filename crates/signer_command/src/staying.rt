@@ -6,7 +6,7 @@ ghost use Rattle.signer_command.specs.Ends.{IsBacked, IsBackedAfter, IsLate};
 ghost use Rattle.signer_command.specs.Ruled.{AreRuled};
 
 use crate::fault::{Fault, SignerFault};
-use crate::lineage::{Goods, Next, Stand};
+use crate::lineage::{Goods, Next, Stand, clear_behind};
 use crate::notes::Notes;
 use crate::pool::Start;
 use crate::program::{Host, sessions_of};
@@ -88,7 +88,10 @@ where
             break;
         };
         match stay_in(halls, stand) {
-            Ok(After::Over(next)) => at = Some(next),
+            Ok(After::Over(next)) => {
+                clear_behind(halls.host, halls.words, halls.notes, &next.at);
+                at = Some(next);
+            }
             Ok(After::Closed(closed)) => return Ok(closed),
             Err(fault) => return Err(fault),
         }

@@ -1,8 +1,10 @@
 //! How a signer is called.
 
 ghost use Rattle.std.specs.Prelude.{◌≡◌, ◌≢◌, ◌≤◌, IfErr, MatchOption};
+ghost use Rattle.signer_command.specs.WordFaults.{IsUsageFault, IsWordsFault};
 
-use crate::fault::Fault;
+use crate::fault::{Fault, SignerFault};
+use crate::wrong_words::first_wrong;
 use clap::error::ErrorKind;
 use clap::{Arg, ArgAction, ArgMatches, Command as Grammar, Error};
 use printed_lines::number_in;
@@ -75,10 +77,34 @@ pub(crate) struct Words<'a> {
     pub verbose: bool,
     /// Whether it goes over from one committee to the next.
     pub renew: bool,
+    /// How many of the last chains that it left keep their logs, where not all do.
+    pub keep: Option<u16>,
 }
 
-/// Reads the words, without the program's name. Refused as usage where they are not written as docs/hs_signer.md says.
+/// Reads the words, without the program's name. Where they are not written as docs/hs_signer.md says they are refused by the first that is
+/// wrong by itself, and as usage where none is.
 pub(crate) fn read_words<'a>(alloc: Global, words: &'a [String]) -> Result<Words<'a>, Fault<'a>>
+    ensures refused { IfErr result (IsWordsFault words.now) }
+    ensures output { IfErr result (λ fault. fault ≢ ProgramFault.Output) }
+{
+    match try_read(alloc, words) {
+        Ok(asked) => Ok(asked),
+        Err(ProgramFault::Memory) => Err(ProgramFault::Memory),
+        Err(_) => Err(usage_fault(words)),
+    }
+}
+
+fn usage_fault<'a>(words: &'a [String]) -> Fault<'a>
+    ensures value { IsUsageFault words.now result }
+    ensures output { result ≢ ProgramFault.Output }
+{
+    match first_wrong(words) {
+        Some(word) => ProgramFault::Own(SignerFault::Word(word)),
+        None => ProgramFault::Usage,
+    }
+}
+
+fn try_read<'a>(alloc: Global, words: &'a [String]) -> Result<Words<'a>, Fault<'a>>
     ensures { IfErr result (λ fault. fault ≢ ProgramFault.Output) }
 {
     // `clap` would pass over it.
@@ -119,6 +145,7 @@ fn with_values<'a>(alloc: Global, grammar: Grammar<'a>) -> Result<Grammar<'a>, A
         .arg(Arg::new(alloc, "FILE").long("successor"))?
         .arg(Arg::new(alloc, "N").long("sessions"))?
         .arg(Arg::new(alloc, "D").long("furthest"))?
+        .arg(Arg::new(alloc, "KEEP").long("keep"))?
         .arg(source)?
         .arg(host)
 }
@@ -168,12 +195,13 @@ fn given<'a>(alloc: Global, matches: &ArgMatches<'a>) -> Result<Words<'a>, Fault
         while_input: is_set(matches, "while-input"),
         verbose: is_set(matches, "verbose"),
         renew: is_set(matches, "renew"),
+        keep: keep_in(matches.get_str("KEEP"))?,
     };
     judged(words)
 }
 
 // No place and no path is empty, and the ledger's group is let in at a path that was named alone: the replica's folder is its own. Who
-// goes over asks others in each chain.
+// goes over asks others in each chain. Logs go only of chains that were left.
 fn judged<'a>(words: Words<'a>) -> Result<Words<'a>, Fault<'a>>
     ensures { IfErr result (λ fault. fault ≢ ProgramFault.Output) }
 {
@@ -185,7 +213,7 @@ fn judged<'a>(words: Words<'a>) -> Result<Words<'a>, Fault<'a>>
     if is_empty(words.read) || is_empty(words.serve) || is_empty(words.successor) {
         return Err(ProgramFault::Usage);
     }
-    if words.renew && words.sources.is_empty() {
+    if (words.renew && words.sources.is_empty()) || (words.keep.is_some() && !words.renew) {
         return Err(ProgramFault::Usage);
     }
     Ok(words)
@@ -203,6 +231,18 @@ fn furthest_in(word: Option<&str>) -> Option<u64> {
     match word {
         Some(word) => number_in(word.as_bytes()),
         None => Some(FURTHEST),
+    }
+}
+
+fn keep_in<'a>(word: Option<&str>) -> Result<Option<u16>, Fault<'a>>
+    ensures { IfErr result (λ fault. fault ≢ ProgramFault.Output) }
+{
+    let Some(word) = word else {
+        return Ok(None);
+    };
+    match number(word) {
+        Some(count) => Ok(Some(count)),
+        None => Err(ProgramFault::Usage),
     }
 }
 
