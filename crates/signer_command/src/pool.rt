@@ -8,7 +8,7 @@ use crate::link::{Answering, Asking, Link};
 use crate::listening::{Listener, Place};
 use crate::making::Maker;
 use crate::pace::{Pace, tick};
-use crate::reading::{MOST_OF_A_CALL, Reader, SHORT, config};
+use crate::reading::{LONGEST_POST, MOST_OF_A_CALL, Reader, SHORT, config};
 use crate::stay::{Room, THREADS_BESIDE};
 use crate::{handing_out, reading};
 use blocks::CommitteeView;
@@ -322,7 +322,11 @@ impl<
             calls: CallsRead::new(self.alloc),
         };
         let mut answering = Answering { link: &link };
-        let mut connection = Connection::new(self.alloc, self.room.sockets.keys, config());
+        let mut connection = Connection::new(
+            self.alloc,
+            self.room.sockets.keys,
+            config(LONGEST_POST),
+        );
         serve_calls(signer, &mut connection, &mut asking, &mut answering)
     }
 }

@@ -7,6 +7,7 @@ use http_server::{Config, Connection};
 use http1::Limits;
 use patient_calls::Answerer;
 use patient_sockets::{Bounds, Rules};
+use signer_calls::MOST_BLOCKS_AT_ONCE;
 use signing_service::{Approver, Keeper, Signer, Witness, serve_calls};
 use stable_log::Disk;
 use std::alloc::Global;
@@ -36,9 +37,14 @@ pub(crate) const SHORT: &[&[u8]] = &[
     b"GET /live",
 ];
 
-/// The longest body: the length of a renewal (4 bytes), one with 31 signatures (45,183), and the file of a committee of 31 replicas with a
-/// place for four keys each (7,200).
+/// The longest body of a call that only reads: the length of a renewal (4 bytes), one with 31 signatures (45,183), and the file of a
+/// committee of 31 replicas with a place for four keys each (7,200). Nothing is posted there, but who tries is told so.
 const LONGEST_BODY: usize = 52_387;
+
+/// The longest body of who may post: 64 blocks of 31 votes each, each behind its length.
+pub(crate) const LONGEST_POST: usize = MOST_BLOCKS_AT_ONCE * (4 + LONGEST_BLOCK);
+
+const LONGEST_BLOCK: usize = 45_231;
 
 /// How many bytes of one call are kept at most: a head of 16,384 and the longest body.
 pub(crate) const MOST_OF_A_CALL: usize = 69_632;
@@ -52,11 +58,11 @@ pub(crate) fn rules(most: usize) -> Rules {
     }
 }
 
-/// What a connection for calls is held to.
-pub(crate) fn config() -> Config {
+/// What a connection for calls is held to, whose bodies have so many bytes at most.
+pub(crate) fn config(longest: usize) -> Config {
     Config {
         limits: Limits::default(),
-        max_body_len: LONGEST_BODY,
+        max_body_len: longest,
         max_pending: 65_536,
         read_size: 65_536,
     }
@@ -82,7 +88,7 @@ pub(crate) struct Reader<
 impl<N: DeskNaming, T: Wait + Clock, D: Disk, V: Checker, A: Approver + Keeper, S: Witness> Answerer
     for Reader<'_, N, T, D, V, A, S> {
     fn answer<R: Read, W: Write>(&mut self, reader: &mut R, writer: &mut W) -> io::Result<()> {
-        let mut connection = Connection::new(self.alloc, self.keys, config());
+        let mut connection = Connection::new(self.alloc, self.keys, config(LONGEST_BODY));
         serve_calls(&mut self.signer, &mut connection, reader, writer)
     }
 }
