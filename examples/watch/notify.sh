@@ -22,8 +22,15 @@ tell() {
 
 while IFS= read -r line; do
     printf '%s\n' "$line"
-    case " ${line#* round * } " in
-        " conflict "* | " culprit "* | " handover "* | " unstored "* | " beyond "* | " set-aside "*) tell "$line" "$@" ;;
+    news=${line#* round * }
+    # Of a watch that goes over each line has its committee's number, and a handover is nothing to be told.
+    case "$news" in
+        "committee "*) news=${news#committee [0-9]* } over=yes ;;
+        *) over= ;;
+    esac
+    case " $news " in
+        " handover "*) [ "$over" ] || tell "$line" "$@" ;;
+        " conflict "* | " culprit "* | " unstored "* | " beyond "* | " set-aside "* | " stays "* | " wrong-next "*) tell "$line" "$@" ;;
         " went-back "*)
             source=" $line"
             source=${source#* went-back }

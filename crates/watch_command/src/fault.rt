@@ -1,12 +1,14 @@
 //! Why a watch gives up, and the line that it prints then.
 
-ghost use Rattle.std.specs.Prelude.{◌≡◌, ◌≢◌, ◌≤◌, [], length};
+ghost use Rattle.std.specs.Prelude.{◌≡◌, ◌≢◌, ◌≤◌, ◌++◌, [], OnErr, OnOk, length};
+ghost use Rattle.streams.specs.Counting.{Counts};
+ghost use Rattle.streams.specs.Streams.{Wrote, WrotePart};
 ghost use Rattle.blocks.specs.Headers.{Header as HeaderValue};
-ghost use Rattle.watch_command.specs.FaultLines.{log_behind, name_behind, own_line};
+ghost use Rattle.watch_command.specs.FaultLines.{log_behind, name_behind, number_behind, own_line, word_line};
 
 use evidence::EvidenceRefusal;
 use itoa::Buffer;
-use printed_lines::{Line, write_file_fault};
+use printed_lines::{Line, write_file_fault, write_printed};
 use program_parts::{FaultLine, ProgramFault, SourceFault};
 use streams::{Sink, write_all};
 
@@ -26,6 +28,8 @@ pub enum WatchFault<'a> {
     Listen,
     /// A thread can't be made.
     Threads,
+    /// This word is not as the program is called.
+    Word(&'a str),
 }
 
 /// A file of the folder of verdicts, of that of what is kept, or of that of what is given out.
@@ -39,6 +43,12 @@ pub enum FolderFile {
     Export(u16, u16, u16),
     /// The part of a log that stands behind so many frames: all but its end, which tells what those digest to.
     Part(u16, u16, u16, u16),
+    /// The file of the committee of this number to which the ledger was handed over.
+    Committee(u64),
+    /// The renewal by which it followed.
+    Renewal(u64),
+    /// The folder with what is kept of its chain.
+    Stay(u64),
 }
 
 impl FolderFile {
@@ -59,9 +69,23 @@ impl FolderFile {
                 name.push(b"-");
                 name.push(Buffer::new().format(place).as_bytes());
             }
+            FolderFile::Committee(number) => push_number(&mut name, number, b".hsc"),
+            FolderFile::Renewal(number) => push_number(&mut name, number, b".hsr"),
+            FolderFile::Stay(number) => push_number(&mut name, number, b""),
         }
         name
     }
+}
+
+// `/N`, and this behind it.
+fn push_number(name: &mut Line, number: u64, behind: &[u8])
+    requires empty { name.old ≡ [] }
+    requires short { length behind.now ≤ 4 }
+    ensures { name.new ≡ number_behind number ++ behind.now }
+{
+    name.push(b"/");
+    name.push(Buffer::new().format(number).as_bytes());
+    name.push(behind);
 }
 
 // `/R-I-K`, of at most 18 bytes.
@@ -90,8 +114,20 @@ impl FaultLine for WatchFault<'_> {
             WatchFault::State => write_all(out, b"fault state\n"),
             WatchFault::Listen => write_all(out, b"fault listen\n"),
             WatchFault::Threads => write_all(out, b"fault threads\n"),
+            WatchFault::Word(word) => write_word(out, word),
         }
     }
+}
+
+// Writes `fault usage `, the word in one line, and a line feed.
+fn write_word<W: Sink>(out: &mut W, word: &str) -> Result<(), streams::Fault>
+    ensures ok { OnOk result (Wrote (W.text out.old) (W.text out.new) (word_line word.now)) }
+    ensures err { OnErr result (WrotePart (W.text out.old) (W.text out.new) (word_line word.now)) }
+    ensures counted { Counts (W.failed out.old) (W.failed out.new) result }
+{
+    write_all(out, b"fault usage ")?;
+    write_printed(out, word.as_bytes())?;
+    write_all(out, b"\n")
 }
 
 /// Why there is no evidence.

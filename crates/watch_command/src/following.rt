@@ -1,5 +1,6 @@
 //! The thread of a source.
 
+use crate::next_asking::{Given, ask_for_next};
 use crate::patience::Dialer;
 use crate::reader::{Reader, note_answer};
 use crate::shop::{Place, Shop, Target};
@@ -55,10 +56,33 @@ fn follow_server<'c, T: Files<File = File> + Wait + Clock + Net<Stream = TcpStre
         if !read_on(shop, reader, name)? {
             reader.store_again(shop)?;
             reader.end_round(shop);
+            ask_next(shop, reader, name)?;
             rest(shop, target, reader.pauses());
         }
     }
     reader.let_others_read_anew(shop);
+    Ok(())
+}
+
+// Where the committee handed its ledger over, and the watch goes over with it, asks the server for the committee that comes next. One
+// that is given without a renewal is taken once it was given so twice: so another server has a round to give it.
+fn ask_next<T: Wait + Clock + Net<Stream = TcpStream>>(
+    shop: &Shop<'_, '_, '_, T>,
+    reader: &mut Reader,
+    name: &str,
+) -> Result<(), AllocError> {
+    let Some(payload) = shop.handover() else {
+        return Ok(());
+    };
+    match ask_for_next(shop, name, &payload)? {
+        Given::Next(next) => {
+            if !next.is_by_hand() || reader.gave_by_hand() {
+                shop.offer(next);
+            }
+        }
+        Given::Wrong => reader.tell_wrong_next(shop),
+        Given::Nothing => {}
+    }
     Ok(())
 }
 
@@ -85,7 +109,12 @@ fn ask_server<'c, T: Files<File = File> + Wait + Clock + Net<Stream = TcpStream>
         name,
         ending: &shop.ending,
     };
-    let server = ChainServer::new(dialer, shop.committee.chain());
+    let chain = shop.committee.chain();
+    let server = if shop.words.lineage {
+        ChainServer::named_only(dialer, chain)
+    } else {
+        ChainServer::new(dialer, chain)
+    };
     let answer = {
         let mut connector = ServerConnector::over(shop.rt, ChainDialer::of(&server));
         ask(shop.alloc, &mut connector, first)?

@@ -8,12 +8,14 @@ ghost use Rattle.watch_command.specs.FaultLines.{watch_fault_line};
 use crate::exporting::give_out;
 use crate::fault::{Fault, FolderFile, WatchFault, fault_of_evidence};
 use crate::following::follow;
+use crate::gone_over::{Standing, last_kept, stay_path};
+use crate::next::NextFiles;
 use crate::publishing::first_snapshot;
 use crate::queue::{Line, Queue};
 use crate::rounds::collect;
 use crate::runtime::Runtime;
 use crate::serving::{Server, answer_all};
-use crate::shop::{Place, Shop, Target, answerers_of};
+use crate::shop::{Hall, Place, Shop, Stay, Target, answerers_of};
 use crate::verdict_files::VerdictFolder;
 use crate::words::{Task, Words, read_words};
 use blocks::CommitteeView;
@@ -27,7 +29,7 @@ use std::net::{Net, TcpListener, TcpStream};
 use std::random::RandomSource;
 use std::str::from_utf8;
 use std::sync::Wait;
-use std::sync::atomic::{AtomicBool, AtomicU64};
+use std::sync::atomic::{AtomicBool, AtomicU64, Ordering};
 use std::thread::Threads;
 use std::time::Clock;
 use std::{io, thread};
@@ -111,20 +113,36 @@ where
         files: host.rt,
         alloc: host.alloc,
         path: words.folder,
+        committee: 0,
     };
     let lock = folder.lock()?;
     let (state, state_lock) = match state_of(host, &words, &committee)? {
         Some((state, lock)) => (Some(state), Some(lock)),
         None => (None, None),
     };
-    let targets = targets_of(host.alloc, &words)?;
-    let found = match watch(host, &words, &committee, &targets, state.as_ref(), out) {
+    let standing = standing_of(host, &words, bytes.clone()?)?;
+    let found = match watch(host, &words, &standing, state.as_ref(), out) {
         Ok(found) => found,
         Err(fault) => return Err(fault),
     };
     drop(state_lock);
     drop(lock);
     if found { Ok(CULPRITS) } else { Ok(DONE) }
+}
+
+// The committee with which the watch begins: the first, whose file this is, or the last to which it went over before.
+fn standing_of<'a, T: Files<File = File>>(
+    host: &Host<'_, T>,
+    words: &Words<'a>,
+    first: Vec<u8>,
+) -> Result<Standing, Fault<'a>> {
+    match words.state {
+        Some(dir) if words.lineage => last_kept(host, dir, first),
+        _ => Ok(Standing {
+            number: 0,
+            file: first,
+        }),
+    }
 }
 
 // Where what is read is kept, if it is, and its lock.
@@ -196,48 +214,158 @@ fn place_of<'a>(word: &SourceWord<'a>) -> Place<'a> {
     }
 }
 
-// Watches the sources, with a thread for each, one that collects, and one that prints.
+// Watches one committee after the other, beside what prints lines. Answers whether there are culprits.
 fn watch<'x, 'w, T: Runtime, W: Sink + Send>(
     host: &'x Host<'x, T>,
     words: &'x Words<'w>,
-    committee: &'x CommitteeView<'x>,
-    targets: &'x [Target<'w>],
+    standing: &'x Standing,
     state: Option<&'x StateFolder<'x, 'w, T>>,
     out: &mut W,
-) -> Result<bool, Fault<'static>>
+) -> Result<bool, Fault<'w>>
 where
     T::Dir: Send,
 {
     let queue = Queue::new(host.alloc);
-    let server = server_of(host, words, committee, targets, state, &queue)?;
-    let shop = Shop::new(
-        host.rt,
-        host.alloc,
-        committee,
+    let server = server_of(host, words, standing, state, &queue)?;
+    let hall = Hall {
+        queue,
+        server,
+        halted: AtomicBool::new(false),
+    };
+    let course = Course {
+        host,
         words,
-        targets,
-        &queue,
-        host.input_ended,
-        server.as_ref(),
+        hall: &hall,
+        first: standing,
         state,
-    )?;
-    let jobs = jobs_of(host.alloc, targets.len(), answerers_of(server.as_ref()))?;
-    work_and_print(&shop, jobs, out)
+    };
+    watch_and_print(&course, out)
 }
 
-// The threads at work, and beside them what prints lines, until no more come. Answers whether there are culprits.
-fn work_and_print<T: Runtime, W: Sink>(
-    shop: &Shop<'_, '_, '_, T>,
-    jobs: Vec<Job>,
+// What a watch does from its first committee on.
+#[derive(Drop)]
+struct Course<'a, 'w, T> {
+    host: &'a Host<'a, T>,
+    words: &'a Words<'w>,
+    hall: &'a Hall,
+    // Where it begins.
+    first: &'a Standing,
+    // What is kept of the chain of committee 0.
+    state: Option<&'a StateFolder<'a, 'w, T>>,
+}
+
+fn watch_and_print<'w, T: Runtime, W: Sink + Send>(
+    course: &Course<'_, 'w, T>,
     out: &mut W,
-) -> Result<bool, Fault<'static>>
+) -> Result<bool, Fault<'w>>
 where
     T::Dir: Send,
 {
-    let (worked, printed) = thread::join(shop.rt, || work_all(shop, jobs), || print_all(shop, out));
+    let (worked, printed) = thread::join(
+        course.host.rt,
+        || watch_all(course),
+        || print_all(course, out),
+    );
     match printed {
         Ok(()) => worked,
         Err(_) => Err(Fault::Output),
+    }
+}
+
+// Watches one committee after the other. No more lines come then.
+fn watch_all<'w, T: Runtime>(course: &Course<'_, 'w, T>) -> Result<bool, Fault<'w>>
+where
+    T::Dir: Send,
+{
+    let outcome = watch_each(course);
+    course.hall.queue.close(course.host.rt);
+    outcome
+}
+
+fn watch_each<'w, T: Runtime>(course: &Course<'_, 'w, T>) -> Result<bool, Fault<'w>>
+where
+    T::Dir: Send,
+{
+    let mut found = false;
+    let mut standing = course.first.again()?;
+    for _ in course.host.rt.forever() {
+        let Ended { culprits, next } = match watch_at(course, &standing) {
+            Ok(ended) => ended,
+            Err(fault) => return Err(fault),
+        };
+        found = found || culprits;
+        match next {
+            Some(next) => standing = standing.next(next.file),
+            None => break,
+        }
+    }
+    Ok(found)
+}
+
+// Watches the committee where the watch stands. What is kept of all but the first stands in a folder of its own.
+fn watch_at<'w, T: Runtime>(
+    course: &Course<'_, 'w, T>,
+    standing: &Standing,
+) -> Result<Ended, Fault<'w>>
+where
+    T::Dir: Send,
+{
+    let (host, words, hall) = (course.host, course.words, course.hall);
+    let committee = parse_committee(&standing.file)?;
+    let stay = Stay {
+        number: standing.number,
+        committee: &committee,
+    };
+    let Some(dir) = words.state else {
+        return watch_one(host, words, hall, &stay, None);
+    };
+    if stay.number == 0 {
+        return watch_one(host, words, hall, &stay, course.state);
+    }
+    let path = stay_path(host.alloc, dir, stay.number)?;
+    let chain = committee.chain();
+    match open_state(host.rt, host.alloc, &path, &chain, words.keep_most) {
+        Ok((state, lock)) => {
+            let ended = watch_one(host, words, hall, &stay, Some(&state));
+            drop(lock);
+            ended
+        }
+        Err(StateFault::Memory) => Err(Fault::Memory),
+        Err(_) => {
+            let file = FolderFile::Stay(stay.number);
+            Err(Fault::Own(WatchFault::FileIn(dir, file)))
+        }
+    }
+}
+
+// How the watch of one committee ended.
+#[derive(Drop)]
+struct Ended {
+    culprits: bool,
+    // The committee to which it goes over, if it does.
+    next: Option<NextFiles>,
+}
+
+// Watches one committee, with a thread for each source and one that collects, until the watch ends or goes over.
+fn watch_one<'x, T: Runtime>(
+    host: &'x Host<'x, T>,
+    words: &'x Words<'x>,
+    hall: &'x Hall,
+    stay: &'x Stay<'x, 'x>,
+    state: Option<&'x StateFolder<'x, 'x, T>>,
+) -> Result<Ended, Fault<'static>>
+where
+    T::Dir: Send,
+{
+    let targets = targets_of(host.alloc, words)?;
+    let shop = Shop::new(host, words, hall, stay, &targets, state)?;
+    let jobs = jobs_of(host.alloc, targets.len(), answerers_of(shop.server))?;
+    match work_all(&shop, jobs) {
+        Ok(culprits) => Ok(Ended {
+            culprits,
+            next: shop.take_chosen(),
+        }),
+        Err(fault) => Err(fault),
     }
 }
 
@@ -264,8 +392,7 @@ fn name_of<T: Files<File = File>>(
 fn server_of<T: Runtime>(
     host: &Host<'_, T>,
     words: &Words<'_>,
-    committee: &CommitteeView<'_>,
-    targets: &[Target<'_>],
+    standing: &Standing,
     state: Option<&StateFolder<'_, '_, T>>,
     queue: &Queue,
 ) -> Result<Option<Server>, Fault<'static>> {
@@ -273,7 +400,9 @@ fn server_of<T: Runtime>(
         return Ok(None);
     };
     let name = name_of(host, words)?;
-    let seen = first_snapshot(host, committee, words, targets, state, name)?;
+    let committee = parse_committee(&standing.file)?;
+    let targets = targets_of(host.alloc, words)?;
+    let seen = first_snapshot(host, &committee, words, &targets, state, name)?;
     match listen(host, address, seen, queue) {
         Ok(server) => Ok(Some(server)),
         Err(error) => Err(Fault::unless_memory(&error, Fault::Own(WatchFault::Listen))),
@@ -305,12 +434,13 @@ fn jobs_of(alloc: Global, sources: usize, answerers: usize) -> Result<Vec<Job>, 
 
 // Prints lines until no more come. Where one can't be printed the watch ends.
 fn print_all<T: Runtime, W: Sink>(
-    shop: &Shop<'_, '_, '_, T>,
+    course: &Course<'_, '_, T>,
     out: &mut W,
 ) -> Result<(), streams::Fault> {
-    let printed = shop.queue.print_all(shop.rt, shop.alloc, out);
+    let (host, hall) = (course.host, course.hall);
+    let printed = hall.queue.print_all(host.rt, host.alloc, out);
     if printed.is_err() {
-        shop.end();
+        hall.halted.store(true, Ordering::SeqCst);
     }
     printed
 }
@@ -322,7 +452,6 @@ where
 {
     let outcome = thread::map_vec(shop.rt, jobs, &|job: Job| { work(shop, job) });
     shop.end();
-    shop.queue.close(shop.rt);
     let mut found = false;
     for end in outcome? {
         match end {

@@ -44,6 +44,9 @@ struct WaitingPart {
     text: Vec<u8>,
 }
 
+/// How many seconds a server may have no log of a chain to which the watch went over before that is told.
+const STAYS_SECONDS: u64 = 30;
+
 // No frame of any log.
 const NOTHING_GIVEN: Extent = Extent { log: 0, frames: 0 };
 
@@ -78,8 +81,12 @@ pub(crate) struct Reader {
     /// The last frame that was looked at was of such a log.
     pub is_closed: bool,
     has_told_beyond: bool,
-    // What was heard of its server last.
+    // What was heard of its server last, and since when that is that it has no log of a chain to which the watch went over.
     server: Heard,
+    without_log: Option<Instant>,
+    has_told_stays: bool,
+    has_told_wrong_next: bool,
+    has_given_by_hand: bool,
     // When all of the log had been read last.
     read_whole: Option<Instant>,
     // All of it is read anew, and no other source's.
@@ -120,6 +127,10 @@ impl Reader {
             is_closed: false,
             has_told_beyond: false,
             server: Heard::Nothing,
+            without_log: None,
+            has_told_stays: false,
+            has_told_wrong_next: false,
+            has_given_by_hand: false,
             read_whole: None,
             is_anew: false,
             compared: Compared::Nothing,
@@ -181,9 +192,39 @@ impl Reader {
             return;
         }
         self.server = heard;
-        if heard != Heard::Named {
+        self.without_log = None;
+        if heard == Heard::NoLog && shop.number > 0 {
+            self.without_log = Instant::now(shop.rt).ok();
+        } else if heard != Heard::Named {
             self.tell(shop, Told::Server(heard));
         }
+    }
+
+    // Tells once that its server has no log of a chain to which the watch went over, though others have given frames of it for a while.
+    fn tell_stays<T: Wait + Clock>(&mut self, shop: &Shop<'_, '_, '_, T>) {
+        let Some(since) = self.without_log else {
+            return;
+        };
+        let Ok(elapsed) = since.elapsed(shop.rt) else {
+            return;
+        };
+        if elapsed.as_secs() >= STAYS_SECONDS && shop.has_frames() && !self.has_told_stays {
+            self.has_told_stays = true;
+            self.tell(shop, Told::Stays);
+        }
+    }
+
+    /// Tells once that what it gave of the next committee is not good.
+    pub fn tell_wrong_next<T: Wait + Clock>(&mut self, shop: &Shop<'_, '_, '_, T>) {
+        if !self.has_told_wrong_next {
+            self.has_told_wrong_next = true;
+            self.tell(shop, Told::WrongNext);
+        }
+    }
+
+    /// Notes that it gave the next committee without a renewal. Answers whether it did so before.
+    pub fn gave_by_hand(&mut self) -> bool {
+        std::mem::replace(&mut self.has_given_by_hand, true)
     }
 
     /// All that is there was read, and is compared.
@@ -196,6 +237,7 @@ impl Reader {
             }
         }
         self.tell_given(shop);
+        self.tell_stays(shop);
     }
 
     /// How much of which log was read.

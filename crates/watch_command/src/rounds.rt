@@ -4,6 +4,8 @@ ghost use Rattle.std.specs.Prelude.{◌≡◌, ◌≢◌, ◌*◌, IfErr, min};
 ghost use Rattle.watch_command.specs.declared.rounds.TheConstants.{PATIENCE_MILLISECONDS, REST};
 
 use crate::fault::{Fault, fault_of_evidence};
+use crate::gone_over::{stay_path, store_next};
+use crate::next::{put_committee, put_goes_over, put_stands};
 use crate::publishing::{publish, replicas_of};
 use crate::queue::Line;
 use crate::shop::{Delivery, Shop, StoredPart, Told};
@@ -63,6 +65,7 @@ pub(crate) fn collect<'c, T: Files<File = File> + Threads + Wait + Clock + Sync>
         files: shop.rt,
         alloc: shop.alloc,
         path: shop.words.folder,
+        committee: shop.number,
     };
     let mut rounds = Rounds::open(shop, &folder)?;
     // Culprits of verdicts that are kept are shown before kept logs are read.
@@ -75,6 +78,7 @@ pub(crate) fn collect<'c, T: Files<File = File> + Threads + Wait + Clock + Sync>
         rounds.take_round(shop, &folder, told)?;
     }
     rounds.finish(shop, &folder)?;
+    rounds.leave(shop)?;
     Ok(rounds.desk.has_culprits())
 }
 
@@ -85,6 +89,7 @@ impl<'c> Rounds<'c> {
         folder: &VerdictFolder<'_, '_, T>,
     ) -> Result<Rounds<'c>, AllocError> {
         let stamp = stamp_now(shop, 0)?;
+        tell_stands(shop, &stamp)?;
         let mut kept = KeptVerdicts::new(shop.alloc, shop.committee);
         let mut places = Vec::new(shop.alloc);
         let mut taken = Vec::new(shop.alloc);
@@ -111,8 +116,13 @@ impl<'c> Rounds<'c> {
         })
     }
 
-    // Whether the watch is to end.
+    // Whether the watch is to end, or to go over.
     fn is_over<T: Wait + Clock>(&self, shop: &Shop<'_, '_, 'c, T>) -> bool {
+        shop.is_leaving() || self.is_end(shop)
+    }
+
+    // Whether the watch is to end.
+    fn is_end<T: Wait + Clock>(&self, shop: &Shop<'_, '_, 'c, T>) -> bool {
         if shop.is_ending() || (shop.words.until_culprit && self.has_stored()) {
             return true;
         }
@@ -189,6 +199,35 @@ impl<'c> Rounds<'c> {
         Ok(())
     }
 
+    // Where the watch goes over, stores the files of the next committee, where they are to be kept, and tells it. Where it ends instead it
+    // goes over to none.
+    fn leave<T: Files<File = File> + Wait + Clock>(
+        &self,
+        shop: &Shop<'_, '_, 'c, T>,
+    ) -> Result<(), AllocError> {
+        let Some(next) = shop.take_offer() else {
+            return Ok(());
+        };
+        if self.is_end(shop) {
+            return Ok(());
+        }
+        let stamp = stamp_now(shop, self.round)?;
+        let number = shop.number.saturating_add(1);
+        if let Some(dir) = shop.words.state
+            && store_next(shop.rt, shop.alloc, dir, number, &next).is_err()
+        {
+            let path = stay_path(shop.alloc, dir, number)?;
+            let mut line = Vec::new(shop.alloc);
+            put_unstored(&mut line, &stamp, path.as_bytes())?;
+            shop.queue.say(shop.rt, Line::Lasting(line));
+        }
+        let mut line = Vec::new(shop.alloc);
+        put_goes_over(&mut line, &stamp, number, &next.following)?;
+        shop.queue.say(shop.rt, Line::Lasting(line));
+        shop.choose(next);
+        Ok(())
+    }
+
     // Hands what was told of a source to the desk.
     fn take<T: Threads + Wait + Clock + Sync>(
         &mut self,
@@ -214,6 +253,14 @@ impl<'c> Rounds<'c> {
             Told::Server(heard) => tell_server(shop, stamp, i, *heard)?,
             Told::Unstored(path) => self.tell_unstored(shop, stamp, i, path)?,
             Told::Stored => self.note_gap(i, false),
+            Told::WrongNext => {
+                let line = source_line(shop, stamp, i, b"wrong-next")?;
+                shop.queue.say(shop.rt, Line::Lasting(line));
+            }
+            Told::Stays => {
+                let line = source_line(shop, stamp, i, b"stays")?;
+                shop.queue.say(shop.rt, Line::Lasting(line));
+            }
         }
         Ok(())
     }
@@ -282,6 +329,12 @@ impl<'c> Rounds<'c> {
         for news in &audited.news {
             match news {
                 News::Culprit(found) => self.name(shop, folder, stamp, news, found.get())?,
+                News::Handover(block, _) => {
+                    if shop.words.lineage {
+                        shop.note_handover(block.header().payload);
+                    }
+                    tell(shop, stamp, news, b"")?;
+                }
                 _ => tell(shop, stamp, news, b"")?,
             }
         }
@@ -404,12 +457,23 @@ fn tell_server<T: Wait + Clock>(
         Heard::Unnamed => b"unnamed".as_slice(),
         Heard::NoLog => b"no-log".as_slice(),
     };
-    if let Some(target) = shop.targets.get(i) {
-        let mut line = Vec::new(shop.alloc);
-        put_source_alarm(&mut line, stamp, word, i, target.replica)?;
-        shop.queue.say(shop.rt, Line::Passing(line));
-    }
+    let line = source_line(shop, stamp, i, word)?;
+    shop.queue.say(shop.rt, Line::Passing(line));
     Ok(())
+}
+
+// The line that says this of a source.
+fn source_line<T: Wait + Clock>(
+    shop: &Shop<'_, '_, '_, T>,
+    stamp: &[u8],
+    i: usize,
+    word: &[u8],
+) -> Result<Vec<u8>, AllocError> {
+    let mut line = Vec::new(shop.alloc);
+    if let Some(target) = shop.targets.get(i) {
+        put_source_alarm(&mut line, stamp, word, i, target.replica)?;
+    }
+    Ok(line)
 }
 
 // How many lines were dropped, where there is room for that.
@@ -494,5 +558,23 @@ fn stamp_now<T: Wait + Clock>(
     round: u64,
 ) -> Result<Vec<u8>, AllocError> {
     let time = utc_text(shop.alloc, seconds_now(shop.rt))?;
-    stamp(shop.alloc, &time, round)
+    let mut text = stamp(shop.alloc, &time, round)?;
+    if shop.words.lineage {
+        put_committee(&mut text, shop.number)?;
+    }
+    Ok(text)
+}
+
+// Tells with which committee the watch begins, or goes on.
+fn tell_stands<T: Wait + Clock>(
+    shop: &Shop<'_, '_, '_, T>,
+    stamp: &[u8],
+) -> Result<(), AllocError> {
+    if !shop.words.lineage {
+        return Ok(());
+    }
+    let mut line = Vec::new(shop.alloc);
+    put_stands(&mut line, stamp, shop.number, &shop.committee.chain())?;
+    shop.queue.say(shop.rt, Line::Lasting(line));
+    Ok(())
 }

@@ -51,8 +51,6 @@ pub(crate) struct Server {
     keys: RandomState,
     /// When the watch began.
     pub started: u64,
-    /// How many files with parts of logs were kept then.
-    pub kept: u64,
     /// The name of the watch.
     pub name: String,
     // What the watch knew after its last round.
@@ -71,7 +69,6 @@ impl Server {
             listener: bind(rt, address)?,
             keys: RandomState::new(rt)?,
             started: seen.started,
-            kept: seen.kept,
             name: String::from_str(alloc, &seen.name)?,
             seen: Mutex::new(Shared::new(alloc, seen)?),
         })

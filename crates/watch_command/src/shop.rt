@@ -2,6 +2,8 @@
 
 ghost use Rattle.std.specs.Prelude.{◌≤◌};
 
+use crate::next::NextFiles;
+use crate::program::Host;
 use crate::queue::Queue;
 use crate::serving::{ANSWERERS, Server};
 use crate::words::Words;
@@ -50,6 +52,10 @@ pub(crate) enum Told<'c> {
     Unstored(String),
     /// All of it that could not be stored is stored now.
     Stored,
+    /// What it gave as the next committee's file and renewal is not good.
+    WrongNext,
+    /// It has no log of a chain to which others went over.
+    Stays,
 }
 
 impl Told<'_> {
@@ -141,11 +147,30 @@ impl<'c> Counter<'c> {
     }
 }
 
+/// What lasts while the watch goes from one committee to the next.
+#[derive(Drop)]
+pub(crate) struct Hall {
+    pub queue: Queue,
+    /// Where what the watch knows is told, if it is.
+    pub server: Option<Server>,
+    /// The watch is to end, since no line can be printed.
+    pub halted: AtomicBool,
+}
+
+/// The committee that is watched now: the first has number 0.
+#[derive(Drop)]
+pub(crate) struct Stay<'a, 'c> {
+    pub number: u64,
+    pub committee: &'a CommitteeView<'c>,
+}
+
 /// What the threads share. Each source hands over one part at a time, and goes on when that was taken.
 #[derive(Drop)]
 pub(crate) struct Shop<'a, 'w, 'c, T> {
     pub rt: &'a T,
     pub alloc: Global,
+    /// The number of the committee.
+    pub number: u64,
     pub committee: &'a CommitteeView<'c>,
     pub words: &'a Words<'w>,
     pub targets: &'a [Target<'w>],
@@ -158,6 +183,14 @@ pub(crate) struct Shop<'a, 'w, 'c, T> {
     counter: Mutex<Counter<'c>>,
     came: Condvar,
     taken: Condvar,
+    // The payload of the block that hands over, once that is proved to be committed.
+    handover: Mutex<Option<[u8; 32]>>,
+    is_handed_over: AtomicBool,
+    // The committee that a source gave as the next one, and the one to which the watch goes over.
+    offered: Mutex<Option<NextFiles>>,
+    has_offer: AtomicBool,
+    chosen: Mutex<Option<NextFiles>>,
+    halted: &'a AtomicBool,
     pub ending: AtomicBool,
     /// Some source is read anew.
     pub reads_anew: AtomicBool,
@@ -175,37 +208,42 @@ pub(crate) struct Shop<'a, 'w, 'c, T> {
 impl<'a, 'w, 'c, T: Wait + Clock> Shop<'a, 'w, 'c, T> {
     /// Nothing was told yet.
     pub fn new(
-        rt: &'a T,
-        alloc: Global,
-        committee: &'a CommitteeView<'c>,
+        host: &'a Host<'a, T>,
         words: &'a Words<'w>,
+        hall: &'a Hall,
+        stay: &Stay<'a, 'c>,
         targets: &'a [Target<'w>],
-        queue: &'a Queue,
-        input_ended: &'a AtomicBool,
-        server: Option<&'a Server>,
         state: Option<&'a StateFolder<'a, 'w, T>>,
     ) -> Result<Shop<'a, 'w, 'c, T>, AllocError> {
-        let mut places = Vec::new(alloc);
+        let mut places = Vec::new(host.alloc);
         for _ in 0..targets.len() {
             places.push(None)?;
         }
+        let server = hall.server.as_ref();
         let wanted = u32::try_from(targets.len())
             .unwrap_or(u32::MAX)
             .saturating_add(1)
             .saturating_add(answerers_of(server) as u32);
         Ok(Shop {
-            rt,
-            alloc,
-            committee,
+            rt: host.rt,
+            alloc: host.alloc,
+            number: stay.number,
+            committee: stay.committee,
             words,
             targets,
-            queue,
-            input_ended,
+            queue: &hall.queue,
+            input_ended: host.input_ended,
             server,
             state,
             counter: Mutex::new(Counter { places }),
             came: Condvar::new(),
             taken: Condvar::new(),
+            handover: Mutex::new(None),
+            is_handed_over: AtomicBool::new(false),
+            offered: Mutex::new(None),
+            has_offer: AtomicBool::new(false),
+            chosen: Mutex::new(None),
+            halted: &hall.halted,
             ending: AtomicBool::new(false),
             reads_anew: AtomicBool::new(false),
             wanted,
@@ -234,13 +272,60 @@ impl<'a, 'w, 'c, T: Wait + Clock> Shop<'a, 'w, 'c, T> {
     }
 
     pub fn is_ending(&self) -> bool {
-        self.ending.load(Ordering::SeqCst)
+        self.ending.load(Ordering::SeqCst) || self.halted.load(Ordering::SeqCst)
     }
 
-    /// All threads are to end.
+    /// It is proved that a block with this payload is committed, which hands over.
+    pub fn note_handover(&self, payload: [u8; 32]) {
+        *self.handover.lock(self.rt) = Some(payload);
+        self.is_handed_over.store(true, Ordering::SeqCst);
+    }
+
+    /// The payload of that block, once it is known.
+    pub fn handover(&self) -> Option<[u8; 32]> {
+        *self.handover.lock(self.rt)
+    }
+
+    /// A source gave this committee as the next one, and it is good.
+    pub fn offer(&self, next: NextFiles) {
+        *self.offered.lock(self.rt) = Some(next);
+        self.has_offer.store(true, Ordering::SeqCst);
+        self.came.notify_all();
+    }
+
+    /// Whether a source gave the next committee.
+    pub fn is_leaving(&self) -> bool {
+        self.has_offer.load(Ordering::SeqCst)
+    }
+
+    /// The committee that a source gave, if one did.
+    pub fn take_offer(&self) -> Option<NextFiles> {
+        self.offered.lock(self.rt).take()
+    }
+
+    /// The watch goes over to this committee.
+    pub fn choose(&self, next: NextFiles) {
+        *self.chosen.lock(self.rt) = Some(next);
+    }
+
+    /// The committee to which it goes over, if it does.
+    pub fn take_chosen(&self) -> Option<NextFiles> {
+        self.chosen.lock(self.rt).take()
+    }
+
+    /// Whether a frame of the chain came from some source.
+    pub fn has_frames(&self) -> bool {
+        self.targets
+            .iter()
+            .any(|target| target.framed.load(Ordering::SeqCst) > 0)
+    }
+
+    /// All threads are to end. Where the watch does not go over, no more is told over HTTP.
     pub fn end(&self) {
         self.ending.store(true, Ordering::SeqCst);
-        if let Some(server) = self.server {
+        if let Some(server) = self.server
+            && !self.is_leaving()
+        {
             server.close();
         }
         self.came.notify_all();
@@ -327,11 +412,15 @@ impl<'a, 'w, 'c, T: Wait + Clock> Shop<'a, 'w, 'c, T> {
         taken
     }
 
-    /// Waits until the next round of a source, or until the watch ends.
+    /// Waits until the next round of a source, or until the watch ends or comes to know a handover.
     pub fn pause(&self) {
+        let was_handed_over = self.is_handed_over.load(Ordering::SeqCst);
         let mut left = u64::from(self.words.every);
         for _ in 0..left {
             if left == 0 || self.is_ending() {
+                return;
+            }
+            if !was_handed_over && self.is_handed_over.load(Ordering::SeqCst) {
                 return;
             }
             let step = left.min(TICK_MILLISECONDS);

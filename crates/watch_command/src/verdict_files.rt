@@ -36,6 +36,8 @@ pub(crate) struct VerdictFolder<'f, 'a, F> {
     pub files: &'f F,
     pub alloc: Global,
     pub path: &'a str,
+    /// The number of the committee: verdicts of all but the first, which has 0, have it in their names.
+    pub committee: u64,
 }
 
 impl<'a, F: Files<File = File>> VerdictFolder<'_, 'a, F> {
@@ -68,11 +70,12 @@ impl<'a, F: Files<File = File>> VerdictFolder<'_, 'a, F> {
 
     /// The path of the verdict on a replica, the second one where something else stands under the first.
     pub fn path_of(&self, replica: u16, second: bool) -> Result<String, AllocError> {
-        let folder = self.path;
-        if second {
-            return format!(in self.alloc; "{folder}/verdict-{replica}-2.hsx");
+        let (folder, committee) = (self.path, self.committee);
+        let end = if second { "-2" } else { "" };
+        if committee == 0 {
+            return format!(in self.alloc; "{folder}/verdict-{replica}{end}.hsx");
         }
-        format!(in self.alloc; "{folder}/verdict-{replica}.hsx")
+        format!(in self.alloc; "{folder}/verdict-{committee}-{replica}{end}.hsx")
     }
 
     /// What stands under the name of a replica's verdict, which becomes one of these where it is one. A file that a watch began

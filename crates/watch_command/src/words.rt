@@ -6,7 +6,7 @@ use crate::fault::{Fault, WatchFault};
 use clap::error::ErrorKind;
 use clap::{Arg, ArgAction, ArgMatches, Command as Grammar, Error};
 use printed_lines::number_in;
-use program_parts::{ProgramFault, SourceFault, SourceWord, number};
+use program_parts::{Origin, ProgramFault, SourceFault, SourceWord, number};
 use std::alloc::{AllocError, Global};
 
 /// How many sources a watch has at most.
@@ -47,6 +47,8 @@ pub(crate) struct Words<'a> {
     pub state: Option<&'a str>,
     /// How many bytes may stand there in all.
     pub keep_most: u64,
+    /// Whether it goes over with the ledger.
+    pub lineage: bool,
 }
 
 /// Of which source what was kept is given out, and where.
@@ -68,9 +70,21 @@ pub(crate) enum Task<'a> {
     Export(ExportWords<'a>),
 }
 
-/// Reads the words, without the program's name. Refused as usage where they are not written as docs/hs_watch.md says, and else
-/// for the first source that is not.
+/// Reads the words, without the program's name. Refused as usage where they are not written as docs/hs_watch.md says, with the first
+/// word that is wrong where one can be named, and else for the first source that is not.
 pub(crate) fn read_words<'a>(alloc: Global, words: &'a [String]) -> Result<Task<'a>, Fault<'a>>
+    ensures refused { IfErr result (λ fault. fault ≢ ProgramFault.Output) }
+{
+    match task_in(alloc, words) {
+        Err(ProgramFault::Usage) => match wrong_word(words) {
+            Some(word) => Err(Fault::Own(WatchFault::Word(word))),
+            None => Err(ProgramFault::Usage),
+        },
+        read => read,
+    }
+}
+
+fn task_in<'a>(alloc: Global, words: &'a [String]) -> Result<Task<'a>, Fault<'a>>
     ensures refused { IfErr result (λ fault. fault ≢ ProgramFault.Output) }
 {
     // `clap` would pass over it.
@@ -116,6 +130,7 @@ fn with_switches<'a>(alloc: Global, grammar: Grammar<'a>) -> Result<Grammar<'a>,
         .arg(Arg::new(alloc, "NAME").long("name"))?
         .arg(host)?
         .arg(switch(alloc, "export"))?
+        .arg(switch(alloc, "lineage"))?
         .arg(switch(alloc, "until-culprit"))?
         .arg(switch(alloc, "until-input-ends"))
 }
@@ -126,6 +141,8 @@ fn switch<'a>(alloc: Global, name: &'a str) -> Arg<'a> {
 
 // The options that go with `--state` alone where what was kept is given out.
 const NOT_OF_AN_EXPORT: [&str; 6] = ["SECONDS", "REREAD", "ADDRESS", "BYTES", "NAME", "HOST"];
+
+const WATCH_SWITCHES: [&str; 3] = ["until-culprit", "until-input-ends", "lineage"];
 
 // `R-I OUT`, with nothing beside them but where it was kept.
 fn exported<'a>(matches: &ArgMatches<'a>) -> Result<Task<'a>, Fault<'a>>
@@ -141,7 +158,7 @@ fn exported<'a>(matches: &ArgMatches<'a>) -> Result<Task<'a>, Fault<'a>>
     let has_more = NOT_OF_AN_EXPORT
         .iter()
         .any(|name| matches.get_strs(name).is_some());
-    let is_watch = is_set(matches, "until-culprit") || is_set(matches, "until-input-ends");
+    let is_watch = WATCH_SWITCHES.iter().any(|name| is_set(matches, name));
     if has_more || is_watch || !matches.get_strs("SOURCE").unwrap_or(&[]).is_empty() {
         return Err(ProgramFault::Usage);
     }
@@ -198,6 +215,7 @@ fn given<'a>(alloc: Global, matches: &ArgMatches<'a>) -> Result<Words<'a>, Fault
         name: matches.get_str("NAME"),
         state: matches.get_str("DIR"),
         keep_most,
+        lineage: is_set(matches, "lineage"),
     };
     if words.state.is_none() && matches.get_str("BYTES").is_some() {
         return Err(ProgramFault::Usage);
@@ -219,7 +237,23 @@ fn judged<'a>(words: Words<'a>) -> Result<Words<'a>, Fault<'a>>
     if words.listen.is_none() && (!words.hosts.is_empty() || words.name.is_some()) {
         return Err(ProgramFault::Usage);
     }
-    Ok(words)
+    match file_in_lineage(&words) {
+        Some(word) => Err(Fault::Own(WatchFault::Word(word))),
+        None => Ok(words),
+    }
+}
+
+// A file is of one committee: the first word that names one where the watch is to go over.
+fn file_in_lineage<'a>(words: &Words<'a>) -> Option<&'a str> {
+    if !words.lineage {
+        return None;
+    }
+    for (word, source) in words.source_words.iter().zip(words.sources.iter()) {
+        if let Origin::File(_) = source.origin {
+            return Some(*word);
+        }
+    }
+    None
 }
 
 // The names, in lower case, as the names in requests are compared.
@@ -313,4 +347,64 @@ fn thousandths(digits: &[u8]) -> Option<u64> {
         worth /= 10;
     }
     Some(sum)
+}
+
+// ---- which word is wrong
+
+// The options behind which a word stands.
+const VALUED: [&str; 7] = [
+    "--every",
+    "--reread",
+    "--listen",
+    "--host",
+    "--name",
+    "--state",
+    "--keep-most",
+];
+
+const SWITCHES: [&str; 4] = [
+    "--until-culprit",
+    "--until-input-ends",
+    "--lineage",
+    "--export",
+];
+
+// Whether this word may stand behind this option.
+fn is_value(option: &str, word: &str) -> bool {
+    match option {
+        "--every" => every_in(Some(word)).is_some(),
+        "--reread" => reread_in(Some(word)).is_some(),
+        "--keep-most" => keep_most_in(Some(word)).is_some(),
+        _ => !word.is_empty() && !word.starts_with("-"),
+    }
+}
+
+// The first word that is wrong by itself: one that begins with `-` and is no option, one that is empty, or one that may not stand
+// behind its option. Where a word is missing, or two do not go together, none is.
+fn wrong_word<'a>(words: &'a [String]) -> Option<&'a str> {
+    let mut option = "";
+    for word in words {
+        let word = word.as_str();
+        if !option.is_empty() {
+            if !is_value(option, word) {
+                return Some(word);
+            }
+            option = "";
+        } else if VALUED.iter().any(|name| *name == word) {
+            option = word;
+        } else if !SWITCHES.iter().any(|name| *name == word) && !is_plain(word) {
+            return Some(word);
+        }
+    }
+    None
+}
+
+// Whether it is no option, or one with its value.
+fn is_plain(word: &str) -> bool {
+    match word.split_once('=') {
+        Some((option, value)) if VALUED.iter().any(|name| *name == option) => {
+            is_value(option, value)
+        }
+        _ => !word.is_empty() && !word.starts_with("-"),
+    }
 }
