@@ -21,6 +21,8 @@ const FILE_MODE: u32 = 0o600;
 pub(crate) struct Standing {
     /// Its number: the first has 0.
     pub number: u64,
+    /// How many culprits the committees before have, as far as this watch knows.
+    pub earlier_culprits: u64,
     pub file: Vec<u8>,
 }
 
@@ -29,14 +31,16 @@ impl Standing {
     pub fn again(&self) -> Result<Standing, AllocError> {
         Ok(Standing {
             number: self.number,
+            earlier_culprits: self.earlier_culprits,
             file: self.file.clone()?,
         })
     }
 
-    /// The committee that comes next.
-    pub fn next(&self, file: Vec<u8>) -> Standing {
+    /// The committee that comes next, where this one has so many culprits.
+    pub fn next(&self, culprits: u64, file: Vec<u8>) -> Standing {
         Standing {
             number: self.number.saturating_add(1),
+            earlier_culprits: self.earlier_culprits.saturating_add(culprits),
             file,
         }
     }
@@ -107,11 +111,12 @@ pub(crate) fn last_kept<'a, T: Files<File = File>>(
 ) -> Result<Standing, Fault<'a>> {
     let mut standing = Standing {
         number: 0,
+        earlier_culprits: 0,
         file: first,
     };
     for _ in 0..MOST_STEPS {
         match kept_next(host, dir, &standing)? {
-            Some(next) => standing = standing.next(next.file),
+            Some(next) => standing = standing.next(0, next.file),
             None => break,
         }
     }

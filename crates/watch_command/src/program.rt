@@ -140,6 +140,7 @@ fn standing_of<'a, T: Files<File = File>>(
         Some(dir) if words.lineage => last_kept(host, dir, first),
         _ => Ok(Standing {
             number: 0,
+            earlier_culprits: 0,
             file: first,
         }),
     }
@@ -202,6 +203,7 @@ fn targets_of<'a>(alloc: Global, words: &Words<'a>) -> Result<Vec<Target<'a>>, A
             framed: AtomicU64::new(0),
             aside: AtomicBool::new(false),
             accused: AtomicBool::new(false),
+            stays: AtomicU64::new(0),
         })?;
     }
     Ok(targets)
@@ -293,9 +295,9 @@ where
             Ok(ended) => ended,
             Err(fault) => return Err(fault),
         };
-        found = found || culprits;
+        found = found || culprits > 0;
         match next {
-            Some(next) => standing = standing.next(next.file),
+            Some(next) => standing = standing.next(culprits, next.file),
             None => break,
         }
     }
@@ -314,6 +316,7 @@ where
     let committee = parse_committee(&standing.file)?;
     let stay = Stay {
         number: standing.number,
+        earlier_culprits: standing.earlier_culprits,
         committee: &committee,
     };
     let Some(dir) = words.state else {
@@ -341,7 +344,7 @@ where
 // How the watch of one committee ended.
 #[derive(Drop)]
 struct Ended {
-    culprits: bool,
+    culprits: u64,
     // The committee to which it goes over, if it does.
     next: Option<NextFiles>,
 }
@@ -361,8 +364,8 @@ where
     let shop = Shop::new(host, words, hall, stay, &targets, state)?;
     let jobs = jobs_of(host.alloc, targets.len(), answerers_of(shop.server))?;
     match work_all(&shop, jobs) {
-        Ok(culprits) => Ok(Ended {
-            culprits,
+        Ok(_) => Ok(Ended {
+            culprits: shop.culprits.load(Ordering::SeqCst),
             next: shop.take_chosen(),
         }),
         Err(fault) => Err(fault),
@@ -402,7 +405,15 @@ fn server_of<T: Runtime>(
     let name = name_of(host, words)?;
     let committee = parse_committee(&standing.file)?;
     let targets = targets_of(host.alloc, words)?;
-    let seen = first_snapshot(host, &committee, words, &targets, state, name)?;
+    let seen = first_snapshot(
+        host,
+        &committee,
+        standing.number,
+        words,
+        &targets,
+        state,
+        name,
+    )?;
     match listen(host, address, seen, queue) {
         Ok(server) => Ok(Some(server)),
         Err(error) => Err(Fault::unless_memory(&error, Fault::Own(WatchFault::Listen))),

@@ -22,6 +22,7 @@ use watch_web::seconds_now;
 pub(crate) fn first_snapshot<T: Files<File = File> + Clock>(
     host: &Host<'_, T>,
     committee: &CommitteeView,
+    number: u64,
     words: &Words,
     targets: &[Target],
     state: Option<&StateFolder<'_, '_, T>>,
@@ -32,6 +33,9 @@ pub(crate) fn first_snapshot<T: Files<File = File> + Clock>(
     let desk = KeptVerdicts::new(alloc, committee).open(&replicas_of(alloc, targets)?)?;
     let since = Since::new(alloc, targets.len())?;
     let moment = Moment {
+        committee: number,
+        goes_over: words.lineage,
+        earlier_culprits: 0,
         name,
         folder: String::from_str(alloc, words.folder)?,
         started: now,
@@ -82,6 +86,7 @@ fn source_places(
                 bad: holds.bad,
                 aside: holds.aside,
                 beyond: holds.beyond,
+                stays: target.stays.load(Ordering::SeqCst),
             },
         })?;
     }
@@ -131,6 +136,9 @@ fn moment_of<T: Files<File = File> + Wait + Clock>(
         None => None,
     };
     Ok(Moment {
+        committee: shop.number,
+        goes_over: shop.words.lineage,
+        earlier_culprits: shop.earlier_culprits,
         name: String::from_str(shop.alloc, &server.name)?,
         folder: String::from_str(shop.alloc, shop.words.folder)?,
         started: server.started,

@@ -193,6 +193,9 @@ impl Reader {
         }
         self.server = heard;
         self.without_log = None;
+        if let Some(target) = shop.targets.get(self.source) {
+            target.stays.store(0, Ordering::SeqCst);
+        }
         if heard == Heard::NoLog && shop.number > 0 {
             self.without_log = Instant::now(shop.rt).ok();
         } else if heard != Heard::Named {
@@ -208,7 +211,15 @@ impl Reader {
         let Ok(elapsed) = since.elapsed(shop.rt) else {
             return;
         };
-        if elapsed.as_secs() >= STAYS_SECONDS && shop.has_frames() && !self.has_told_stays {
+        if elapsed.as_secs() < STAYS_SECONDS || !shop.has_frames() {
+            return;
+        }
+        if let Some(target) = shop.targets.get(self.source)
+            && target.stays.load(Ordering::SeqCst) == 0
+        {
+            target.stays.store(seconds_now(shop.rt), Ordering::SeqCst);
+        }
+        if !self.has_told_stays {
             self.has_told_stays = true;
             self.tell(shop, Told::Stays);
         }

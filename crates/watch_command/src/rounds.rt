@@ -78,6 +78,8 @@ pub(crate) fn collect<'c, T: Files<File = File> + Threads + Wait + Clock + Sync>
         rounds.take_round(shop, &folder, told)?;
     }
     rounds.finish(shop, &folder)?;
+    let culprits = rounds.desk.told().verdicts().len() as u64;
+    shop.culprits.store(culprits, Ordering::SeqCst);
     rounds.leave(shop)?;
     Ok(rounds.desk.has_culprits())
 }

@@ -110,6 +110,8 @@ pub(crate) struct Target<'a> {
     pub aside: AtomicBool,
     /// There is a verdict on its replica: no further log of it is begun.
     pub accused: AtomicBool,
+    /// Since when it is told that it has no log of a chain to which others went over, or 0.
+    pub stays: AtomicU64,
 }
 
 // One place for each source.
@@ -161,6 +163,8 @@ pub(crate) struct Hall {
 #[derive(Drop)]
 pub(crate) struct Stay<'a, 'c> {
     pub number: u64,
+    /// How many culprits the committees before have.
+    pub earlier_culprits: u64,
     pub committee: &'a CommitteeView<'c>,
 }
 
@@ -171,6 +175,8 @@ pub(crate) struct Shop<'a, 'w, 'c, T> {
     pub alloc: Global,
     /// The number of the committee.
     pub number: u64,
+    /// How many culprits the committees before have.
+    pub earlier_culprits: u64,
     pub committee: &'a CommitteeView<'c>,
     pub words: &'a Words<'w>,
     pub targets: &'a [Target<'w>],
@@ -190,6 +196,8 @@ pub(crate) struct Shop<'a, 'w, 'c, T> {
     offered: Mutex<Option<NextFiles>>,
     has_offer: AtomicBool,
     chosen: Mutex<Option<NextFiles>>,
+    /// How many culprits this committee had at the end.
+    pub culprits: AtomicU64,
     halted: &'a AtomicBool,
     pub ending: AtomicBool,
     /// Some source is read anew.
@@ -228,6 +236,7 @@ impl<'a, 'w, 'c, T: Wait + Clock> Shop<'a, 'w, 'c, T> {
             rt: host.rt,
             alloc: host.alloc,
             number: stay.number,
+            earlier_culprits: stay.earlier_culprits,
             committee: stay.committee,
             words,
             targets,
@@ -243,6 +252,7 @@ impl<'a, 'w, 'c, T: Wait + Clock> Shop<'a, 'w, 'c, T> {
             offered: Mutex::new(None),
             has_offer: AtomicBool::new(false),
             chosen: Mutex::new(None),
+            culprits: AtomicU64::new(0),
             halted: &hall.halted,
             ending: AtomicBool::new(false),
             reads_anew: AtomicBool::new(false),

@@ -79,13 +79,14 @@ pub record SourceRest : Type 0 where
   pub bad_since : ℕ
   pub aside_since : ℕ
   pub beyond_since : ℕ
+  pub stays_since : ℕ
 
 abbrev pub rest_seen : SourceSeen → SourceRest
-rest_seen s = record { word = string_bytes s.word; is_file = s.is_file; last_answer = s.last_answer; last_frame = s.last_frame; status_since = s.status_since; bad_since = s.bad_since; aside_since = s.aside_since; beyond_since = s.beyond_since }
+rest_seen s = record { word = string_bytes s.word; is_file = s.is_file; last_answer = s.last_answer; last_frame = s.last_frame; status_since = s.status_since; bad_since = s.bad_since; aside_since = s.aside_since; beyond_since = s.beyond_since; stays_since = s.stays_since }
 
 abbrev pub place_rest : Option SourcePlace → SourceRest
-place_rest None = record { word = []; is_file = false; last_answer = 0; last_frame = 0; status_since = 0; bad_since = 0; aside_since = 0; beyond_since = 0 }
-place_rest (Some p) = record { word = string_bytes p.word; is_file = p.is_file; last_answer = p.times.answer; last_frame = p.times.frame; status_since = p.times.status; bad_since = p.times.bad; aside_since = p.times.aside; beyond_since = p.times.beyond }
+place_rest None = record { word = []; is_file = false; last_answer = 0; last_frame = 0; status_since = 0; bad_since = 0; aside_since = 0; beyond_since = 0; stays_since = 0 }
+place_rest (Some p) = record { word = string_bytes p.word; is_file = p.is_file; last_answer = p.times.answer; last_frame = p.times.frame; status_since = p.times.status; bad_since = p.times.bad; aside_since = p.times.aside; beyond_since = p.times.beyond; stays_since = p.times.stays }
 
 -- the source at this place is shown under its number, with what is said of it
 pub record IsShownAt (places : List SourcePlace) (i : ℕ) (s : SourceSeen) : Type 0 where
@@ -162,6 +163,9 @@ pub record IsSnapshotUnder (committee : List ℕ) (d : Desk) (places : List Verd
   pub chain : s.chain ≡ chain_id_of committee
   pub replicas : s.replicas ≡ n_of committee
   pub total : s.total ≡ total_of committee
+  pub number : s.committee ≡ m.committee
+  pub goes_over : s.goes_over ≡ m.goes_over
+  pub earlier_culprits : s.earlier_culprits ≡ m.earlier_culprits
   pub name : s.name ≡ m.name
   pub folder : s.folder ≡ m.folder
   pub started : s.started ≡ m.started

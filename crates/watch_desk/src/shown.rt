@@ -33,6 +33,8 @@ pub struct SourceTimes {
     pub aside: u64,
     /// Since when it gives one log too many.
     pub beyond: u64,
+    /// Since when it has no log of a chain to which others went over.
+    pub stays: u64,
 }
 
 // .. of a source of which nothing came.
@@ -43,6 +45,7 @@ const NO_TIMES: SourceTimes = SourceTimes {
     bad: 0,
     aside: 0,
     beyond: 0,
+    stays: 0,
 };
 
 /// What a watch knows of a source besides what came of it.
@@ -69,6 +72,12 @@ pub struct VerdictPlace {
 /// A moment of a watch: what is shown of it besides what its desk knows. Times are seconds since 1970.
 #[derive(Drop)]
 pub struct Moment {
+    /// The number of the committee: the first one has 0.
+    pub committee: u64,
+    /// Whether the watch goes over with the ledger.
+    pub goes_over: bool,
+    /// How many culprits the committees before have.
+    pub earlier_culprits: u64,
     /// The name of the watch.
     pub name: String,
     /// The folder of its verdicts.
@@ -200,6 +209,7 @@ fn source_seen(
         bad_since: times.bad,
         aside_since: times.aside,
         beyond_since: times.beyond,
+        stays_since: times.stays,
     })
 }
 
@@ -352,6 +362,9 @@ fn snapshot_under(
     ensures accepted { IfOk result (AreAccepted desk.now.collected.gathered.committee) }
 {
     let Moment {
+        committee: number,
+        goes_over,
+        earlier_culprits,
         name,
         folder,
         started,
@@ -374,6 +387,9 @@ fn snapshot_under(
     let culprits = culprits_seen(alloc, committee, told.verdicts(), places)?;
     let seen = sources_seen(alloc, desk.known(), desk.reports(), &sources)?;
     Ok(Snapshot {
+        committee: number,
+        goes_over,
+        earlier_culprits,
         name,
         folder,
         started,

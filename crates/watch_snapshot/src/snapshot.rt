@@ -51,6 +51,12 @@ pub struct Snapshot {
     pub took: u64,
     /// After how many milliseconds a source is asked again.
     pub every: u32,
+    /// The number of the committee: the first one has 0.
+    pub committee: u64,
+    /// Whether the watch goes over with the ledger.
+    pub goes_over: bool,
+    /// How many culprits the committees before have.
+    pub earlier_culprits: u64,
     /// The chain's id.
     pub chain: Id,
     /// How many replicas the committee has.

@@ -59,6 +59,8 @@ pub struct SourceSeen {
     pub aside_since: u64,
     /// Since when it gives one log too many.
     pub beyond_since: u64,
+    /// Since when it has no log of a chain to which others went over.
+    pub stays_since: u64,
 }
 
 /// How a source does: the first that is so.

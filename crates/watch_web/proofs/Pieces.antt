@@ -43,7 +43,3 @@ by_eleven old p1 p2 p3 p4 p5 p6 p7 p8 p9 p10 p11 s1 s2 s3 s4 s5 s6 s7 s8 s9 s10 
 pub by_twelve : (old p1 p2 p3 p4 p5 p6 p7 p8 p9 p10 p11 p12 s1 s2 s3 s4 s5 s6 s7 s8 s9 s10 s11 s12 : List ℕ) → s1 ≡ old ++ p1 → s2 ≡ s1 ++ p2 → s3 ≡ s2 ++ p3 → s4 ≡ s3 ++ p4 → s5 ≡ s4 ++ p5 → s6 ≡ s5 ++ p6 → s7 ≡ s6 ++ p7 → s8 ≡ s7 ++ p8 → s9 ≡ s8 ++ p9 → s10 ≡ s9 ++ p10 → s11 ≡ s10 ++ p11 → s12 ≡ s11 ++ p12 → s12 ≡ old ++ (p1 ++ p2 ++ p3 ++ p4 ++ p5 ++ p6 ++ p7 ++ p8 ++ p9 ++ p10 ++ p11 ++ p12)
 by_twelve old p1 p2 p3 p4 p5 p6 p7 p8 p9 p10 p11 p12 s1 s2 s3 s4 s5 s6 s7 s8 s9 s10 s11 s12 e1 e2 e3 e4 e5 e6 e7 e8 e9 e10 e11 e12 =
     by_two old (p1 ++ p2 ++ p3 ++ p4 ++ p5 ++ p6 ++ p7 ++ p8 ++ p9 ++ p10 ++ p11) p12 s11 s12 (by_eleven old p1 p2 p3 p4 p5 p6 p7 p8 p9 p10 p11 s1 s2 s3 s4 s5 s6 s7 s8 s9 s10 s11 e1 e2 e3 e4 e5 e6 e7 e8 e9 e10 e11) e12
-
-pub by_thirteen : (old p1 p2 p3 p4 p5 p6 p7 p8 p9 p10 p11 p12 p13 s1 s2 s3 s4 s5 s6 s7 s8 s9 s10 s11 s12 s13 : List ℕ) → s1 ≡ old ++ p1 → s2 ≡ s1 ++ p2 → s3 ≡ s2 ++ p3 → s4 ≡ s3 ++ p4 → s5 ≡ s4 ++ p5 → s6 ≡ s5 ++ p6 → s7 ≡ s6 ++ p7 → s8 ≡ s7 ++ p8 → s9 ≡ s8 ++ p9 → s10 ≡ s9 ++ p10 → s11 ≡ s10 ++ p11 → s12 ≡ s11 ++ p12 → s13 ≡ s12 ++ p13 → s13 ≡ old ++ (p1 ++ p2 ++ p3 ++ p4 ++ p5 ++ p6 ++ p7 ++ p8 ++ p9 ++ p10 ++ p11 ++ p12 ++ p13)
-by_thirteen old p1 p2 p3 p4 p5 p6 p7 p8 p9 p10 p11 p12 p13 s1 s2 s3 s4 s5 s6 s7 s8 s9 s10 s11 s12 s13 e1 e2 e3 e4 e5 e6 e7 e8 e9 e10 e11 e12 e13 =
-    by_two old (p1 ++ p2 ++ p3 ++ p4 ++ p5 ++ p6 ++ p7 ++ p8 ++ p9 ++ p10 ++ p11 ++ p12) p13 s12 s13 (by_twelve old p1 p2 p3 p4 p5 p6 p7 p8 p9 p10 p11 p12 s1 s2 s3 s4 s5 s6 s7 s8 s9 s10 s11 s12 e1 e2 e3 e4 e5 e6 e7 e8 e9 e10 e11 e12) e13

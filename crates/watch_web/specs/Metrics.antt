@@ -1,13 +1,14 @@
 -- The metrics of a watch, as Prometheus reads them (text format 0.0.4). Each line ends with a line feed.
-use Rattle.std.specs.Prelude.{◌++◌, ◌/◌, ◌%◌, ℕ, Bool, true, false, List, codes, decimal, is_some, length, string_bytes}
+use Rattle.std.specs.Prelude.{◌++◌, ◌/◌, ◌%◌, ℕ, Bool, true, false, List, codes, decimal, is_some, length, nat_lt, string_bytes}
 use Rattle.std.specs.List.{flat_map}
+use Rattle.hex.specs.Hex.{encode_lower}
 use Rattle.escaped_text.specs.Escapes.{escaped}
 use Rattle.escaped_text.specs.declared.Inside.TheVariants.{Label}
 use Rattle.watch_snapshot.specs.Sources.{is_whole}
 use Rattle.watch_snapshot.specs.declared.snapshot.Snapshot.{Snapshot}
 use Rattle.watch_snapshot.specs.declared.source.SourceSeen.{SourceSeen}
 use Rattle.watch_web.specs.declared.metrics.Family.{Family}
-use Rattle.watch_web.specs.declared.metrics.Family.TheVariants.{WentBack, SetAside, Beyond, BadVotes, Whole, TopView, LastAnswer, LastFrame}
+use Rattle.watch_web.specs.declared.metrics.Family.TheVariants.{WentBack, SetAside, Beyond, Stays, BadVotes, Whole, TopView, LastAnswer, LastFrame}
 
 unfoldable pub number_of : Bool → ℕ
 number_of true = 1
@@ -20,6 +21,13 @@ findings_text culprits conflict handover =
     codes "# HELP hs_watch_culprits How many culprits there are.\n# TYPE hs_watch_culprits gauge\nhs_watch_culprits " ++ decimal culprits
     ++ codes "\n# HELP hs_watch_conflict 1 if commits conflict, else 0.\n# TYPE hs_watch_conflict gauge\nhs_watch_conflict " ++ decimal conflict
     ++ codes "\n# HELP hs_watch_handover 1 if it is proved that the committee handed its ledger over, else 0.\n# TYPE hs_watch_handover gauge\nhs_watch_handover " ++ decimal handover ++ codes "\n"
+
+-- which committee is watched, and what those before it have
+unfoldable pub going_text : (committee : ℕ) → (chain : List ℕ) → (earlier : ℕ) → List ℕ
+going_text committee chain earlier =
+    codes "# HELP hs_watch_committee The number of the committee that is watched; the first one has 0.\n# TYPE hs_watch_committee gauge\nhs_watch_committee{chain=\"" ++ encode_lower chain
+    ++ codes "\"} " ++ decimal committee
+    ++ codes "\n# HELP hs_watch_earlier_culprits How many culprits the committees before have.\n# TYPE hs_watch_earlier_culprits gauge\nhs_watch_earlier_culprits " ++ decimal earlier ++ codes "\n"
 
 -- the old name stays for a version
 unfoldable pub commits_text : (commits : ℕ) → List ℕ
@@ -65,6 +73,7 @@ front_of WentBack = codes "# HELP hs_watch_source_went_back_total How often a so
 front_of SetAside = codes "# HELP hs_watch_source_set_aside 1 if no more of a source is read, else 0.\n# TYPE hs_watch_source_set_aside gauge\n"
 front_of Beyond = codes "# HELP hs_watch_source_beyond 1 if a source gave a fifth log, which is not read, else 0.\n# TYPE hs_watch_source_beyond gauge\n"
 front_of Whole = codes "# HELP hs_watch_source_whole 1 if what came last of a source had its end mark, else 0.\n# TYPE hs_watch_source_whole gauge\n"
+front_of Stays = codes "# HELP hs_watch_source_stays 1 if a source has no log of a chain to which others went over, else 0.\n# TYPE hs_watch_source_stays gauge\n"
 front_of BadVotes = codes "# HELP hs_watch_source_bad_votes_total How many votes of a source are not good.\n# TYPE hs_watch_source_bad_votes_total counter\n"
 front_of TopView = codes "# HELP hs_watch_source_view The greatest view of the votes of a source that came in parts of which no vote is bad.\n# TYPE hs_watch_source_view gauge\n"
 front_of LastAnswer = codes "# HELP hs_watch_source_last_answer_timestamp_seconds When a source last gave a byte, or 0.\n# TYPE hs_watch_source_last_answer_timestamp_seconds gauge\n"
@@ -75,6 +84,7 @@ name_of WentBack = codes "hs_watch_source_went_back_total"
 name_of SetAside = codes "hs_watch_source_set_aside"
 name_of Beyond = codes "hs_watch_source_beyond"
 name_of Whole = codes "hs_watch_source_whole"
+name_of Stays = codes "hs_watch_source_stays"
 name_of BadVotes = codes "hs_watch_source_bad_votes_total"
 name_of TopView = codes "hs_watch_source_view"
 name_of LastAnswer = codes "hs_watch_source_last_answer_timestamp_seconds"
@@ -85,6 +95,7 @@ value_of WentBack s = s.times_back
 value_of SetAside s = number_of s.is_aside
 value_of Beyond s = number_of s.is_beyond
 value_of Whole s = number_of (is_whole s.status)
+value_of Stays s = number_of (nat_lt 0 s.stays_since)
 value_of BadVotes s = s.bad_votes
 value_of TopView s = s.top_view
 value_of LastAnswer s = s.last_answer
@@ -114,9 +125,9 @@ progress_text sources = family_text Whole sources ++ family_text TopView sources
 
 unfoldable pub whole_text : Snapshot → List ℕ
 whole_text s =
-    findings_text (length s.culprits.items) (number_of (is_some s.conflict)) (number_of s.has_handover) ++ commits_text s.commit_count
+    findings_text (length s.culprits.items) (number_of (is_some s.conflict)) (number_of s.has_handover) ++ going_text s.committee s.chain s.earlier_culprits ++ commits_text s.commit_count
     ++ losses_text (number_of s.is_unstored) s.lines_lost ++ state_text s.state_bytes s.state_bytes_max ++ kept_text s.kept s.kept_read ++ rounds_text s.stamped s.took s.round ++ process_text s.started
 
 unfoldable pub metrics_text : Snapshot → List ℕ
 metrics_text s =
-    whole_text s ++ trouble_text s.sources.items ++ progress_text s.sources.items
+    whole_text s ++ trouble_text s.sources.items ++ family_text Stays s.sources.items ++ progress_text s.sources.items

@@ -76,10 +76,18 @@ lost_line lost = codes "<p>Lines that were dropped, since nobody took them: " ++
 unfoldable pub lost_text : (lost : ℕ) → List ℕ
 lost_text lost = if nat_lt 0 lost then lost_line lost else codes ""
 
--- that the committee handed its ledger over, where it is proved
-unfoldable pub handover_text : (has_handover : Bool) → List ℕ
-handover_text false = codes ""
-handover_text true = codes "<p>It is proved that this committee handed its ledger over to the next one. Watch that one with a watch of its own: the ledger does not go on here.</p>\n"
+-- how many culprits the committees before have, if they have any
+unfoldable pub earlier_line : (earlier : ℕ) → List ℕ
+earlier_line earlier = codes "<p>Culprits of earlier committees, whose verdicts stand in the folder: " ++ decimal earlier ++ codes ".</p>\n"
+
+unfoldable pub earlier_text : (earlier : ℕ) → List ℕ
+earlier_text earlier = if nat_lt 0 earlier then earlier_line earlier else codes ""
+
+-- that the committee handed its ledger over, where it is proved, and who watches the next one
+unfoldable pub handover_text : (has_handover goes_over : Bool) → List ℕ
+handover_text false goes_over = codes ""
+handover_text true true = codes "<p>It is proved that this committee handed its ledger over to the next one. The watch goes over to that one once a source gives its file.</p>\n"
+handover_text true false = codes "<p>It is proved that this committee handed its ledger over to the next one. Watch that one with a watch of its own: the ledger does not go on here.</p>\n"
 
 -- the worst that holds, what to do, and the head of a list of all that holds
 unfoldable pub first_text : Standing → Shares → (time : List ℕ) → (round : ℕ) → List ℕ
@@ -102,22 +110,22 @@ commits_text count commits conflict =
     codes "<h2>Commits</h2>\n" ++ conflict_text conflict ++ codes "<p>Proved commits: " ++ decimal count ++ codes " (the last 100 are listed)</p>\n<ul>\n"
     ++ flat_map commit_row commits ++ codes "</ul>\n"
 
-unfoldable pub foot_text : (chain : List ℕ) → List ℕ
-foot_text chain =
-    codes "<p>Chain <code>" ++ encode_lower chain ++ codes "</code></p>\n<p>A verdict is checked with hs_check or check.html, of a copy of this project that its reader trusts: this watcher is the accuser, and hands out no judge.</p>\n</body>\n</html>\n"
+unfoldable pub foot_text : (committee : ℕ) → (chain : List ℕ) → List ℕ
+foot_text committee chain =
+    codes "<p>Committee " ++ decimal committee ++ codes " (the first one has 0), chain <code>" ++ encode_lower chain ++ codes "</code></p>\n<p>A verdict is checked with hs_check or check.html, of a copy of this project that its reader trusts: this watcher is the accuser, and hands out no judge.</p>\n</body>\n</html>\n"
 
 -- ---- the whole
 
 unfoldable pub body_text : Snapshot → (second : ℕ) → (is_still : Bool) → (time : List ℕ) → List ℕ
 body_text s second is_still time =
     culprits_text s (shares_of s second) time ++ picture_text (is_some s.picture) ++ commits_text s.commit_count s.commits.items s.conflict
-    ++ sources_text s.every s.certified second s.sources.items ++ links_text is_still ++ foot_text s.chain
+    ++ sources_text s.every s.certified second s.sources.items ++ links_text is_still ++ foot_text s.committee s.chain
 
 unfoldable pub front_text : Snapshot → (second : ℕ) → (is_still : Bool) → (time : List ℕ) → List ℕ
 front_text s second is_still time =
     title_text (standing_of s second) (shares_of s second) s is_still ++ looks_text (level_of (standing_of s second))
     ++ banner_text (is_old_round s.stamped second) ++ first_text (standing_of s second) (shares_of s second) time s.round
-    ++ (holding_text s second ++ codes "</ul>\n") ++ kept_text s.kept_read s.kept ++ lost_text s.lines_lost ++ handover_text s.has_handover
+    ++ (holding_text s second ++ codes "</ul>\n") ++ kept_text s.kept_read s.kept ++ lost_text s.lines_lost ++ earlier_text s.earlier_culprits ++ handover_text s.has_handover s.goes_over
 
 abbrev pub page_text : Snapshot → (second : ℕ) → (is_still : Bool) → (time : List ℕ) → List ℕ
 page_text s second is_still time = front_text s second is_still time ++ body_text s second is_still time

@@ -54,10 +54,13 @@ unfoldable pub source_times : SourceSeen → List ℕ
 source_times s =
     codes ",\"last_answer\":" ++ decimal s.last_answer ++ codes ",\"last_frame\":" ++ decimal s.last_frame
     ++ codes ",\"went_back\":" ++ decimal s.times_back ++ codes ",\"went_back_at\":" ++ decimal s.went_back_at
-    ++ codes ",\"set_aside\":" ++ bool_text s.is_aside ++ codes ",\"beyond\":" ++ bool_text s.is_beyond ++ codes "}"
+    ++ codes ",\"set_aside\":" ++ bool_text s.is_aside ++ codes ",\"beyond\":" ++ bool_text s.is_beyond
+
+unfoldable pub source_end : SourceSeen → List ℕ
+source_end s = codes ",\"stays\":" ++ bool_text (nat_lt 0 s.stays_since) ++ codes "}"
 
 abbrev pub source_text : SourceSeen → List ℕ
-source_text s = source_front s ++ source_counts s ++ source_times s
+source_text s = source_front s ++ source_counts s ++ source_times s ++ source_end s
 
 -- ---- commits and the conflict
 
@@ -83,12 +86,12 @@ culprit_text c =
 
 -- the status that a watch would end with
 unfoldable pub status_of : Snapshot → ℕ
-status_of s = if nat_lt 0 (length s.culprits.items) then 3 else 0
+status_of s = if nat_lt 0 (length s.culprits.items) then 3 else if nat_lt 0 s.earlier_culprits then 3 else 0
 
-unfoldable pub report_front : (status : ℕ) → (chain : List ℕ) → (round started time : ℕ) → List ℕ
-report_front status chain round started time =
+unfoldable pub report_front : (status : ℕ) → (chain : List ℕ) → (committee round started time : ℕ) → List ℕ
+report_front status chain committee round started time =
     codes "{\"format\":\"wezhgula-report-1\",\"status\":" ++ decimal status ++ codes ",\"chain\":\"" ++ encode_lower chain
-    ++ codes "\",\"round\":\"" ++ decimal round ++ codes "\",\"started\":" ++ decimal started ++ codes ",\"time\":" ++ decimal time
+    ++ codes "\",\"committee\":\"" ++ decimal committee ++ codes "\",\"round\":\"" ++ decimal round ++ codes "\",\"started\":" ++ decimal started ++ codes ",\"time\":" ++ decimal time
 
 unfoldable pub report_sources : List SourceSeen → List ℕ
 report_sources sources = codes ",\"sources\":[" ++ listed source_text sources ++ codes "]"
@@ -105,5 +108,5 @@ report_culprits culprits unstored weight total =
 
 unfoldable pub report_text : Snapshot → List ℕ
 report_text s =
-    report_front (status_of s) s.chain s.round s.started s.stamped ++ report_sources s.sources.items
+    report_front (status_of s) s.chain s.committee s.round s.started s.stamped ++ report_sources s.sources.items
     ++ report_commits s.commit_count s.commits.items s.conflict s.has_handover ++ report_culprits s.culprits.items s.is_unstored s.weight s.total

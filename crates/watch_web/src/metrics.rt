@@ -2,10 +2,11 @@
 
 ghost use Rattle.std.specs.Prelude.{◌≡◌, ◌++◌, IfOk, OnOk};
 ghost use Rattle.std.specs.List.{flat_map};
-ghost use Rattle.watch_web.specs.Metrics.{commits_text, family_text, findings_text, front_of, kept_text, labels_of, losses_text, metrics_text, name_of, number_of, process_text, progress_text, rounds_text, sample, seconds_text, state_text, trouble_text, value_of, whole_text};
+ghost use Rattle.watch_web.specs.Metrics.{commits_text, family_text, findings_text, front_of, going_text, kept_text, labels_of, losses_text, metrics_text, name_of, number_of, process_text, progress_text, rounds_text, sample, seconds_text, state_text, trouble_text, value_of, whole_text};
 
+use blocks::Id;
 use escaped_text::{Inside, put_escaped};
-use printed_lines::put_number;
+use printed_lines::{put_id, put_number};
 use std::alloc::{AllocError, Global};
 use watch_snapshot::{Snapshot, SourceSeen};
 use wire::append;
@@ -19,6 +20,8 @@ pub enum Family {
     SetAside,
     /// Whether it gave one log too many.
     Beyond,
+    /// Whether it has no log of a chain to which others went over.
+    Stays,
     /// How many of its votes are not good.
     BadVotes,
     /// Whether what came last of it had its end mark.
@@ -42,6 +45,8 @@ impl Family {
                 b"# HELP hs_watch_source_set_aside 1 if no more of a source is read, else 0.\n# TYPE hs_watch_source_set_aside gauge\n",
             Family::Beyond =>
                 b"# HELP hs_watch_source_beyond 1 if a source gave a fifth log, which is not read, else 0.\n# TYPE hs_watch_source_beyond gauge\n",
+            Family::Stays =>
+                b"# HELP hs_watch_source_stays 1 if a source has no log of a chain to which others went over, else 0.\n# TYPE hs_watch_source_stays gauge\n",
             Family::Whole =>
                 b"# HELP hs_watch_source_whole 1 if what came last of a source had its end mark, else 0.\n# TYPE hs_watch_source_whole gauge\n",
             Family::BadVotes =>
@@ -62,6 +67,7 @@ impl Family {
             Family::WentBack => b"hs_watch_source_went_back_total",
             Family::SetAside => b"hs_watch_source_set_aside",
             Family::Beyond => b"hs_watch_source_beyond",
+            Family::Stays => b"hs_watch_source_stays",
             Family::Whole => b"hs_watch_source_whole",
             Family::BadVotes => b"hs_watch_source_bad_votes_total",
             Family::TopView => b"hs_watch_source_view",
@@ -77,6 +83,7 @@ impl Family {
             Family::WentBack => source.times_back,
             Family::SetAside => u64::from(number_of(source.is_aside)),
             Family::Beyond => u64::from(number_of(source.is_beyond)),
+            Family::Stays => u64::from(number_of(0 < source.stays_since)),
             Family::Whole => u64::from(number_of(source.is_whole())),
             Family::BadVotes => source.bad_votes,
             Family::TopView => source.top_view,
@@ -117,6 +124,26 @@ fn put_findings(
         b"\n# HELP hs_watch_handover 1 if it is proved that the committee handed its ledger over, else 0.\n# TYPE hs_watch_handover gauge\nhs_watch_handover ",
     )?;
     put_number(text, handover)?;
+    append(text, b"\n")?;
+    Ok(())
+}
+
+fn put_going(text: &mut Vec<u8>, committee: u64, chain: &Id, earlier: u64) -> Result<(), AllocError>
+    ensures { OnOk result (text.new.items
+        ≡ text.old.items ++ going_text committee chain.now earlier) }
+{
+    append(
+        text,
+        b"# HELP hs_watch_committee The number of the committee that is watched; the first one has 0.\n# TYPE hs_watch_committee gauge\nhs_watch_committee{chain=\"",
+    )?;
+    put_id(text, chain)?;
+    append(text, b"\"} ")?;
+    put_number(text, committee)?;
+    append(
+        text,
+        b"\n# HELP hs_watch_earlier_culprits How many culprits the committees before have.\n# TYPE hs_watch_earlier_culprits gauge\nhs_watch_earlier_culprits ",
+    )?;
+    put_number(text, earlier)?;
     append(text, b"\n")?;
     Ok(())
 }
@@ -304,6 +331,7 @@ fn put_whole(text: &mut Vec<u8>, seen: &Snapshot) -> Result<(), AllocError>
     let conflict = number_of(seen.conflict.is_some());
     let handover = number_of(seen.has_handover);
     put_findings(text, seen.culprits.len(), conflict, handover)?;
+    put_going(text, seen.committee, &seen.chain, seen.earlier_culprits)?;
     put_commits(text, seen.commit_count)?;
     let unstored = number_of(seen.is_unstored);
     put_losses(text, unstored, seen.lines_lost)?;
@@ -321,6 +349,7 @@ pub(crate) fn metrics_of(alloc: Global, seen: &Snapshot) -> Result<Vec<u8>, Allo
     let mut text = Vec::new(alloc);
     put_whole(&mut text, seen)?;
     put_troubles(&mut text, &seen.sources)?;
+    put_family(&mut text, Family::Stays, &seen.sources)?;
     put_progress(&mut text, &seen.sources)?;
     Ok(text)
 }

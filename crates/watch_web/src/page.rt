@@ -2,7 +2,7 @@
 
 ghost use Rattle.std.specs.Prelude.{◌≡◌, ◌++◌, IfOk, OnOk, codes};
 ghost use Rattle.watch_web.specs.Holding.{holding_text};
-ghost use Rattle.watch_web.specs.Pages.{IsPage, banner_text, body_text, commits_text, culprits_text, first_text, foot_text, found_text, front_text, handover_text, kept_line, kept_text, links_text, looks_text, lost_line, lost_text, none_text, page_text, picture_text, reload_text, sources_text, style_text, title_text};
+ghost use Rattle.watch_web.specs.Pages.{IsPage, banner_text, body_text, commits_text, culprits_text, earlier_line, earlier_text, first_text, foot_text, found_text, front_text, handover_text, kept_line, kept_text, links_text, looks_text, lost_line, lost_text, none_text, page_text, picture_text, reload_text, sources_text, style_text, title_text};
 
 use crate::holding::put_holding;
 use crate::rows::{put_commits, put_conflict, put_culprits, put_shown, put_sources};
@@ -238,13 +238,42 @@ fn put_lost(text: &mut Vec<u8>, lost: u64) -> Result<(), AllocError>
     append(text, b"")
 }
 
+fn put_earlier_line(text: &mut Vec<u8>, earlier: u64) -> Result<(), AllocError>
+    ensures { OnOk result (text.new.items ≡ text.old.items ++ earlier_line earlier) }
+{
+    append(
+        text,
+        b"<p>Culprits of earlier committees, whose verdicts stand in the folder: ",
+    )?;
+    put_number(text, earlier)?;
+    append(text, b".</p>\n")?;
+    Ok(())
+}
+
+#[tactic(auto, unfolding(crate::specs::Pages::earlier_text))]
+fn put_earlier(text: &mut Vec<u8>, earlier: u64) -> Result<(), AllocError>
+    ensures { OnOk result (text.new.items ≡ text.old.items ++ earlier_text earlier) }
+{
+    if 0 < earlier {
+        return put_earlier_line(text, earlier);
+    }
+    append(text, b"")
+}
+
 // That the committee handed its ledger over, where it is proved.
 #[tactic(auto, unfolding(crate::specs::Pages::handover_text))]
-fn put_handover(text: &mut Vec<u8>, has_handover: bool) -> Result<(), AllocError>
-    ensures { OnOk result (text.new.items ≡ text.old.items ++ handover_text has_handover) }
+fn put_handover(text: &mut Vec<u8>, has_handover: bool, goes_over: bool) -> Result<(), AllocError>
+    ensures { OnOk result (text.new.items
+        ≡ text.old.items ++ handover_text has_handover goes_over) }
 {
     if !has_handover {
         return append(text, b"");
+    }
+    if goes_over {
+        return append(
+            text,
+            b"<p>It is proved that this committee handed its ledger over to the next one. The watch goes over to that one once a source gives its file.</p>\n",
+        );
     }
     append(
         text,
@@ -290,10 +319,12 @@ fn put_all_commits(
     Ok(())
 }
 
-fn put_foot(text: &mut Vec<u8>, chain: &Id) -> Result<(), AllocError>
-    ensures { OnOk result (text.new.items ≡ text.old.items ++ foot_text chain.now) }
+fn put_foot(text: &mut Vec<u8>, committee: u64, chain: &Id) -> Result<(), AllocError>
+    ensures { OnOk result (text.new.items ≡ text.old.items ++ foot_text committee chain.now) }
 {
-    append(text, b"<p>Chain <code>")?;
+    append(text, b"<p>Committee ")?;
+    put_number(text, committee)?;
+    append(text, b" (the first one has 0), chain <code>")?;
     put_id(text, chain)?;
     append(
         text,
@@ -324,7 +355,8 @@ fn put_front(
     put_all_holding(text, seen, second)?;
     put_kept(text, seen.kept_read, seen.kept)?;
     put_lost(text, seen.lines_lost)?;
-    put_handover(text, seen.has_handover)
+    put_earlier(text, seen.earlier_culprits)?;
+    put_handover(text, seen.has_handover, seen.goes_over)
 }
 
 #[tactic(auto, unfolding(crate::specs::Pages::body_text))]
@@ -343,7 +375,7 @@ fn put_body(
     put_all_commits(text, seen.commit_count, &seen.commits, &seen.conflict)?;
     put_all_sources(text, seen.every, seen.certified, second, &seen.sources)?;
     put_links(text, is_still)?;
-    put_foot(text, &seen.chain)
+    put_foot(text, seen.committee, &seen.chain)
 }
 
 // .. with this time of its last round.

@@ -1,7 +1,7 @@
 //! The report of a watch.
 
 ghost use Rattle.std.specs.Prelude.{◌≡◌, ◌++◌, IfOk, OnOk, string_bytes};
-ghost use Rattle.watch_web.specs.Reports.{block_text, bool_text, conflict_text, culprit_text, digests_text, pair_text, report_commits, report_culprits, report_front, report_sources, report_text, source_counts, source_front, source_text, source_times, status_of, status_text, string_text};
+ghost use Rattle.watch_web.specs.Reports.{block_text, bool_text, conflict_text, culprit_text, digests_text, pair_text, report_commits, report_culprits, report_front, report_sources, report_text, source_counts, source_end, source_front, source_text, source_times, status_of, status_text, string_text};
 
 use crate::lists::{put_blocks, put_culprits, put_sources};
 use blocks::{Ballot, Id};
@@ -100,8 +100,16 @@ fn put_source_times(text: &mut Vec<u8>, source: &SourceSeen) -> Result<(), Alloc
     put_bool(text, source.is_aside)?;
     append(text, b",\"beyond\":")?;
     put_bool(text, source.is_beyond)?;
-    append(text, b"}")?;
     Ok(())
+}
+
+#[tactic(auto, unfolding(crate::specs::Reports::source_end))]
+fn put_source_end(text: &mut Vec<u8>, source: &SourceSeen) -> Result<(), AllocError>
+    ensures { OnOk result (text.new.items ≡ text.old.items ++ source_end source.now) }
+{
+    append(text, b",\"stays\":")?;
+    put_bool(text, 0 < source.stays_since)?;
+    append(text, b"}")
 }
 
 pub(crate) fn put_source(text: &mut Vec<u8>, source: &SourceSeen) -> Result<(), AllocError>
@@ -109,7 +117,8 @@ pub(crate) fn put_source(text: &mut Vec<u8>, source: &SourceSeen) -> Result<(), 
 {
     put_source_front(text, source)?;
     put_source_counts(text, source)?;
-    put_source_times(text, source)
+    put_source_times(text, source)?;
+    put_source_end(text, source)
 }
 
 // ---- commits and the conflict
@@ -176,24 +185,30 @@ pub(crate) fn put_culprit(text: &mut Vec<u8>, culprit: &Culprit) -> Result<(), A
 fn status_of(seen: &Snapshot) -> u8
     ensures { result ≡ status_of seen.now }
 {
-    if seen.culprits.is_empty() { 0 } else { 3 }
+    if !seen.culprits.is_empty() {
+        return 3;
+    }
+    if 0 < seen.earlier_culprits { 3 } else { 0 }
 }
 
 fn put_front(
     text: &mut Vec<u8>,
     status: u8,
     chain: &Id,
+    committee: u64,
     round: u64,
     started: u64,
     time: u64,
 ) -> Result<(), AllocError>
     ensures { OnOk result (text.new.items
-        ≡ text.old.items ++ report_front status chain.now round started time) }
+        ≡ text.old.items ++ report_front status chain.now committee round started time) }
 {
     append(text, b"{\"format\":\"wezhgula-report-1\",\"status\":")?;
     put_number(text, status)?;
     append(text, b",\"chain\":\"")?;
     put_id(text, chain)?;
+    append(text, b"\",\"committee\":\"")?;
+    put_number(text, committee)?;
     append(text, b"\",\"round\":\"")?;
     put_number(text, round)?;
     append(text, b"\",\"started\":")?;
@@ -265,6 +280,7 @@ pub(crate) fn report_of(alloc: Global, seen: &Snapshot) -> Result<Vec<u8>, Alloc
         &mut text,
         status_of(seen),
         &seen.chain,
+        seen.committee,
         seen.round,
         seen.started,
         seen.stamped,
