@@ -7,6 +7,7 @@ import socket
 import subprocess
 import threading
 import time
+import urllib.request
 
 from lineages import REPLICAS, cluster, notes_of, wait_for
 from blocks import PUBLIC_KEY
@@ -121,7 +122,8 @@ class Watch:
         self.named = set()  # whom it is to have named, each with the committee
         self.found = f"{lineage.folder}/watched"
         os.mkdir(self.found)
-        words = [cluster.program("hs_watch"), lineage.paths[0], self.found, "--lineage", "--until-input-ends"]
+        self.place = None  # where it tells over HTTP
+        words = [cluster.program("hs_watch"), lineage.paths[0], self.found, "--lineage", "--until-input-ends", "--listen", "127.0.0.1:0"]
         words += ["--state", f"{lineage.folder}/watch-state", *cluster.sources(lineage.places), self.forger.source]
         self.process = subprocess.Popen(words, stdin=subprocess.PIPE, stdout=subprocess.PIPE, text=True, start_new_session=True)
         threading.Thread(target=self.read, daemon=True).start()
@@ -130,6 +132,8 @@ class Watch:
         """Each line is TIME round N committee M and what is new."""
         for line in self.process.stdout:
             words = line.split()
+            if words[0] == "listening":
+                self.place = words[1]
             if words[1:2] == ["round"] and words[3:4] == ["committee"]:
                 self.lines.append((time.monotonic(), int(words[4]), words[5:]))
 
@@ -164,10 +168,20 @@ class Watch:
         if not ran.stdout.startswith(f"accepted replica {LIAR} rule 1 "):
             raise Failed(f"hs_check of {name} says {ran.stdout or ran.stderr}")
 
+    def see_metrics(self, place):
+        """What it shows is of the committee of this place, and says how many culprits those before have."""
+        with urllib.request.urlopen(f"http://{self.place}/metrics", timeout=10) as answer:
+            lines = answer.read().decode().splitlines()
+        chain, earlier = self.lineage.committees[place].genesis.hex(), sum(committee < place for committee, _ in self.culprits())
+        for wanted in (f'hs_watch_committee{{chain="{chain}"}} {place}', f"hs_watch_earlier_culprits {earlier}"):
+            if wanted not in lines:
+                raise Failed(f"the metrics of the watch in committee {place} lack {wanted}")
+
     def see_fork(self, place, view):
         self.forger.fork(self.lineage.committees[place], view)
         wanted = {(place, number) for number in FORKERS}
         wait_for(lambda: wanted <= self.culprits() and self.told("conflict"), f"the watch to name {FORKERS} in committee {place}")
+        self.see_metrics(place)
 
     def end(self, named):
         """It ends in order, has named these, each by its committee, and nobody else."""
