@@ -1,4 +1,5 @@
 pub mod Clearing
+pub mod Comparing
 pub mod LightProofs
 pub mod Names
 pub mod Standing

@@ -93,7 +93,12 @@ impl<F: Files<File = File>> LineageFolder<'_, F> {
     }
 
     // Stores a file of this name in the folder of a chain, whole.
-    fn store_beside(&self, chain: &Id, name: &str, bytes: &[u8]) -> Result<(), LineageFault> {
+    pub(crate) fn store_beside(
+        &self,
+        chain: &Id,
+        name: &str,
+        bytes: &[u8],
+    ) -> Result<(), LineageFault> {
         let path = self.within(&self.chain_folder(chain)?, name)?;
         match self.store(&path, bytes) {
             Ok(()) => Ok(()),

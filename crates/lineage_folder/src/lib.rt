@@ -5,6 +5,7 @@
 mod beginning;
 mod chains;
 mod clearing;
+mod comparing;
 mod fault;
 mod folder;
 mod light_proof;

@@ -21,6 +21,9 @@ pub const NEXT_RENEWAL: &str = "next.hsr";
 /// The light proof that the handover to it is committed, where the log had all of it, beside it.
 pub const NEXT_PROOF: &str = "next.hsh";
 
+/// What says in the folder of a chain that it was left by a light proof, and that nobody compared the lineage since.
+pub(crate) const NOT_COMPARED: &str = "not-compared";
+
 /// What says in DIR which chain it began with: the 64 hex digits of its id, and a line feed.
 pub(crate) const LINEAGE: &str = "lineage";
 

@@ -171,7 +171,7 @@ impl<F: Files<File = File>> LineageFolder<'_, F> {
 }
 
 // The chain of the committee of this file; of a file that is none, that of no committee.
-fn chain_of(committee: &[u8]) -> Id {
+pub(crate) fn chain_of(committee: &[u8]) -> Id {
     match CommitteeView::parse(committee) {
         Ok(committee) => committee.chain(),
         Err(_) => [0; 32],

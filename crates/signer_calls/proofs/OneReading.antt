@@ -26,6 +26,7 @@ use Rattle.signer_calls.specs.declared.query.Query.{Query}
 use Rattle.signer_calls.specs.declared.rules.Rules.{Rules}
 use Rattle.signer_calls.proofs.BlockLists.{one_list}
 use Rattle.signer_calls.proofs.Ids.{one_spelled}
+use Rattle.signer_calls.proofs.OverBodies.{one_over_body, over_is_pair}
 use Rattle.signer_calls.proofs.Pairs.{one_pair}
 use Rattle.signer_calls.proofs.Parameters.{one_query}
 
@@ -289,17 +290,19 @@ one_successor : (payload : Option (List ℕ)) (a b : Call) → SuccessorAsked pa
 one_successor (Some payload) a b is is' = is ∙ sym is'
 one_successor None a b is is' = is ∙ sym is'
 
-one_over_from : (chain : Option (List ℕ)) (renewal file : List ℕ) (a b : Call) → OverFrom chain renewal file a → OverFrom chain renewal file b → a ≡ b
-one_over_from (Some chain) renewal file a b is is' = is ∙ sym is'
-one_over_from None renewal file a b is is' = is ∙ sym is'
+one_over_from : (chain : Option (List ℕ)) (renewal file : List ℕ) (proof : Option (List ℕ)) (a b : Call) → OverFrom chain renewal file proof a
+    → OverFrom chain renewal file proof b → a ≡ b
+one_over_from (Some chain) renewal file proof a b is is' = is ∙ sym is'
+one_over_from None renewal file proof a b is is' = is ∙ sym is'
 
 one_over : (chain : Option (List ℕ)) (body : List ℕ) (a b : Call) → OverAsked chain body a → OverAsked chain body b → a ≡ b
-one_over chain body a b (inl (r, f, at, is)) (inl (r', f', at', is')) =
-    let same = one_pair body r f r' f' at at' in
-    let renewals = subst (λ (x : List ℕ). OverFrom chain x f a) same.0 is in
-    one_over_from chain r' f' a b (subst (λ (x : List ℕ). OverFrom chain r' x a) same.1 renewals) is'
-one_over chain body a b (inl (r, f, at, is)) (inr (none, is')) = absurd (none r f at)
-one_over chain body a b (inr (none, is)) (inl (r, f, at, is')) = absurd (none r f at)
+one_over chain body a b (inl (r, f, p, at, is)) (inl (r', f', p', at', is')) =
+    let same = one_over_body body r f p r' f' p' at at' in
+    let renewals = subst (λ (x : List ℕ). OverFrom chain x f p a) same.0 is in
+    let files = subst (λ (x : List ℕ). OverFrom chain r' x p a) same.1 renewals in
+    one_over_from chain r' f' p' a b (subst (λ (x : Option (List ℕ)). OverFrom chain r' f' x a) same.2 files) is'
+one_over chain body a b (inl (r, f, p, at, is)) (inr (none, is')) = absurd (over_is_pair body r f p at none)
+one_over chain body a b (inr (none, is)) (inl (r, f, p, at, is')) = absurd (over_is_pair body r f p at none)
 one_over chain body a b (inr (none, is)) (inr (none', is')) = is ∙ sym is'
 
 one_endorse : (body : List ℕ) (a b : Call) → EndorseAsked body a → EndorseAsked body b → a ≡ b

@@ -14,6 +14,7 @@ use Rattle.host_rule.specs.HostRules.{HasGoodHost}
 use Rattle.signer_calls.specs.BlockLists.{SpellsBlocks, SpellsNoBlocks}
 use Rattle.signer_calls.specs.Doors.{HasBytesType}
 use Rattle.signer_calls.specs.LogParts.{part_of}
+use Rattle.signer_calls.specs.OverBodies.{SpellsOver}
 use Rattle.signer_calls.specs.Pairs.{SpellsNoPair, SpellsPair}
 use Rattle.signer_calls.specs.Places.{IsPlace, has_no_id, is_nowhere, is_of_renewal, is_posted, methods_of, queries_of}
 use Rattle.signer_calls.specs.Queries.{HasGoodQuery, IsQuery}
@@ -142,14 +143,14 @@ SuccessorAsked None asked = asked ≡ call.Refused refused.Number
 abbrev pub CertificateAsked : List ℕ → Call → Type 0
 CertificateAsked body asked = asked ≡ call.Certificate (certificate_in body)
 
--- to go over to the committee of a file, with its renewal, from the chain that is named
-abbrev pub OverFrom : Option (List ℕ) → List ℕ → List ℕ → Call → Type 0
-OverFrom (Some chain) renewal file asked = asked ≡ call.Over (record { chain = chain; renewal = renewal; file = file })
-OverFrom None renewal file asked = asked ≡ call.Refused refused.Chain
+-- to go over to the committee of a file, with its renewal and a light proof, if there is one, from the chain that is named
+abbrev pub OverFrom : Option (List ℕ) → (renewal file : List ℕ) → Option (List ℕ) → Call → Type 0
+OverFrom (Some chain) renewal file proof asked = asked ≡ call.Over (record { chain = chain; renewal = renewal; file = file; proof = proof })
+OverFrom None renewal file proof asked = asked ≡ call.Refused refused.Chain
 
 abbrev pub OverAsked : Option (List ℕ) → List ℕ → Call → Type 0
 OverAsked chain body asked =
-    ((renewal file : List ℕ) × SpellsPair body renewal file × OverFrom chain renewal file asked)
+    ((renewal file : List ℕ) × (proof : Option (List ℕ)) × SpellsOver body renewal file proof × OverFrom chain renewal file proof asked)
     ⊎ (SpellsNoPair body × (asked ≡ call.Refused refused.Length))
 
 -- the body to endorse is empty

@@ -2,6 +2,7 @@ pub mod Places
 pub mod Doors
 pub mod Queries
 pub mod LogParts
+pub mod OverBodies
 pub mod Pairs
 pub mod BlockLists
 pub mod SpelledVotes

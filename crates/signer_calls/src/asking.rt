@@ -10,6 +10,7 @@ use crate::block_list::blocks_in;
 use crate::call::{Call, CallRefusal, Over};
 use crate::door::has_bytes_type;
 use crate::log_part::part_of;
+use crate::over_body::{OverBody, over_body_in};
 use crate::pair::pair_in;
 use crate::place::{Methods, Place, Queries, behind, id_in, is_same, place_of};
 use crate::query::{Query, named_in, names_payload};
@@ -196,20 +197,26 @@ fn certificate_asked(alloc: Global, body: &[u8]) -> Result<Call, AllocError>
     }
 }
 
-// To go over to the committee of a file, with its renewal, from the chain that is named.
+// To go over to the committee of a file, with its renewal and a light proof, if there is one, from the chain that is named.
 fn over_asked(chain: &Option<Id>, body: &Bytes) -> Result<Call, AllocError>
     ensures { IfOk result (OverAsked chain.now body.now) }
 {
-    let Some(pair) = pair_in(body)? else {
+    let Some(spelled) = over_body_in(body)? else {
         return Ok(Call::Refused(CallRefusal::Length));
     };
     let Some(chain) = *chain else {
         return Ok(Call::Refused(CallRefusal::Chain));
     };
+    let OverBody {
+        renewal,
+        file,
+        proof,
+    } = spelled;
     Ok(Call::Over(Over {
         chain,
-        renewal: pair.renewal,
-        file: pair.file,
+        renewal,
+        file,
+        proof,
     }))
 }
 

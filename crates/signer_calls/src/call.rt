@@ -12,7 +12,8 @@ use certificates::{Certificate, CertificateRefusal, SignedVote};
 use http::StatusCode;
 use replica_answers::Request;
 
-/// What a call to go over names: the chain that is left, and the file of the committee that follows, with its renewal.
+/// What a call to go over names: the chain that is left, the file of the committee that follows, its renewal, and what shows that the
+/// handover to it is committed, if not the blocks that this signer was handed.
 #[derive(Drop)]
 pub struct Over {
     /// The chain that the call names.
@@ -21,6 +22,8 @@ pub struct Over {
     pub renewal: Bytes,
     /// The bytes of the file.
     pub file: Bytes,
+    /// The bytes of the light proof, if there is one.
+    pub proof: Option<Bytes>,
 }
 
 /// A renewal, and the file of a committee that it may be for.

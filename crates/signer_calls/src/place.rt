@@ -190,8 +190,8 @@ fn named_place(path: &[u8]) -> Place
     Place::Nowhere
 }
 
-// The id that is printed so.
-pub(crate) fn id_in(digits: &[u8]) -> Option<Id>
+/// The id that is printed so: 64 hex digits in lower case.
+pub fn id_in(digits: &[u8]) -> Option<Id>
     ensures { IsIdOf digits.now result }
 {
     let mut id = [0; 32];

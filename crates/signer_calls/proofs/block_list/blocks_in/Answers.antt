@@ -1,5 +1,5 @@
-use Rattle.std.proofs.Common.{◌≡◌, ◌<◌, ◌≤◌, ◌∷◌, List, ℕ, [], length, arith, rules, subst, sym}
-use Rattle.signer_calls.proofs.BlockLists.{AreRead, broken, nothing_read, read_all, read_one}
+use Rattle.std.proofs.Common.{◌<◌, ◌≤◌, length, rules}
+use Rattle.signer_calls.proofs.BlockLists.{broken, nothing_read, read_all, read_one}
 use Rattle.signer_calls.proofs.block_list.blocks_in.Goals as goal
 
 pub returns-in-None : goal.returns-in-None
