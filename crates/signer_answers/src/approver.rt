@@ -2,9 +2,11 @@
 
 ghost use Rattle.std.specs.Prelude.{◌≡◌, ◌≢◌, ℕ, List, IfOk, IfSome, IsTrue, None, OnOk};
 ghost use Rattle.blocks.specs.Genesis.{chain_id_of};
+ghost use Rattle.light_proofs.specs.Proving.{ProvesHandover};
 ghost use Rattle.signer_answers.specs.Approvals.{Telling};
 
 use blocks::{CommitteeRefusal, CommitteeView, Id};
+use light_proofs::LightProof;
 use std::alloc::AllocError;
 
 /// Why a signer does not go over to the committee of a file.
@@ -105,6 +107,15 @@ pub trait Approver {
     fn prepare(&self, renewal: &[u8], file: &[u8]) -> Result<Id, OverFault>
         ensures { IfOk result (λ chain. chain ≡ chain_id_of file.now) };
 
+    /// Keeps the light proof by which alone it goes over from this committee, before it says so. What follows may be a second lineage: what
+    /// the signer may need to stay in the first one stays until the newest chain's id was compared.
+    fn keep_proof(
+        &self,
+        committee: &CommitteeView,
+        proof: &LightProof,
+    ) -> Result<(), OverFault>
+        requires { ProvesHandover committee.now proof.now };
+
     /// Says for good that it goes over by the handover block of this id to the committee of this file, for which it made all ready.
     fn say(&self, handover: &Id, file: &[u8]) -> Result<(), OverFault>
         ensures { OnOk result ((tells self.now).over handover.now file.now) };
@@ -162,6 +173,14 @@ impl Approver for NoSuccessor {
 
     fn prepare(&self, _renewal: &[u8], _file: &[u8]) -> Result<Id, OverFault> {
         Err(OverFault::NotMine)
+    }
+
+    fn keep_proof(
+        &self,
+        _committee: &CommitteeView,
+        _proof: &LightProof,
+    ) -> Result<(), OverFault> {
+        Err(OverFault::Stopped)
     }
 
     fn say(&self, _handover: &Id, _file: &[u8]) -> Result<(), OverFault> {
