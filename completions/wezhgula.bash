@@ -4,7 +4,7 @@
 _wezhgula_options() {
     case $1 in
         hs_show) echo --committee --statement --lineage --explain --help --version ;;
-        hs_signer) echo --listen --read --serve --successor --ask --sessions --furthest --host --group --while-input --verbose --renew --keep --help --version ;;
+        hs_signer) echo --listen --read --serve --successor --ask --sessions --furthest --host --group --while-input --verbose --renew --keep --compared --help --version ;;
         hs_watch) echo --every --reread --listen --host --name --state --keep-most --lineage --until-culprit --until-input-ends --export --help --version ;;
         hs_follow) echo --renewal --proof --light --lineage --fetch --help --version ;;
         hs_draw) echo --help --version ;;

@@ -109,3 +109,124 @@ def folder_in(folder, chain):
 
 def entries_in(folder, chain):
     return payloads_of(read(f"{folder_in(folder, chain)}/log.hsj"))
+
+
+# What the cases stand on
+
+
+def next_keys(room, number):
+    """A folder of next keys of a replica behind the chain, as keygen makes it beside a log."""
+    folder = folder_of(room, number)
+    subprocess.run([TOOL, "keygen", "--random", folder, "--behind", COMMITTEE, str(number)], check=True, stdout=subprocess.DEVNULL)
+    return f"{folder}/next-{CHAIN.hex()}"
+
+
+class Road:
+    """A chain whose second block hands over to the committee of a file: its blocks, each with its parent's certificate."""
+
+    def __init__(self, path):
+        self.path, self.file, self.blocks, self.chain = path, read(path), [], genesis(path)
+        self.payload = payload_of(self.file)
+
+    def header(self, tip):
+        return header_of(2, tip.view, tip.block, self.payload) if tip.view == 1 else tip.child(tip.view + 1)
+
+    @property
+    def handover(self):
+        return id_of(self.blocks[1][0])
+
+    def first_block(self, view=1):
+        """A block on genesis of the next chain, of which the payload is that of its handover."""
+        start = Tip(block=self.chain)
+        return header_of(view, 0, self.chain, b"HSO1" + self.handover[:28]), start.certificate
+
+    def make(self, room):
+        """By signers of the replicas 1, 2 and 3, which are stopped."""
+        self.go_on([Signer(room, number, "--successor", self.path) for number in VOTERS], BLOCKS)
+        return self
+
+    def make_unapproved(self, room):
+        """By signers, too, but for the handover block, for which they would not vote: that is voted for by `hs_tool replica`, which does not
+        look at what a block hands over to, and answers once its input ended."""
+        signers = [Signer(room, number) for number in VOTERS]
+        tip = self.go_on(signers, 1)
+        header = self.header(tip)
+        self.blocks.append((header, tip.certificate))
+        lines = b"".join(b"block " + b"".join(block).hex().encode() + b"\n" for block in self.blocks)
+        words = [[TOOL, "replica", COMMITTEE, str(signer.number), signer.folder] for signer in signers]
+        said = in_parallel([lambda word=word: subprocess.run(word, input=lines, capture_output=True, timeout=60).stdout for word in words])
+        self.go_on(signers, BLOCKS, tip.after(header, [Vote(text.splitlines()[-2]).bytes for text in said]))
+        return self
+
+    def go_on(self, signers, count, tip=None):
+        """Blocks up to so many, of which the first were made before. Answers the last one's tip."""
+        tip = tip or Tip()
+        try:
+            in_parallel([signer.must_start for signer in signers])
+            for signer in signers:
+                for block in self.blocks:
+                    signer.deliver(*block)
+            while len(self.blocks) < count:
+                header = self.header(tip)
+                self.blocks.append((header, tip.certificate))
+                tip = tip.after(header, [Vote(signer.deliver(header, tip.certificate)[1]).bytes for signer in signers])
+        finally:
+            stop(signers)
+        return tip
+
+
+class Ground:
+    """What all cases stand on. `new` hands over to a committee of which all keys are new, `kept` to one in which replica 0 keeps its own,
+    and `none` to a file that is no committee's."""
+
+    def __init__(self, room):
+        self.room = room
+        keys = in_parallel([lambda number=number: next_keys(room, number) for number in (0, 1, 2, 3, 0)])
+        self.keys, self.strange_keys = keys[0], keys[4]
+        public = [read(f"{folder}/key.pub") for folder in keys[:REPLICAS]]
+        own = read(COMMITTEE)[8 : 8 + len(public[0])]
+        files = {"new": committee_of(public), "kept": committee_of([own, *public[1:]]), "none": b"HSC1" + bytes(100)}
+        paths = {name: written(f"{room}/{name}.hsc", file) for name, file in files.items()}
+        self.new, self.kept, self.none = (Road(paths[name]) for name in ("new", "kept", "none"))
+        in_parallel([lambda: self.new.make(room), lambda: self.kept.make(room), lambda: self.none.make_unapproved(room)])
+        self.heard = written(f"{room}/heard.hsl", export_of([]))
+
+    def folder(self, keys=None):
+        """A new folder of replica 0, with these next keys."""
+        folder = folder_of(self.room, 0)
+        if keys:
+            give_keys(folder, keys)
+        return folder
+
+    def signer(self, road, *words, folder=None, heard=None, committee=COMMITTEE):
+        """A signer of replica 0 that goes over, and hears replicas 1 and 2."""
+        sources = [word for number in (1, 2) for word in ("--ask", f"{number}=file:{heard or self.heard}")]
+        return Renewing(self.room, 0, "--renew", *sources, "--successor", road.path, *words, folder=folder or self.folder(self.keys), committee=committee)
+
+
+def give_keys(folder, keys):
+    place = f"{folder}/next-{CHAIN.hex()}"
+    shutil.rmtree(place, ignore_errors=True)
+    shutil.copytree(keys, place)
+
+
+def faults_of(words):
+    """What a start says that must fail."""
+    ran = subprocess.run([SIGNER, *words], capture_output=True, stdin=subprocess.DEVNULL, timeout=60)
+    return ran.returncode, ran.stdout, ran.stderr.decode()
+
+
+def run_cases(cases):
+    """Runs cases, each with its name, on one ground. How many answers were compared, and how many cases failed."""
+    with trial() as room:
+        ground, asked, failed = Ground(room), 0, 0
+        for name, case in cases:
+            at = time.time()
+            try:
+                count = case(ground)
+                asked += count
+                print(f"{name}: {count} answers in {time.time() - at:.1f} s", flush=True)
+            except Failed as fault:
+                failed += 1
+                print(f"{name}: FAILED: {fault}", flush=True)
+    return asked, failed

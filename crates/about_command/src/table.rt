@@ -181,12 +181,27 @@ hs_signer | over CHAIN | The signer has gone over to this chain: it votes in the
 hs_signer | refused over 1 NoCommit | This process told no block as committed that has a handover block in its chain. | Hand in the block that commits again, then repeat the call.\n\
 hs_signer | refused over 2 OtherFile PAYLOAD | The handover block that was committed has this payload, which names another file. | Send the file that the payload names.\n\
 hs_signer | refused over 3 NotMine | The replica has in that file neither its keys of this chain nor those that were made behind it. | Look who made the keys: somebody else has them, or DIR was put back.\n\
+hs_signer | refused proof 2 Short | The light proof has fewer than 8 bytes. | See that the body has each part after its length: the renewal, the file, the light proof.\n\
+hs_signer | refused proof 3 Magic | The light proof does not begin with HSH1. | See that the body has each part after its length: the renewal, the file, the light proof.\n\
+hs_signer | refused proof 4 Number | The light proof does not name 2 to 4,096 headers after the first. | Fetch the step anew, from another server.\n\
+hs_signer | refused proof 5 Length | The light proof has not as many bytes as its numbers ask for. | Fetch the step anew, from another server.\n\
+hs_signer | refused proof 6 Header | A header of the light proof is none. | Fetch the step anew, from another server.\n\
+hs_signer | refused proof 7 Order | The replicas of a certificate in the light proof do not rise. | Fetch the step anew, from another server.\n\
+hs_signer | refused proof 8 Count | A certificate in the light proof has more than 31 votes, or none, or some of view 0. | Fetch the step anew, from another server.\n\
+hs_signer | refused handover 1 NoHandover | The first block of the light proof does not hand over. | Fetch the step anew, from another server.\n\
+hs_signer | refused handover 2 Views | The last three blocks of the light proof are not in views in a row. | Fetch the step anew, from another server.\n\
+hs_signer | refused handover 3 Parent | A block of the light proof is not on the one before it. | Fetch the step anew, from another server.\n\
+hs_signer | refused handover 4 OtherBlock | A certificate of the light proof is not on its block. | Fetch the step anew, from another server.\n\
+hs_signer | refused handover 5 UnknownReplica | A certificate of the light proof names a replica that this committee does not have. | It is of another committee: send the light proof of the chain that the signer is in.\n\
+hs_signer | refused handover 6 TooFew | A certificate of the light proof has votes of less than a quorum. | Fetch the step anew, from another server.\n\
+hs_signer | refused handover 7 Vote | A vote in the light proof is not good under this committee. | It may be of another committee: send the light proof of the chain that the signer is in.\n\
 hs_signer | stopped over | What the new chain needs, as the keys that were endorsed, or the word that the signer goes over, can't be read or stored. | See to DIR and its disk, then start the signer again.\n\
 hs_signer | making keys | The replica's next keys are still made, or looked for behind a start: with --renew this is beside the votes, and takes some seconds. Nothing was done. | Ask again.\n\
 hs_signer | stopped next | The replica's next keys can't be read or made, or are not the ones that it endorsed, or a disk failed while the endorsement was stored. It votes on in this chain. | See to DIR/next-ID and its disk, and start the signer again. Never put a folder of keys back from a backup: where the keys are lost the replica comes back by hand, with new keys in the file of --successor.\n\
 hs_signer | next keys not made | The replica's next keys could not be made: the random source or the disk failed, or DIR has no room. It votes on in this chain. | See to DIR and its disk, and start the signer again.\n\
 hs_signer | seeds not removed | With --renew: a seed of keys that the replica has in no committee any more could not be removed. Nothing is stopped, and it is tried again at the next going over or start. | See to the mode of DIR and to its disk: who steals an old seed can sign for a committee of the past.\n\
 hs_signer | logs not removed | With --keep: the log of a chain that was left could not be removed. Nothing is stopped, and it is tried again at the next going over or start. | See to the mode of DIR and to its disk.\n\
+hs_signer | seeds and logs kept until compared | The signer went over by a light proof that it was shown, and nobody compared the lineage since: it removes no seeds and no logs. Nothing is stopped. | Compare the newest chain id with somebody you trust, then start the signer with --compared ID.\n\
 hs_signer | renews PAYLOAD new S of W | The committee of that file renews this one: its new slots weigh S of the whole weight W. From now on a block that hands over with this payload may be voted for. | Nothing.\n\
 hs_signer | refused renewal 2 Short | The renewal has fewer than 78 bytes. | See that the body has the renewal's length in front, and the whole renewal.\n\
 hs_signer | refused renewal 3 Magic | The renewal does not begin with HSR1. | Put it together anew of the endorsements.\n\

@@ -60,7 +60,20 @@ fn are_good(alloc: Global, old: &CommitteeView, step: &StepFiles) -> Result<bool
     }
 }
 
-/// The files of a good step from the committee of this file, of the first source that is a server and has them.
+// The files of a good step from this committee, if the server has them.
+fn fetch_good<D: Dial>(
+    alloc: Global,
+    dialer: &D,
+    old: &CommitteeView,
+) -> Result<Option<StepFiles>, AllocError> {
+    match fetch_from(alloc, dialer, old.chain())? {
+        Some(step) if are_good(alloc, old, &step)? => Ok(Some(step)),
+        _ => Ok(None),
+    }
+}
+
+/// The files of a good step from the committee of this file, of the first source that is a server and has them with a renewal, or else
+/// of the first that has them: who keeps a renewal back can't make a step look as if people had made it, where another one gives it.
 pub(crate) fn fetch_next<T: Net<Stream = TcpStream> + Clock>(
     rt: &T,
     alloc: Global,
@@ -70,16 +83,20 @@ pub(crate) fn fetch_next<T: Net<Stream = TcpStream> + Clock>(
     let Ok(old) = CommitteeView::parse(last) else {
         return Ok(None);
     };
+    let mut without_renewal = None;
     for source in sources {
         let Origin::Tcp(address) = source.origin else {
             continue;
         };
-        let dialer = TcpDialer::new(rt, address);
-        if let Some(step) = fetch_from(alloc, &dialer, old.chain())?
-            && are_good(alloc, &old, &step)?
-        {
+        let Some(step) = fetch_good(alloc, &TcpDialer::new(rt, address), &old)? else {
+            continue;
+        };
+        if step.renewal().is_some() {
             return Ok(Some(step));
         }
+        if without_renewal.is_none() {
+            without_renewal = Some(step);
+        }
     }
-    Ok(None)
+    Ok(without_renewal)
 }

@@ -63,6 +63,7 @@ put it back to a backup.\n\
 \x20 --verbose          a line on standard error for each call\n\
 \x20 --renew            goes over to the next committee in one process\n\
 \x20 --keep N           keeps the logs of the last N chains; only with --renew\n\
+\x20 --compared ID      the newest chain, as you compared it; only with --renew\n\
 \n\
 Status: 0 ended; 4 the log was put back; 2 a fault. See hs_signer(1).\n",
 };

@@ -5,6 +5,7 @@ use Rattle.std.specs.List.{starts_with}
 use Rattle.std.specs.declared.alloc.Global.{Global}
 use Rattle.program_parts.specs.Words.{SpellsNumber, SpellsSource}
 use Rattle.program_parts.specs.declared.words.SourceWord.{SourceWord}
+use Rattle.signer_calls.specs.Places.{IsIdOf}
 use Rattle.signer_command.specs.declared.wrong_words.Awaited.{Awaited}
 use Rattle.signer_command.specs.declared.wrong_words.Awaited.TheVariants as awaits
 use Rattle.signer_command.specs.declared.wrong_words.Named.{Named}
@@ -33,7 +34,8 @@ takes_of word =
     (if bytes_eq word (codes "--sessions") then Some takes.Sessions else
     (if bytes_eq word (codes "--furthest") then Some takes.View else
     (if bytes_eq word (codes "--keep") then Some takes.Count else
-    (if takes_name word then Some takes.Name else None)))))
+    (if bytes_eq word (codes "--compared") then Some takes.Chain else
+    (if takes_name word then Some takes.Name else None))))))
 
 -- written as an option is
 abbrev pub is_dashed : List ℕ → Bool
@@ -55,6 +57,7 @@ IsValue takes.Name word = IsTrue (is_name word)
 IsValue takes.Sessions word = (n : ℕ) × SpellsNumber word n × (1 ≤ n) × (n ≤ 64)
 IsValue takes.View word = (n : ℕ) × (n < 2 ^ 64) × (word ≡ decimal n)
 IsValue takes.Count word = (n : ℕ) × SpellsNumber word n
+IsValue takes.Chain word = (id : List ℕ) × IsIdOf word (Some id)
 IsValue takes.Source word = (s : SourceWord) × SpellsSource word s
 
 -- what is named by its place alone

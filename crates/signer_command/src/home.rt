@@ -13,6 +13,7 @@ use crate::pool::Start;
 use crate::successor::Successor;
 use blocks::{CommitteeView, Header, Id};
 use certificates::Certificate;
+use light_proofs::LightProof;
 use lineage_folder::{LineageFolder, Standing, has_keys_of};
 use put_back_file::{PUT_BACK, put_back_text};
 use sha2::{Digest, Sha256};
@@ -179,6 +180,17 @@ impl<T: Threads + Wait + Files<File = File>, S: Sink> Approver for Home<'_, T, S
         }
         *next = Some(ready_for(self, &after, renewal, file)?);
         Ok(chain)
+    }
+
+    fn keep_proof(
+        &self,
+        committee: &CommitteeView,
+        proof: &LightProof,
+    ) -> Result<(), OverFault> {
+        match self.lineage().keep_proof(committee, proof) {
+            Ok(()) => Ok(()),
+            Err(fault) => Err(fault_of_words(fault)),
+        }
     }
 
     fn say(&self, handover: &Id, file: &[u8]) -> Result<(), OverFault> {

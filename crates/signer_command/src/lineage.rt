@@ -86,8 +86,8 @@ pub(crate) fn stand_in<'a, T: Files<File = File> + Threads + Wait + Sync, S: Sin
     Ok(Stand { at, parts, lock })
 }
 
-/// Removes what no chain needs any more where a signer stands that goes over: seeds, and, if the words say so, logs. A later removal
-/// makes up for one that fails or is cut short.
+/// Removes what no chain needs any more where a signer stands that goes over: seeds, and, if the words say so, logs; nothing while the
+/// lineage is still to be compared. A later removal makes up for one that fails or is cut short.
 pub(crate) fn clear_behind<T: Files<File = File> + Wait, S: Sink>(
     host: &Host<'_, T>,
     words: &Words<'_>,
@@ -98,7 +98,21 @@ pub(crate) fn clear_behind<T: Files<File = File> + Wait, S: Sink>(
         return;
     }
     let folder = folder_of(host.rt, host.alloc, words);
-    if folder.remove_old_seeds(at, words.replica).is_err() {
+    match folder.is_compared(at, &words.compared) {
+        Ok(true) => clear(&folder, words, notes, at),
+        Ok(false) => notes.tell_left(Leftover::Uncompared),
+        Err(_) => notes.tell_left(Leftover::Seeds),
+    }
+}
+
+// The same, once no step of the lineage is still to be compared.
+fn clear<T: Files<File = File> + Wait, S: Sink>(
+    folder: &LineageFolder<'_, T>,
+    words: &Words<'_>,
+    notes: &Notes<'_, T, S>,
+    at: &Standing,
+) {
+    if folder.forget_left(at).is_err() || folder.remove_old_seeds(at, words.replica).is_err() {
         notes.tell_left(Leftover::Seeds);
     }
     if let Some(keep) = words.keep

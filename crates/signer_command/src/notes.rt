@@ -22,14 +22,18 @@ const LONGEST_BODY: usize = 80;
 /// What is told where it could be written down nowhere that a disk failed.
 const NOT_WRITTEN: &[u8] = b"disk-failed not written\n";
 
-/// What could not be removed though no chain needs it any more.
+/// What is not removed though no chain needs it any more.
 #[derive(Clone, Copy, Debug, PartialEq, Eq)]
 pub(crate) enum Leftover {
+    /// Seeds that could not be removed.
     Seeds,
+    /// Logs that could not be.
     Logs,
+    /// Seeds and logs that stay since the lineage is still to be compared.
+    Uncompared,
 }
 
-/// Tells of calls, of sources, and once that a disk stopped the desk, that the log was put back, or what could not be removed. What the
+/// Tells of calls, of sources, and once that a disk stopped the desk, that the log was put back, or what is not removed. What the
 /// sink does not take is lost.
 #[derive(Drop)]
 pub(crate) struct Notes<'a, T: Wait, S: Sink> {
@@ -43,6 +47,7 @@ pub(crate) struct Notes<'a, T: Wait, S: Sink> {
     was_put_back: AtomicBool,
     has_old_seeds: AtomicBool,
     has_old_logs: AtomicBool,
+    is_uncompared: AtomicBool,
 }
 
 impl<'a, T: Wait, S: Sink> Notes<'a, T, S> {
@@ -63,6 +68,7 @@ impl<'a, T: Wait, S: Sink> Notes<'a, T, S> {
             was_put_back: AtomicBool::new(false),
             has_old_seeds: AtomicBool::new(false),
             has_old_logs: AtomicBool::new(false),
+            is_uncompared: AtomicBool::new(false),
         }
     }
 
@@ -92,11 +98,12 @@ impl<'a, T: Wait, S: Sink> Notes<'a, T, S> {
         self.was_put_back.load(Ordering::SeqCst)
     }
 
-    /// Tells once what could not be removed.
+    /// Tells once what is not removed.
     pub fn tell_left(&self, leftover: Leftover) {
         let (was_told, line): (&AtomicBool, &[u8]) = match leftover {
             Leftover::Seeds => (&self.has_old_seeds, b"seeds not removed\n"),
             Leftover::Logs => (&self.has_old_logs, b"logs not removed\n"),
+            Leftover::Uncompared => (&self.is_uncompared, b"seeds and logs kept until compared\n"),
         };
         if !was_told.swap(true, Ordering::SeqCst) {
             self.tell(line);

@@ -5,10 +5,12 @@ ghost use Rattle.signer_command.specs.WordFaults.{IsUsageFault, IsWordsFault};
 
 use crate::fault::{Fault, SignerFault};
 use crate::wrong_words::first_wrong;
+use blocks::Id;
 use clap::error::ErrorKind;
 use clap::{Arg, ArgAction, ArgMatches, Command as Grammar, Error};
 use printed_lines::number_in;
 use program_parts::{ProgramFault, SourceWord, number};
+use signer_calls::id_in;
 use std::alloc::{AllocError, Global};
 
 /// How far above the vote view a view may lie, where nothing is said.
@@ -79,6 +81,8 @@ pub(crate) struct Words<'a> {
     pub renew: bool,
     /// How many of the last chains that it left keep their logs, where not all do.
     pub keep: Option<u16>,
+    /// The newest chain, as it was compared with somebody.
+    pub compared: Option<Id>,
 }
 
 /// Reads the words, without the program's name. Where they are not written as docs/hs_signer.md says they are refused by the first that is
@@ -146,6 +150,7 @@ fn with_values<'a>(alloc: Global, grammar: Grammar<'a>) -> Result<Grammar<'a>, A
         .arg(Arg::new(alloc, "N").long("sessions"))?
         .arg(Arg::new(alloc, "D").long("furthest"))?
         .arg(Arg::new(alloc, "KEEP").long("keep"))?
+        .arg(Arg::new(alloc, "ID").long("compared"))?
         .arg(source)?
         .arg(host)
 }
@@ -196,12 +201,13 @@ fn given<'a>(alloc: Global, matches: &ArgMatches<'a>) -> Result<Words<'a>, Fault
         verbose: is_set(matches, "verbose"),
         renew: is_set(matches, "renew"),
         keep: keep_in(matches.get_str("KEEP"))?,
+        compared: compared_in(matches.get_str("ID"))?,
     };
     judged(words)
 }
 
 // No place and no path is empty, and the ledger's group is let in at a path that was named alone: the replica's folder is its own. Who
-// goes over asks others in each chain. Logs go only of chains that were left.
+// goes over asks others in each chain. Logs go only of chains that were left, and only a lineage is compared.
 fn judged<'a>(words: Words<'a>) -> Result<Words<'a>, Fault<'a>>
     ensures { IfErr result (λ fault. fault ≢ ProgramFault.Output) }
 {
@@ -213,7 +219,8 @@ fn judged<'a>(words: Words<'a>) -> Result<Words<'a>, Fault<'a>>
     if is_empty(words.read) || is_empty(words.serve) || is_empty(words.successor) {
         return Err(ProgramFault::Usage);
     }
-    if (words.renew && words.sources.is_empty()) || (words.keep.is_some() && !words.renew) {
+    let is_of_lineage = words.keep.is_some() || words.compared.is_some();
+    if (words.renew && words.sources.is_empty()) || (is_of_lineage && !words.renew) {
         return Err(ProgramFault::Usage);
     }
     Ok(words)
@@ -242,6 +249,18 @@ fn keep_in<'a>(word: Option<&str>) -> Result<Option<u16>, Fault<'a>>
     };
     match number(word) {
         Some(count) => Ok(Some(count)),
+        None => Err(ProgramFault::Usage),
+    }
+}
+
+fn compared_in<'a>(word: Option<&str>) -> Result<Option<Id>, Fault<'a>>
+    ensures { IfErr result (λ fault. fault ≢ ProgramFault.Output) }
+{
+    let Some(word) = word else {
+        return Ok(None);
+    };
+    match id_in(word.as_bytes()) {
+        Some(id) => Ok(Some(id)),
         None => Err(ProgramFault::Usage),
     }
 }

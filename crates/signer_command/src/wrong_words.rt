@@ -5,6 +5,7 @@ ghost use Rattle.signer_command.specs.WrongWords.{IsFirstWrong, IsGood, IsPlain,
 
 use printed_lines::number_in;
 use program_parts::{SourceWord, number};
+use signer_calls::id_in;
 
 /// What an option takes.
 #[derive(Clone, Copy)]
@@ -19,6 +20,8 @@ pub(crate) enum Takes {
     View,
     /// A number below 65,536.
     Count,
+    /// An id.
+    Chain,
     /// A source.
     Source,
 }
@@ -118,6 +121,8 @@ fn takes_of(word: &str) -> Option<Takes>
         Some(Takes::View)
     } else if word == "--keep" {
         Some(Takes::Count)
+    } else if word == "--compared" {
+        Some(Takes::Chain)
     } else if word == "--read" || word == "--serve" || word == "--successor" || word == "--host" {
         Some(Takes::Name)
     } else {
@@ -154,6 +159,7 @@ fn is_value(takes: Takes, word: &str) -> bool
         },
         Takes::View => number_in(word.as_bytes()).is_some(),
         Takes::Count => number(word).is_some(),
+        Takes::Chain => id_in(word.as_bytes()).is_some(),
         Takes::Source => SourceWord::of(word).is_some(),
     }
 }

@@ -10,6 +10,8 @@ use Rattle.http.specs.declared.request.Request.{Request}
 use Rattle.http_server.specs.declared.response.Response.{Response}
 use Rattle.http_server.specs.Exchange.{Call as Exchanged}
 use Rattle.http_server.specs.Response.{IsResponse, fields_of}
+use Rattle.light_proofs.specs.LightProofs.{LightProof}
+use Rattle.light_proofs.specs.Proving.{handover_block}
 use Rattle.stable_log.specs.declared.disk.Disk.{Ghosts}
 use Rattle.vote_log.specs.declared.export_error.ExportError.{ExportError}
 use Rattle.vote_log.specs.declared.export_error.ExportError.TheVariants as export
@@ -48,6 +50,7 @@ use Rattle.signing_service.specs.Commits.{IsCommitOf}
 use Rattle.signing_service.specs.Healths.{IsHealthTold}
 use Rattle.signing_service.specs.Judging.{IsCertificateTold, IsJudgementTold}
 use Rattle.signing_service.specs.Metrics.{IsMetricsTold}
+use Rattle.signing_service.specs.Proving.{HasOtherKeys, IsProofOf, IsUnproved, IsUnprovedTold}
 use Rattle.signing_service.specs.Refusals.{IsRefusalTold}
 use Rattle.signing_service.specs.Responses.{IsLine, IsPassing, fields_of_kind}
 use Rattle.signing_service.specs.Renewing.{IsNextFaultTold, IsRenewingTold, IsShown}
@@ -71,6 +74,7 @@ use Rattle.signing_service.specs.declared.going.Going.{Going}
 use Rattle.signing_service.specs.declared.halt.Halt.{Halt}
 use Rattle.signing_service.specs.declared.halt.Halt.TheVariants as halt
 use Rattle.signing_service.specs.declared.metrics.Measured.{Measured}
+use Rattle.signing_service.specs.declared.proving.Unproved.{Unproved}
 use Rattle.signing_service.specs.declared.renewing.NotRenewing.{NotRenewing}
 use Rattle.signing_service.specs.declared.renewing.Renewing.{Renewing}
 use Rattle.signing_service.specs.declared.writing.Kind.TheVariants.{Octets}
@@ -193,6 +197,7 @@ abbrev pub IsCrossingTold : Crossing → Response → Type 0
 IsCrossingTold (crossing.Gone chain) response = IsLine 200 (gone_line chain) response
 IsCrossingTold crossing.NoCommit response = IsLine 412 no_commit_line response
 IsCrossingTold (crossing.OtherFile payload) response = IsLine 422 (other_file_line payload) response
+IsCrossingTold (crossing.Unproved unproved) response = IsUnprovedTold unproved response
 IsCrossingTold (crossing.Refused fault) response = IsOverFaultTold fault response
 IsCrossingTold (crossing.Desk refusal) response = IsDeskTold refusal response
 IsCrossingTold (crossing.Halted halted) response = IsHaltTold halted response
@@ -347,11 +352,41 @@ module _ {D : Type 0} (disk : Ghosts D) (committee : List ℕ) (replica : ℕ) (
   abbrev pub IsNoneHandedOver : Option Ballot → Type 0
   IsNoneHandedOver commit = IfSome commit (λ it. IsCommitOf committee it × SomeOne (λ d. HasNoMarkedIn d.core handover_mark it.id))
 
-  -- the call is of this chain, blocks are taken, and it was handed over by this block
+  -- a light proof of these bytes shows that this block hands over from the committee, and is committed
+  pub record IsProvedOver (text : List ℕ) (handover : Header) : Type 0 where
+    pub proof : LightProof
+    pub shows : IsProofOf committee text proof
+    pub block : handover ≡ handover_block proof
+
+  -- by what it is known that the block handed over: by the light proof of the call, or else by what was told
+  abbrev pub IsKnownBy : Option (List ℕ) → Header → Type 0
+  IsKnownBy (Some text) handover = IsProvedOver text handover
+  IsKnownBy None handover = IsHandedOver handover
+
+  -- the light proof of the call shows none
+  abbrev pub IsUnprovedBy : Option (List ℕ) → Unproved → Type 0
+  IsUnprovedBy (Some text) unproved = IsUnproved committee text unproved
+  IsUnprovedBy None unproved = ⊥
+
+  -- by the light proof of a call one may go over before others were heard, to a committee in which the replica has other keys
+  pub record MayPass (over : Over) : Type 0 where
+    pub proved : over.proof ≢ None
+    pub other : HasOtherKeys committee over.file replica
+
+  -- blocks are taken; or others are still asked, and it may go over all the same
+  abbrev pub IsFree : Bool → Option Showing → Over → Type 0
+  IsFree asks shown over = IsHalted asks shown None ⊎ (IsHalted asks shown (Some halt.Asking) × MayPass over)
+
+  -- .. or it may not
+  pub record IsHeldBack (asks : Bool) (shown : Option Showing) (over : Over) (halted : Halt) : Type 0 where
+    pub halts : IsHalted asks shown (Some halted)
+    pub stays : halted ≡ halt.Asking → MayPass over → ⊥
+
+  -- the call is of this chain, nothing holds it back, and it was handed over by this block
   pub record IsAtHandover (asks : Bool) (shown : Option Showing) (over : Over) (handover : Header) : Type 0 where
     pub here : over.chain ≡ chain_id_of committee
-    pub taken : IsHalted asks shown None
-    pub handed : IsHandedOver handover
+    pub free : IsFree asks shown over
+    pub handed : IsKnownBy over.proof handover
 
   -- .. to the committee of the file
   pub record IsOfFile (asks : Bool) (shown : Option Showing) (over : Over) (handover : Header) : Type 0 where
@@ -370,7 +405,9 @@ module _ {D : Type 0} (disk : Ghosts D) (committee : List ℕ) (replica : ℕ) (
       (chain ≡ chain_id_of over.file)
       × (over.chain ≡ chain_id_of committee → (handover : Header) × IsGoneOver asks tells shown over handover)
   IsCrossingOf asks tells shown over crossing.NoCommit =
-      (over.chain ≡ chain_id_of committee) × IsHalted asks shown None × ((commit : Option Ballot) × IsNoneHandedOver commit)
+      (over.chain ≡ chain_id_of committee) × IsFree asks shown over × (over.proof ≡ None) × ((commit : Option Ballot) × IsNoneHandedOver commit)
+  IsCrossingOf asks tells shown over (crossing.Unproved unproved) =
+      (over.chain ≡ chain_id_of committee) × IsFree asks shown over × IsUnprovedBy over.proof unproved
   IsCrossingOf asks tells shown over (crossing.OtherFile payload) =
       (payload ≢ handover_payload over.file)
       × (over.chain ≡ chain_id_of committee → (handover : Header) × IsAtHandover asks shown over handover × (payload ≡ handover.payload))
@@ -378,7 +415,7 @@ module _ {D : Type 0} (disk : Ghosts D) (committee : List ℕ) (replica : ℕ) (
       over.chain ≡ chain_id_of committee → (handover : Header) × IsOfFile asks shown over handover
   IsCrossingOf asks tells shown over (crossing.Desk refusal) =
       (refusal ≡ desk.Stopped) × ((handover : Header) × IsOfFile asks shown over handover)
-  IsCrossingOf asks tells shown over (crossing.Halted halted) = (over.chain ≡ chain_id_of committee) × IsHalted asks shown (Some halted)
+  IsCrossingOf asks tells shown over (crossing.Halted halted) = (over.chain ≡ chain_id_of committee) × IsHeldBack asks shown over halted
   IsCrossingOf asks tells shown over crossing.Elsewhere = over.chain ≢ chain_id_of committee
 
   abbrev pub IsOverTold : Bool → Telling → Option Showing → Over → Response → Type 0

@@ -1,4 +1,5 @@
 pub mod Names
+pub mod Proving
 pub mod Responses
 pub mod Refusals
 pub mod ToldLines

@@ -7,6 +7,7 @@ ghost use Rattle.signing_service.specs.Responses.{IsLine, IsReady, fields_of_kin
 ghost use Rattle.signing_service.specs.declared.writing.Kind.TheVariants.{Text};
 
 use crate::halt::{Halt, tell_halt};
+use crate::proving::{Unproved, tell_unproved};
 use crate::refusing::tell_refused;
 use crate::telling::tell_desk;
 use crate::writing::{put, settle};
@@ -30,6 +31,8 @@ pub(crate) enum Crossing {
     NoCommit,
     /// The handover block has this payload, which is another file's.
     OtherFile([u8; 32]),
+    /// The light proof of the call does not show that it is handed over.
+    Unproved(Unproved),
     /// It does not go over.
     Refused(OverFault),
     /// The desk is stopped.
@@ -46,6 +49,7 @@ pub(crate) fn tell_crossing(response: &mut Response, crossing: &Crossing)
     ensures { IsCrossingTold crossing.now response.new }
 {
     match crossing {
+        Crossing::Unproved(unproved) => tell_unproved(response, *unproved),
         Crossing::Refused(fault) => tell_fault(response, *fault),
         Crossing::Desk(refusal) => tell_desk(response, *refusal),
         Crossing::Halted(halt) => tell_halt(response, *halt),

@@ -14,6 +14,7 @@ mod judging;
 mod laws;
 mod metrics;
 mod names;
+mod proving;
 mod put_back;
 mod reception;
 mod refusing;

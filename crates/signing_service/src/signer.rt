@@ -1,11 +1,12 @@
 //! One caller's side of a desk, as a service.
 
-ghost use Rattle.std.specs.Prelude.{◌≡◌, ◌≢◌, ◌<◌, ◌≤◌, ◌+◌, [], IfOk, IfSome, IsFalse, IsSome, IsTrue, MatchOption, None, OnErr, OnOk, Option, codes};
+ghost use Rattle.std.specs.Prelude.{◌≡◌, ◌≢◌, ◌↔◌, ◌<◌, ◌≤◌, ◌+◌, [], IfOk, IfSome, IsFalse, IsSome, IsTrue, MatchOption, None, OnErr, OnOk, Option, Some, codes};
 ghost use Rattle.blocks.specs.Genesis.{chain_id_of};
 ghost use Rattle.blocks.specs.declared.ballot.Ballot.{Ballot as BallotValue};
 ghost use Rattle.http_server.specs.Response.{IsBlank};
+ghost use Rattle.light_proofs.specs.Proving.{ProvesHandover};
 ghost use Rattle.signer_answers.specs.Guards.{WasPutBack};
-ghost use Rattle.signing_service.specs.CallAnswers.{AnyTold, AreBlocksServed, AreMoreServed, IsAllServed, IsBlockServed, IsCallServed, IsCrossingOf, IsDeskHealthTold, IsDeskMetricsTold, IsDeskStatusTold, IsEndorsementTold, IsEndorsingOf, IsFar, IsGoneTo, IsHalted, IsHandedOver, IsHeaderTold, IsMeasured, IsNear, IsNoneHandedOver, IsOfFile, IsOutcomeOf, IsOverTold, IsPartTold, IsRenewalTold, IsServed, IsShut, IsStopTo, IsVoteJudged, IsVoteTold, SomeOne, committed_by, from_export, parent_view_of, receipts_told};
+ghost use Rattle.signing_service.specs.CallAnswers.{AnyTold, AreBlocksServed, AreMoreServed, IsAllServed, IsAtHandover, IsBlockServed, IsCallServed, IsCrossingOf, IsDeskHealthTold, IsDeskMetricsTold, IsDeskStatusTold, IsEndorsementTold, IsEndorsingOf, IsFar, IsFree, IsGoneTo, IsHalted, IsHandedOver, IsHeaderTold, IsHeldBack, IsMeasured, IsNear, IsNoneHandedOver, IsOutcomeOf, IsOverTold, IsPartTold, IsRenewalTold, IsServed, IsShut, IsStopTo, IsVoteJudged, IsVoteTold, MayPass, SomeOne, committed_by, from_export, parent_view_of, receipts_told};
 ghost use Rattle.signer_answers.specs.Sparings.{reserve_of};
 ghost use Rattle.signing_service.specs.Judging.{IsCertificateTold};
 ghost use Rattle.signing_service.specs.Refusals.{IsRefusalTold, refusal_fields};
@@ -22,6 +23,7 @@ use crate::health::tell_health;
 use crate::joining::{put_behind, tell_unheld};
 use crate::judging::{tell_certificate, tell_judgement};
 use crate::metrics::{METRICS_ROOM, Measured, tell_metrics};
+use crate::proving::{has_other_keys, proof_in};
 use crate::reception::Reception;
 use crate::refusing::{refuse, tell_refused};
 use crate::renewing::{NotRenewing, Renewing as Renewed, judge_renewal, tell_renewing};
@@ -36,6 +38,7 @@ use good_votes::{Checker, Known};
 use handover::{HANDOVER_MARK, handover_payload};
 use http::{Request, StatusCode};
 use http_server::{Response, Rope, Service};
+use light_proofs::LightProof;
 use next_keys::{NextKeysView, write_endorsement};
 use replica_answers::{Outcome, Request as Asked, block_in};
 use signer_answers::{
@@ -495,31 +498,90 @@ impl<
         if over.chain != self.office.committee.chain() {
             return self.crossed_before(over);
         }
-        if let Some(halt) = self.halt() {
+        if let Some(halt) = self.halt_of_over(over) {
             return Crossing::Halted(halt);
         }
+        match &over.proof {
+            Some(text) => self.cross_by_proof(over, text.as_slice()),
+            None => self.cross_by_commit(over),
+        }
+    }
+
+    // Why it does not go over before others were heard, or at all, if it does not.
+    fn halt_of_over(&self, over: &Over) -> Option<Halt>
+        ensures { MatchOption result
+            (IsFree D.Disk N.committee N.replica N.opening self.now.reception.now.gate.now.asks
+            self.now.caller.shown over.now)
+            (IsHeldBack D.Disk N.committee N.replica N.opening self.now.reception.now.gate.now.asks
+            self.now.caller.shown over.now) }
+    {
+        match self.halt() {
+            Some(Halt::Asking) if self.may_pass(over) => None,
+            halted => halted,
+        }
+    }
+
+    // Whether it may go over before others were heard: by a light proof, to a committee in which the replica has other keys.
+    fn may_pass(&self, over: &Over) -> bool
+        ensures { IsTrue result ↔ MayPass D.Disk N.committee N.replica N.opening over.now }
+    {
+        let office = self.office;
+        over.proof.is_some()
+            && has_other_keys(office.committee, over.file.as_slice(), office.replica)
+    }
+
+    // Goes over by the blocks that it was handed.
+    fn cross_by_commit(&self, over: &Over) -> Crossing
+        requires here { over.now.chain ≡ chain_id_of N.committee }
+        requires free { IsFree D.Disk N.committee N.replica N.opening
+            self.now.reception.now.gate.now.asks self.now.caller.shown over.now }
+        requires unproved { over.now.proof ≡ None }
+        ensures { IsCrossingOf D.Disk N.committee N.replica N.opening self.now.reception.now.gate.now.asks
+            (K.tells self.now.office.now.keeper.now) self.now.caller.shown over.now result }
+    {
         let Some(handover) = self.handover() else {
             return Crossing::NoCommit;
         };
-        if handover.payload != handover_payload(over.file.as_slice()) {
-            return Crossing::OtherFile(handover.payload);
-        }
-        self.go_over(&handover, over)
+        self.go_over(&handover, over, None)
     }
 
-    // Goes over by this handover block, which names the file. Who gave up on all views votes no more, whatever comes of the word.
-    fn go_over(&self, handover: &Header, over: &Over) -> Crossing
-        requires { IsOfFile D.Disk N.committee N.replica N.opening
+    // .. by its light proof, which has these bytes.
+    fn cross_by_proof(&self, over: &Over, text: &[u8]) -> Crossing
+        requires here { over.now.chain ≡ chain_id_of N.committee }
+        requires free { IsFree D.Disk N.committee N.replica N.opening
+            self.now.reception.now.gate.now.asks self.now.caller.shown over.now }
+        requires text { over.now.proof ≡ Some text.now }
+        ensures { IsCrossingOf D.Disk N.committee N.replica N.opening self.now.reception.now.gate.now.asks
+            (K.tells self.now.office.now.keeper.now) self.now.caller.shown over.now result }
+    {
+        let proof = match proof_in(self.alloc, self.office.committee, text) {
+            Ok(proof) => proof,
+            Err(unproved) => return Crossing::Unproved(unproved),
+        };
+        self.go_over(proof.block(), over, Some(&proof))
+    }
+
+    // Goes over by this handover block, if it names the file. Who gave up on all views votes no more, whatever comes of the word.
+    fn go_over(&self, handover: &Header, over: &Over, proof: Option<&LightProof>) -> Crossing
+        requires at { IsAtHandover D.Disk N.committee N.replica N.opening
             self.now.reception.now.gate.now.asks self.now.caller.shown over.now handover.now }
+        requires proof { IfSome proof (λ it. ProvesHandover N.committee it.now) }
         ensures { IsCrossingOf D.Disk N.committee N.replica N.opening self.now.reception.now.gate.now.asks
             (K.tells self.now.office.now.keeper.now) self.now.caller.shown over.now result }
     {
         let file = over.file.as_slice();
-        let renewal = over.renewal.as_slice();
-        let chain = match self.office.keeper.prepare(renewal, file) {
+        if handover.payload != handover_payload(file) {
+            return Crossing::OtherFile(handover.payload);
+        }
+        let chain = match self.office.keeper.prepare(over.renewal.as_slice(), file) {
             Ok(chain) => chain,
             Err(fault) => return Crossing::Refused(fault),
         };
+        if let Some(proof) = proof
+            && let Err(fault) = self.office.keeper.keep_proof(self.office.committee, proof)
+        {
+            return Crossing::Refused(fault);
+        }
         if let Err(refusal) = self.office.desk.timeout(self.rt, MOST_VIEW) {
             return Crossing::Desk(refusal);
         }
