@@ -182,11 +182,7 @@ impl<T: Threads + Wait + Files<File = File>, S: Sink> Approver for Home<'_, T, S
         Ok(chain)
     }
 
-    fn keep_proof(
-        &self,
-        committee: &CommitteeView,
-        proof: &LightProof,
-    ) -> Result<(), OverFault> {
+    fn keep_proof(&self, committee: &CommitteeView, proof: &LightProof) -> Result<(), OverFault> {
         match self.lineage().keep_proof(committee, proof) {
             Ok(()) => Ok(()),
             Err(fault) => Err(fault_of_words(fault)),
