@@ -9,6 +9,7 @@ import os
 import queue
 import socket
 import ssl
+import sys
 import threading
 import time
 
@@ -19,6 +20,7 @@ LONGEST_CONNECT = 3  # seconds, to another replica
 LONGEST_GREETING = 10  # seconds, until a TLS connection that somebody made has shown who that is
 UNACKNOWLEDGED = 4_000  # milliseconds
 TICK = 0.1  # seconds, after an accept that failed
+MINUTE = 60  # seconds, from one line about refused links to the next
 
 
 def socket_of(folder, number):
@@ -96,13 +98,34 @@ def line_of(message):
     return json.dumps(message).encode() + b"\n"
 
 
+def why_refused(error):
+    """What is wrong with the other end of a link, or None if that has just gone."""
+    if isinstance(error, ssl.SSLError) and not isinstance(error, ssl.SSLEOFError):
+        return getattr(error, "verify_message", None) or error.reason
+    return "it sent what is no message" if isinstance(error, (ValueError, KeyError, TypeError)) else None
+
+
+class Refusals:
+    """Prints why a link was refused: the first time at once, and then once a minute, with how many there were since."""
+
+    def __init__(self, number):
+        self.number, self.count, self.next, self.lock = number, 0, 0, threading.Lock()
+
+    def note(self, other, why):
+        with self.lock:
+            self.count += 1
+            if time.monotonic() >= self.next:
+                print(f"replica {self.number}: links refused: {self.count}, the last one with {other}: {why}", file=sys.stderr, flush=True)
+                self.count, self.next = 0, time.monotonic() + MINUTE
+
+
 class Links:
     """Messages that come are put into one queue, so that one thread can do all that they ask for."""
 
     def __init__(self, folder, number, count):
         self.folder, self.number, self.count = folder, number, count
         self.tls = tls_of(folder, ssl.PROTOCOL_TLS_SERVER) if hosts_of(folder) else None
-        self.inbox = queue.Queue(MOST_WAITING)
+        self.inbox, self.refusals = queue.Queue(MOST_WAITING), Refusals(number)
         self.outboxes = {}
         for other in range(count):
             if other != number:
@@ -117,7 +140,8 @@ class Links:
     def accept_all(self):
         while True:
             try:
-                self.start(self.read_all, self.listener.accept()[0])
+                link, place = self.listener.accept()
+                self.start(self.read_all, link, place[0] if place else "a process of this host")
             except (OSError, RuntimeError):  # too many files are open, or threads run: it goes on once there are fewer
                 time.sleep(TICK)
 
@@ -130,7 +154,7 @@ class Links:
             keep_alive(link)
         return link
 
-    def read_all(self, link):
+    def read_all(self, link, place):
         """Hands on what comes over a connection, each message with its sender and a way to answer. This thread sends the answer to a
         client: a TLS connection is not for two threads, and the thread that does everything is to wait for no client."""
         try:
@@ -138,14 +162,15 @@ class Links:
             with link, link.makefile("rb") as lines:
                 sender = json.loads(next(lines))["from"]
                 if sender not in range(CLIENT, self.count) or (self.tls and sender != sender_of(link)):
-                    return
+                    return self.refusals.note(place, f"it says that it is {sender!r:.40}, and is not")
                 for line in lines:
                     answers = queue.SimpleQueue()
                     self.inbox.put((sender, json.loads(line), answers.put))
                     if sender == CLIENT:
                         link.sendall(line_of(answers.get(timeout=LONGEST_ANSWER)))
-        except (OSError, ValueError, KeyError, TypeError, StopIteration, queue.Empty):
-            pass  # a link that says what is no message is closed
+        except (OSError, ValueError, KeyError, TypeError, StopIteration, queue.Empty) as error:
+            if why := why_refused(error):
+                self.refusals.note(place, why)
         finally:
             link.close()
 
@@ -161,7 +186,9 @@ class Links:
                         link.sendall(line_of({"from": self.number}))
                     link.sendall(line)
                     break
-                except OSError:
+                except OSError as error:
+                    if why := why_refused(error):
+                        self.refusals.note(f"replica {other}", why)
                     if link:
                         link.close()
                     link = None

@@ -1,4 +1,5 @@
 """What is looked at after a run: the clients' operations, the stores, and the votes."""
+import contextlib
 import hashlib
 import json
 import math
@@ -61,12 +62,18 @@ def why_not_linearizable(operations):
 
 def committed_of(path, genesis):
     """The blocks that a replica's database commits, in their order, as the ledger wrote them."""
-    base = sqlite3.connect(f"file:{path}?mode=ro", uri=True)
-    try:
+    with contextlib.closing(sqlite3.connect(f"file:{path}?mode=ro", uri=True)) as base:
         rows = base.execute("SELECT said FROM blocks WHERE chain = ? AND number NOT NULL ORDER BY number", (genesis,))
         return [json.loads(said) for (said,) in rows]
-    finally:
-        base.close()
+
+
+def count_committed(path):
+    """How many blocks a replica's database commits, in whichever chains; 0 before there is one."""
+    try:
+        with contextlib.closing(sqlite3.connect(f"file:{path}?mode=ro", uri=True)) as base:
+            return base.execute("SELECT count(*) FROM blocks WHERE number > 0").fetchone()[0]
+    except sqlite3.Error:
+        return 0
 
 
 def commands_of(blocks):

@@ -16,6 +16,7 @@ sys.dont_write_bytecode = True
 sys.path.insert(0, os.path.join(os.path.dirname(os.path.abspath(__file__)), "../../examples/ledger"))
 
 import client
+import plain  # for figures without TLS
 from blocks import Committee
 
 KEYS, PATIENCE, LAST_GRACE = 3, 3, 8

@@ -10,6 +10,7 @@ import subprocess
 import sys
 import threading
 import time
+from concurrent.futures import ThreadPoolExecutor
 
 HERE = os.path.dirname(os.path.abspath(__file__))
 EXAMPLES = os.path.normpath(f"{HERE}/../../examples")
@@ -22,6 +23,9 @@ from blocks import Committee
 NAME, NETWORK = "field", "10.77.0"
 FIRST, WATCH, CLIENT = 10, 100, 101  # the last numbers of addresses: of replica 0, of the watch, of the clients
 LINKS, INSIDE, READ = 7100, 7201, 7300  # ports: of the ledger, of a signer's log, and of the logs of the others
+PAGE = "127.0.0.1:7190"  # of the watch, on its host
+RENEW = f"{HERE}/../lineage/renew"
+FOLLOWS = "follows the rules"  # what it is told of a replica that does
 DISK = "64m"  # of a signer
 FAKETIME = "/usr/lib/x86_64-linux-gnu/faketime/libfaketime.so.1"
 PR_SET_PDEATHSIG, CLONE_NEWNET = 1, 0x40000000
@@ -140,24 +144,29 @@ class Host:
     def start_signer(self):
         words = [f"{self.home}/committee.hsc", str(self.number), self.signer_folder, "--sessions", "4", "--while-input"]
         words += ["--serve", f"127.0.0.1:{INSIDE}"]
+        if self.field.renews:
+            words.append("--renew")
         if self.is_asking:
             words += [word for source in self.field.sources(self) for word in ("--ask", source)]
         return self.start_program("signer", cluster.program("hs_signer"), *words)
 
     def start_ledger(self):
-        words = ["replica", str(self.number), "--folder", self.home, "--while-input"]
-        words += ["--slow", str(self.field.slow), "--patience", str(self.field.patience)]
+        times = ["--slow", str(self.field.slow), "--patience", str(self.field.patience)]
+        words = [f"{HERE}/traced", "replica", str(self.number), "--folder", self.home, "--while-input", *times]
+        if self.field.renews:
+            words = [RENEW, self.home, str(self.number), FOLLOWS, *times, "--renew"]
         env = {"TRACE": f"{self.home}/trace"}
         if os.path.exists(FAKETIME):
             env |= {"LD_PRELOAD": FAKETIME, "FAKETIME_TIMESTAMP_FILE": f"{self.home}/clock"}
             env |= {"FAKETIME_CACHE_DURATION": "1", "FAKETIME_DONT_FAKE_MONOTONIC": "1"}
-        return self.start_program("ledger", sys.executable, f"{HERE}/traced", *words, env=env)
+        return self.start_program("ledger", sys.executable, *words, env=env)
 
     def start_watch(self):
         folders = [f"{self.home}/{name}" for name in ("verdicts", "state")]
         for folder in folders:
             os.makedirs(folder, exist_ok=True)
-        words = [f"{self.home}/committee.hsc", folders[0], *self.field.sources(), "--state", folders[1], "--every", "1"]
+        words = [f"{self.home}/committee.hsc", folders[0], *self.field.sources(), "--state", folders[1], "--every", "1", "--listen", PAGE]
+        words += ["--lineage"] if self.field.renews else []
         return self.start_program("watch", cluster.program("hs_watch"), *words)
 
     def kill(self, *parts):
@@ -205,6 +214,9 @@ class Host:
         if self.number is not None:
             self.set_clock(0)
             os.makedirs(f"{self.home}/ledger-{self.number}")
+            if self.field.renews:
+                with open(f"{self.home}/early", "w") as file:
+                    file.write(str(self.field.keys))
             os.mkdir(self.signer_folder, 0o700)
             run("mount", "-t", "tmpfs", "-o", f"size={DISK},mode=700", NAME, self.signer_folder)
             shutil.copytree(f"{room}/keys/signer-{self.number}", self.signer_folder, dirs_exist_ok=True)
@@ -214,6 +226,18 @@ class Host:
         words = ["ip", "netns", "exec", self.namespace, *words]
         return subprocess.run(words, capture_output=True, text=True, timeout=300)
 
+    def visit(self, work):
+        """Does the work in a thread that goes to this host, and answers its result."""
+
+        def go_and_work():
+            with open(f"/run/netns/{self.namespace}") as file:
+                if libc.setns(file.fileno(), CLONE_NEWNET):
+                    raise OSError(f"setns {self.namespace}")
+            return work()
+
+        with ThreadPoolExecutor(1) as pool:
+            return pool.submit(go_and_work).result()
+
     def take_down(self):
         self.kill(*list(self.processes))
         subprocess.run(["ip", "netns", "del", self.namespace], stderr=subprocess.DEVNULL)
@@ -222,10 +246,11 @@ class Host:
 
 
 class Field:
-    """All hosts, and the wire between them. `slow` and `patience` are the ledger's, in milliseconds."""
+    """All hosts, and the wire between them. `slow` and `patience` are the ledger's, in milliseconds. With `renews` it goes over from committee
+    to committee, each of which uses few of its keys."""
 
-    def __init__(self, room, seed, count=4, keys=1, slow=100, patience=1000):
-        self.room, self.seed, self.slow, self.patience = room, seed, slow, patience
+    def __init__(self, room, seed, count=4, keys=1, slow=100, patience=1000, renews=False):
+        self.room, self.seed, self.keys, self.slow, self.patience, self.renews = room, seed, keys, slow, patience, renews
         os.makedirs(room)
         self.replicas = []
         self.replicas += [Host(self, f"host-{number}", FIRST + number, number) for number in range(count)]
@@ -282,7 +307,7 @@ class Field:
         return self.to_wire(cut=[[host.last for host in way] for way in ways])
 
     def shape(self, **shape):
-        return self.to_wire(shape=shape)
+        return self.to_wire(shape={word: value for word, value in shape.items() if value})
 
     def between(self, *sides):
         """All ways from one of these sides to another one."""
@@ -306,18 +331,8 @@ class Field:
         self.client.processes["clients"] = self.client.start_program("clients", f"{HERE}/clients.py", *words)
 
     def ask(self, number, message, patience=5):
-        """The answer of a ledger process to the clients' host; nothing where there is none. A thread goes there for it, and ends."""
-        answers = []
-
-        def go_and_ask():
-            with open(f"/run/netns/{self.client.namespace}") as file:
-                if libc.setns(file.fileno(), CLONE_NEWNET) == 0:
-                    answers.append(client.ask(self.client.home, number, message, patience))
-
-        thread = threading.Thread(target=go_and_ask)
-        thread.start()
-        thread.join()
-        return (answers and answers[0]) or {}
+        """The answer of a ledger process to the clients' host; nothing if there is none."""
+        return self.client.visit(lambda: client.ask(self.client.home, number, message, patience)) or {}
 
     def statuses(self):
         return side_by_side(lambda host: self.ask(host.number, {"say": "status"}), self.replicas)

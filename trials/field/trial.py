@@ -7,12 +7,14 @@ import tempfile
 import time
 
 import checker
+import nemesis
 from hosts import Failed, Field, cluster
 
 PROGRAMS = ["hs_signer", "hs_tool", "hs_watch", "hs_check"]
 NEEDED = ["ip", "stunnel", "openssl", "mount"]
 HEALED = 60  # seconds: so soon after the end of all faults the stores are equal and commits go on
-STATES = ("committed", "store")
+# What a watch says while nobody breaks a rule. "unnamed" may come of a tunnel whose signer is down: that closes without a byte, too.
+INNOCENT = ("commit", "commits", "source", "unnamed", "stands", "handover", "goes-over", "stays", "no-log")
 
 
 def missing():
@@ -61,18 +63,47 @@ class Trial:
                 shutil.rmtree(self.room)
             self.tell(f"{len(self.wrong)} wrong" + (f": {self.room}" if self.wrong else ""))
 
+    def counts(self):
+        """How many blocks each replica has committed."""
+        return [checker.count_committed(f"{host.home}/ledger-{host.number}/ledger.db") for host in self.field.replicas]
+
     def await_equal(self, patience):
         """Until all have committed more than any had when this began, and all stores are equal. Answers how long that took, or None."""
         began = time.monotonic()
-        wanted = max(answer.get("committed", 0) for answer in self.field.statuses()) + 3
+        wanted = max(self.counts()) + 3
         while time.monotonic() < began + patience:
-            answers = self.field.statuses()
-            if all(answer.get("committed", 0) >= wanted for answer in answers) and len({answer["store"] for answer in answers}) == 1:
+            stores = [answer.get("store") for answer in self.field.statuses()]
+            counts = self.counts()
+            if min(counts) >= wanted and stores[0] and len(set(stores)) == 1:
                 return time.monotonic() - began
             time.sleep(0.5)
-        states = [{word: answer.get(word) for word in STATES} for answer in answers]
-        self.note(f"after {patience} s not equal, or not at {wanted} commits: {states}")
+        self.note(f"after {patience} s not equal, or not at {wanted} commits: {counts}, {stores}")
         return None
+
+    def go(self, faults, seconds, clients=8, pause=0.3):
+        """All hosts from their start, with clients, under these faults, until what was broken is healed. Answers what the clients did."""
+        field = self.field
+        field.start()
+        field.watch.start("stunnel", "watch")
+        self.await_equal(HEALED)
+        self.tell(f"seed {field.seed}: {len(field.replicas)} replicas, {seconds} s")
+        field.start_clients(seconds, HEALED, clients, pause)
+        spans = self.carry_out(nemesis.Nemesis(field).steps(faults), seconds)
+        self.heal()
+        took = self.await_equal(HEALED)
+        operations = self.operations()
+        self.tell(f"{len(faults)} faults, {len(operations)} operations; equal {took and round(took, 1)} s after the end")
+        self.tell_recoveries(spans)
+        self.figures(operations, seconds)
+        if still_open := [each for each in operations if each["ended"] is None]:
+            self.note(f"{len(still_open)} operations never ended, the first {still_open[0]}")
+        return operations
+
+    def operations(self, seconds=0):
+        """What the clients did, once they have ended, which they do in so many seconds."""
+        clients = self.field.client
+        clients.processes["clients"].process.wait(seconds + HEALED + 20)
+        return checker.operations(f"{clients.home}/operations")
 
     def carry_out(self, steps, seconds):
         """The steps of faults, at their times. Answers each fault, with when it began and ended."""
@@ -104,17 +135,22 @@ class Trial:
     # What is looked at
 
     def commits(self, host):
-        """When its ledger told which commit, over all of its starts."""
+        """When its ledger told the commit of which block, over all of its starts."""
         with open(f"{host.home}/ledger.out") as file:
             rows = [line.split() for line in file]
-        return [(float(row[0]), int(row[2])) for row in rows if row[1:2] == ["commit"] and len(row) > 3]
+        return [(float(row[0]), row[5]) for row in rows if row[1:2] == ["commit"] and len(row) > 5]
 
     def check(self, operations):
         """Operations, stores, and votes. What was answered is read before the logs are, since the replicas go on."""
         field = self.field
         told = {host.number: checker.votes_told(f"{host.home}/trace") for host in field.replicas}
         chains = [checker.committed_of(f"{host.home}/ledger-{host.number}/ledger.db", field.committee.genesis) for host in field.replicas]
-        lines = [checker.commands_of(blocks) for blocks in chains]
+        self.check_commands(operations, [checker.commands_of(blocks) for blocks in chains])
+        self.check_logs(told, chains)
+        self.check_watch()
+
+    def check_commands(self, operations, lines):
+        """What the clients were answered, beside the commands that each replica committed."""
         commands = max(lines, key=len)
         for line in lines:
             if line != commands[: len(line)]:
@@ -122,8 +158,6 @@ class Trial:
         for wrong in checker.wrong_sets(operations, commands):
             self.note(wrong)
         self.check_reads(operations, commands)
-        self.check_logs(told, chains)
-        self.check_watch()
 
     def check_reads(self, operations, commands):
         strong, weak = ([each for each in operations if each["kind"] == kind] for kind in ("strong", "weak"))
@@ -155,12 +189,15 @@ class Trial:
                 self.note(f"{len(lost)} votes of replica {host.number} are not in its log")
         self.tell(f"{logs} votes in logs; {sum(map(len, told.values()))} answered, {sum(map(len, named.values()))} in certificates of the chain: all there")
 
+    def watched(self):
+        """What the watch told, without the time, the round and the committee."""
+        lines = [line.split(" ", 3)[3] for _, line in self.field.watch.processes["watch"].lines if line.count(" ") > 2]
+        return [line.split(" ", 2)[2] if line.startswith("committee ") else line for line in lines]
+
     def check_watch(self):
         watch = self.field.watch
-        lines = [line.split(" ", 3)[3] for _, line in watch.processes["watch"].lines if line.count(" ") > 2]
-        for line in lines:
-            # "unnamed" may come of a tunnel whose signer is down: that closes without a byte, too.
-            if line.split()[0] not in ("commit", "source", "unnamed"):
+        for line in self.watched():
+            if line.split()[0] not in INNOCENT:
                 self.note(f"the watch: {line}")
         if verdicts := [name for name in os.listdir(f"{watch.home}/verdicts") if name.endswith(".hsx")]:
             self.note(f"the watch has {verdicts}")
@@ -169,8 +206,8 @@ class Trial:
         """Of each fault: how long it took, the commits meanwhile, and how long after it the next commit came anywhere."""
         firsts = {}
         for host in self.field.replicas:
-            for at, number in self.commits(host):
-                firsts[number] = min(at, firsts.get(number, at))
+            for at, block in self.commits(host):
+                firsts[block] = min(at, firsts.get(block, at))
         times = sorted(firsts.values())
         for fault, began, end in spans:
             commits = sum(began <= at < end for at in times)
@@ -179,7 +216,7 @@ class Trial:
 
     def figures(self, operations, seconds):
         done = [each for each in operations if each["ended"] is not None]
-        blocks = max((number for host in self.field.replicas for _, number in self.commits(host)), default=0)
+        blocks = len({block for host in self.field.replicas for _, block in self.commits(host)})
         for what in ("set", "get"):
             took = [each["ended"] - each["began"] for each in done if each["what"] == what]
             self.tell(f"{len(took)} {what}s: half within {part(took, 0.5)} s, 95 of 100 within {part(took, 0.95)}, all within {part(took, 1)}")
