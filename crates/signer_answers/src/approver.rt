@@ -109,11 +109,7 @@ pub trait Approver {
 
     /// Keeps the light proof by which alone it goes over from this committee, before it says so. What follows may be a second lineage: what
     /// the signer may need to stay in the first one stays until the newest chain's id was compared.
-    fn keep_proof(
-        &self,
-        committee: &CommitteeView,
-        proof: &LightProof,
-    ) -> Result<(), OverFault>
+    fn keep_proof(&self, committee: &CommitteeView, proof: &LightProof) -> Result<(), OverFault>
         requires { ProvesHandover committee.now proof.now };
 
     /// Says for good that it goes over by the handover block of this id to the committee of this file, for which it made all ready.
@@ -175,11 +171,7 @@ impl Approver for NoSuccessor {
         Err(OverFault::NotMine)
     }
 
-    fn keep_proof(
-        &self,
-        _committee: &CommitteeView,
-        _proof: &LightProof,
-    ) -> Result<(), OverFault> {
+    fn keep_proof(&self, _committee: &CommitteeView, _proof: &LightProof) -> Result<(), OverFault> {
         Err(OverFault::Stopped)
     }
 
