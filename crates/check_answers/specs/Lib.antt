@@ -1,3 +1,4 @@
 pub mod Judging
 pub mod Showing
 pub mod Naming
+pub mod Voting

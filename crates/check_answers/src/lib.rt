@@ -6,6 +6,7 @@
 mod judging;
 mod naming;
 mod showing;
+mod voting;
 
 pub use judging::{HsFinding, judge};
 pub use naming::{refusals_have_their_names, write_name, write_version};
@@ -13,3 +14,4 @@ pub use showing::{
     HsCommittee, HsHeader, HsHeaders, HsKey, HsVerdict, HsVote, show_committee, show_headers,
     show_key, show_verdict,
 };
+pub use voting::{HsDigest, judge_endorsement, judge_vote, show_digest};

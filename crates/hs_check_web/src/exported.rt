@@ -1,11 +1,14 @@
 //! The exported calls.
 
+ghost use Rattle.std.specs.Prelude.{◌≡◌};
+ghost use Rattle.sha2.specs.Sha256.{sha256};
 ghost use Rattle.check_answers.specs.Judging.{IsJudged, ShowsGuilt};
 ghost use Rattle.check_answers.specs.Showing.{AreHeadersShown, IsCommitteeShown, IsKeyShown, IsVerdictShown};
+ghost use Rattle.check_answers.specs.Voting.{IsEndorsementJudged, IsVoteJudged};
 
 use check_answers::{
-    HsCommittee, HsFinding, HsHeaders, HsKey, HsVerdict, judge, show_committee, show_headers,
-    show_key, show_verdict,
+    HsCommittee, HsDigest, HsFinding, HsHeaders, HsKey, HsVerdict, judge, judge_endorsement,
+    judge_vote, show_committee, show_digest, show_headers, show_key, show_verdict,
 };
 
 /// Judges the bytes of a verdict under the bytes of a committee, as the library's call of this name does.
@@ -50,4 +53,30 @@ pub extern "C" fn hs_headers(verdict: &[u8], shown: &mut HsHeaders) -> i32
     ensures { AreHeadersShown verdict.now shown.old shown.new result }
 {
     show_headers(verdict, shown)
+}
+
+/// Judges the bytes of a vote under the bytes of a committee. Answers 0 where the vote is good; 4 where there are not 1,495 bytes; else the
+/// number of `VoteRefusal`; and minus the number of `CommitteeRefusal` where the committee is refused.
+#[unsafe(no_mangle)]
+pub extern "C" fn hs_check_vote(committee: &[u8], vote: &[u8]) -> i32
+    ensures { IsVoteJudged committee.now vote.now result }
+{
+    judge_vote(committee, vote)
+}
+
+/// Judges the bytes of an endorsement under the bytes of a committee. Answers 0 where it is good; else the number of `EndorsementRefusal`;
+/// and minus the number of `CommitteeRefusal` where the committee is refused.
+#[unsafe(no_mangle)]
+pub extern "C" fn hs_check_endorsement(committee: &[u8], endorsement: &[u8]) -> i32
+    ensures { IsEndorsementJudged committee.now endorsement.now result }
+{
+    judge_endorsement(committee, endorsement)
+}
+
+/// Shows the SHA-256 digest of the bytes: of a header it is the block's id.
+#[unsafe(no_mangle)]
+pub extern "C" fn hs_digest(bytes: &[u8], shown: &mut HsDigest)
+    ensures { shown.new.bytes ≡ sha256 bytes.now }
+{
+    show_digest(bytes, shown)
 }

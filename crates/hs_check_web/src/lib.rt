@@ -4,4 +4,7 @@
 
 mod exported;
 
-pub use exported::{hs_check, hs_committee, hs_headers, hs_key, hs_verdict};
+pub use exported::{
+    hs_check, hs_check_endorsement, hs_check_vote, hs_committee, hs_digest, hs_headers, hs_key,
+    hs_verdict,
+};
