@@ -58,6 +58,22 @@ class Checker {
     return { answer, view: at.getBigUint64(0, true), replica: at.getUint32(8, true), rule: at.getUint32(12, true) };
   }
 
+  /** What hs_check_vote answers: 0 where the vote, as bytes, is good. */
+  checkVote(committee, vote) {
+    return this.calls.hs_check_vote(...this.lay(this.committeeAt, committee), ...this.lay(this.verdictAt, vote));
+  }
+
+  /** What hs_check_endorsement answers: 0 where the endorsement is good. */
+  checkEndorsement(committee, endorsement) {
+    return this.calls.hs_check_endorsement(...this.lay(this.committeeAt, committee), ...this.lay(this.verdictAt, endorsement));
+  }
+
+  /** The SHA-256 digest of a text, in digits. */
+  digest(text) {
+    this.calls.hs_digest(...this.lay(this.verdictAt, text), BigInt(this.shownAt));
+    return hex(this.shown(32), 0, 32);
+  }
+
   /** A committee as it is shown; its replicas only where it is one. */
   committee(committee) {
     const of = this.lay(this.committeeAt, committee);
@@ -77,7 +93,7 @@ class Checker {
       const keys = [];
       let key = this.key(of, replica, 0);
       for (const { weight } = key; key !== null; key = this.key(of, replica, keys.length)) {
-        keys.push(key.keyId);
+        keys.push({ keyId: key.keyId, root: key.root });
         shown.replicas[replica] = { weight, keys };
       }
     }

@@ -1,10 +1,30 @@
 // node edges.js FOLDER: what include/hs_check.h promises beside the answers, of the module; and how much of its stack is used.
 "use strict";
+const { createHash } = require("crypto");
 const { readFileSync } = require("fs");
 const { Checker } = require(`${process.argv[2]}/checker.js`);
 
 /** The stack that web/build gives the module, from 0 up to the constants. */
 const STACK = 65536;
+
+/** The first vote of a verdict, alone. */
+const voteOf = (verdict) => Buffer.concat([verdict.subarray(36, 38), verdict.subarray(39, 39 + 1493)]);
+
+function changed(text, at, byte) {
+  const bytes = Buffer.from(text);
+  bytes[at] = byte;
+  return bytes;
+}
+
+/** What is answered of votes, endorsements and digests; web/lineages has good endorsements. */
+function seeStepCalls(checker, committee, vote, say) {
+  const answers = [vote, changed(vote, 1, 9), changed(vote, 2, 1), changed(vote, 100, vote[100] ^ 1), vote.subarray(1), Buffer.concat([vote, vote])];
+  say(answers.map((it) => checker.checkVote(committee, it)).join() === "0,1,3,2,4,4", "what hs_check_vote answers");
+  say(checker.checkVote(committee.subarray(1), vote) === -1 && checker.checkEndorsement(changed(committee, 0, 0), vote) === -2, "a committee that is none");
+  say([vote, changed(Buffer.alloc(1548), 0, 72), Buffer.alloc(20)].map((it) => checker.checkEndorsement(committee, it)).join() === "2,2,1", "what hs_check_endorsement answers");
+  const texts = [0, 1, 55, 56, 63, 64, 84, 119, 120, 16384].map((length) => Buffer.alloc(length, length));
+  say(texts.every((it) => checker.digest(it) === createHash("sha256").update(it).digest("hex")), "digests");
+}
 
 async function main() {
   const checker = await Checker.open();
@@ -34,8 +54,11 @@ async function main() {
   say(calls.hs_check(atEnd(committee), cl, v, vl, out) === 0, "a committee that ends where the memory ends");
   say(calls.hs_check(c, cl, atEnd(verdict), vl, out) === 0, "a verdict that ends where the memory ends");
   say(calls.hs_check(c, cl, c, cl, out) === 2, "both texts may be one");
+  const vote = voteOf(verdict);
+  seeStepCalls(checker, committee, vote, say);
   let most = 0;
-  for (const call of [() => checker.check(committee, verdict), () => checker.committee(committee), () => checker.verdict(verdict)]) {
+  for (const call of [() => checker.check(committee, verdict), () => checker.committee(committee), () => checker.verdict(verdict),
+    () => checker.checkVote(committee, vote), () => checker.checkEndorsement(committee, vote), () => checker.digest(committee)]) {
     new Uint8Array(memory.buffer, 0, STACK - 64).fill(0x5a);
     call();
     most = Math.max(most, STACK - new Uint8Array(memory.buffer, 0, STACK).findIndex((byte) => byte !== 0x5a));

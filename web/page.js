@@ -30,14 +30,28 @@ const RULES = {
 };
 const NEXT = "What to do: the committee\u2019s operators remove this replica\u2019s keys from the next committee. Each of them can check this file anew, with this page or with hs_check.";
 const NOT_SAID = "What it does not say: why, or when. A replica with a stolen key, and one that was put back to a backup and voted again, look the same as one that lies.";
-const NO_DIGESTS = "This page came over plain HTTP from another machine, so the browser computes no SHA-256 for it: none is shown. Save the page, and open the file.";
+const PROVES = "This proves, and no more, that the replica\u2019s keys in this committee come from those of its slot in the first committee by these steps, each of which a quorum of the committee before it committed. In a step that says new, its own key of the committee before signed for its next keys; where it says kept, they are the same. Where it says by hand, nobody signed for them: an operator was taken at his word there. Where it says absent, there is no such slot.";
+const RESTS_ON = "It rests on keys: whoever has old keys of a quorum of an earlier committee can make a second lineage, which looks as good from your committee\u2019s file alone. It also takes it that no two different files or headers have one SHA-256. So compare the newest chain id with somebody who followed the ledger.";
+const BY_WHOM = "The verdict, each signature and each SHA-256 were judged by the proved checker. How a step hangs together was judged by lines of this page that are not proved: they were compared with hs_follow.";
+const STEP_SAYS = {
+  2: "Its file is no committee\u2019s.",
+  3: "It has a key of the committee before in a slot that may not keep it.",
+  4: "Its light proof is missing or broken.",
+  5: "Its light proof does not prove that the committee before handed over.",
+  6: "The committee before handed over to another file.",
+  7: "Its renewal is broken.",
+  8: "By its renewal it does not renew the committee before.",
+};
+const MAKE_IT = "Make it of the lineage\u2019s folder so: zip -0 -r lineage.zip FOLDER";
 const TITLE = document.title;
 
 let checker = null;
 let committee = null; // { name, size, bytes, digest, shown }
-let verdicts = []; // { name, size, bytes, digest, found, said }
-const unread = { committee: [], verdicts: [] }; // the picked files that could not be read: { name, reason }
-const latest = { committee: 0, verdicts: 0 };
+let lineage = null; // { name, pieces, fault, judged }: what the zip has, or why it is none; and the Lineage from the committee on
+let verdicts = []; // { name, size, bytes, digest, said, under, found, place, why }: judged after so many steps, or why not
+let ground = {}; // what verdicts are judged under: another one once the committee or the lineage is another
+const unread = { committee: [], lineage: [], verdicts: [] }; // the picked files that could not be read: { name, reason }
+const latest = { committee: 0, lineage: 0, verdicts: 0, walk: 0, told: 0 };
 
 /** What is compared: the digits that were entered, what they are beside the committee's chain id, and whether they were copied from this page. */
 const compared = { is: "open", copied: "", isPastedBack: false };
@@ -46,11 +60,10 @@ const digitsOf = (text) => text.replace(/[\s:.-]/g, "").toLowerCase();
 
 /** The first bytes of a file: of a longer one than any committee or verdict the checker refuses these by their length, as hs_check does. */
 async function textOf(file) {
-  const head = await file.slice(0, MOST).arrayBuffer();
-  const isWhole = file.size <= MOST;
-  const digest = isWhole && crypto.subtle ? new Uint8Array(await crypto.subtle.digest("SHA-256", head)) : null;
-  return { name: file.name, size: file.size, bytes: new Uint8Array(head), digest: digest && hex(new DataView(digest.buffer), 0, 32) };
+  return { name: file.name, size: file.size, bytes: new Uint8Array(await file.slice(0, MOST).arrayBuffer()) };
 }
+
+const withDigest = (text) => ({ ...text, digest: text.size <= MOST ? checker.digest(text.bytes) : null });
 
 function showFault(...parts) {
   by("fault").replaceChildren(...parts);
@@ -60,12 +73,12 @@ function showFault(...parts) {
 /** A line with a file's digest; of a longer file than can be judged whole, that it has none. */
 function digestOf(what, { digest, size }) {
   if (digest !== null) return made("p", { class: "soft" }, `SHA-256 of ${what}: `, idOf(digest));
-  return made("p", { class: "soft" }, size > MOST ? `The file has ${size.toLocaleString("en")} bytes. Of these the first ${MOST.toLocaleString("en")} were read.` : NO_DIGESTS);
+  return made("p", { class: "soft" }, `The file has ${size.toLocaleString("en")} bytes. Of these the first ${MOST.toLocaleString("en")} were read.`);
 }
 
 function replicasOf(shown) {
   const rows = shown.replicas.map((it, replica) => made("tr", {}, made("th", { scope: "row" }, `${replica}`),
-    made("td", {}, `${it.weight}`), made("td", { class: "id" }, ...it.keys.flatMap((key, k) => (k ? [made("br", {}), key] : [key])))));
+    made("td", {}, `${it.weight}`), made("td", { class: "id" }, ...it.keys.flatMap(({ keyId }, k) => (k ? [made("br", {}), keyId] : [keyId])))));
   return made("details", { class: "screen" }, made("summary", {}, `The ${shown.n} replicas and the ids of their keys`),
     made("div", { class: "wide" }, made("table", {},
       made("thead", {}, made("tr", {}, ...["Replica", "Weight", "Key ids"].map((it) => made("th", { scope: "col" }, it)))),
@@ -152,19 +165,38 @@ function storyOf(found, said) {
 }
 
 /** The heading of an answer, and the sentences below it. */
-function acceptedOf({ found, said }, isCompared) {
+function acceptedOf({ found, said, place }, isCompared) {
   const { name, says } = RULES[found.rule];
-  const accused = `replica ${found.replica} broke rule ${found.rule}, ${name}`;
+  const accused = `replica ${found.replica}${place ? ` of the committee after step ${place}` : ""} broke rule ${found.rule}, ${name}`;
   const answer = isCompared ? `\u2714 Accepted: ${accused}` : `Accepted under a committee that you have not compared: ${accused}, if it is yours`;
   return [answer, made("p", {}, storyOf(found, said), " ", says)];
 }
 
-function refusedOf({ found, bytes }, isCompared) {
+function refusedOf({ found, bytes, place }, isCompared) {
   const { name, says } = REFUSALS[found.answer];
   const answer = `${isCompared ? "\u2718 Refused" : "Refused under a committee that you have not compared"}: ${found.answer} ${name}`;
   const parts = [made("p", {}, says, " It proves nothing.")];
-  if (/^HSC[123]$/.test(String.fromCharCode(...bytes.subarray(0, 4)))) parts.push(made("p", {}, "It looks like a committee: pick it above."));
+  const magic = String.fromCharCode(...bytes.subarray(0, 4));
+  if (/^HSC[123]$/.test(magic)) parts.push(made("p", {}, "It looks like a committee: pick it above."));
+  if (magic === "PK\x03\x04") parts.push(made("p", {}, "It looks like a zip file: pick it as the lineage."));
+  if (name === "Chain") parts.push(made("p", {}, "If it is of a committee that followed yours, pick the lineage from yours on, too."));
+  if (place) parts.push(made("p", {}, `It was judged under the committee after step ${place} of the lineage.`));
   return [answer, ...parts];
+}
+
+/** Lines as hs_follow and hs_show print them, in a place that scrolls where they are many. */
+const linesOf = (name, lines) => made("div", { class: "lines id", role: "region", "aria-label": name, tabindex: "0" }, ...lines.map((it) => made("div", {}, it)));
+
+/** By which steps a verdict's committee came, what the accused replica's slot is in each, and what that proves. */
+function stepsOf({ found, place }) {
+  if (place === 0) return [made("p", {}, "It is of the committee that you picked: no step of the lineage was needed.")];
+  const { judged } = lineage;
+  const newest = judged.steps.length;
+  return [made("p", {}, "The steps from the first committee to this one:"), linesOf("Steps to the verdict\u2019s committee", judged.lines.slice(0, place)),
+    made("p", {}, "The replica\u2019s slot in each of them:"), linesOf("The replica\u2019s slot in each step", judged.waysOf(found.replica, place)),
+    made("p", {}, PROVES), made("p", {}, `${RESTS_ON} Of the steps that were judged here it is that of step ${newest}:`),
+    chainOf(judged.committee(newest).chain), made("p", {}, BY_WHOM),
+    made("p", { class: "soft" }, `SHA-256 of the file of the committee after step ${place}: `, idOf(checker.digest(judged.committee(place).text)))];
 }
 
 /** What else stands on the sheet of an accepted verdict: what to do, what is not said, and what it rests on. */
@@ -177,17 +209,23 @@ function sheetOf(verdict) {
       made("p", {}, `${by("version").textContent} Judged on ${new Date().toISOString().slice(0, 10)}, by this machine\u2019s clock.`))];
 }
 
-/** The card of a verdict that was judged: its answer is the heading, its file's name stands below it. */
+/** A card with an answer as its heading; the file's name stands below it. */
+function cardWith(verdict, number, colour, answer, ...parts) {
+  const heading = made("h3", { class: "answer", id: `answer-${number}` }, answer);
+  return made("article", { class: `card verdict ${colour}`.trim(), "aria-labelledby": heading.id }, heading,
+    made("p", { class: "soft file" }, "File: ", nameOf(verdict)), ...parts);
+}
+
+/** The card of a verdict, judged or not. */
 function cardOf(verdict, number) {
+  if (verdict.why !== null) return cardWith(verdict, number, "", "Not judged", made("p", {}, verdict.why));
   const isCompared = compared.is === "same";
   const isGood = verdict.found.answer === 0;
   const colour = !isCompared ? "" : isGood ? "is-good" : "is-bad";
-  const [answer, ...parts] = isGood ? acceptedOf(verdict, isCompared) : refusedOf(verdict, isCompared);
-  const heading = made("h3", { class: "answer", id: `answer-${number}` }, answer);
-  const card = made("article", { class: `card verdict ${colour}`.trim(), "aria-labelledby": heading.id }, heading,
-    made("p", { class: "soft file" }, "File: ", nameOf(verdict)), ...parts);
+  const card = cardWith(verdict, number, colour, ...(isGood ? acceptedOf(verdict, isCompared) : refusedOf(verdict, isCompared)));
   card.dataset.line = lineOf(verdict.found);
   if (verdict.said !== null) card.append(votesOf(verdict.said, isGood, isCompared));
+  if (isGood && lineage !== null) card.append(...stepsOf(verdict));
   if (isGood && isCompared) card.append(...sheetOf(verdict));
   else if (verdict.size > MOST) card.append(digestOf("", verdict));
   return card;
@@ -198,11 +236,12 @@ const listed = (numbers) => numbers.join(", ").replace(/, (\d+)$/, " and $1");
 
 /** One sentence of all answers, which is also what a reader that speaks is told; and what the title says. */
 function summaryOf() {
-  const accused = [...new Set(verdicts.filter((it) => it.found.answer === 0).map((it) => it.found.replica))].sort((a, b) => a - b);
-  const refused = verdicts.filter((it) => it.found.answer !== 0).length;
-  const good = verdicts.length - refused;
+  const judged = verdicts.filter((it) => it.why === null);
+  const good = judged.filter((it) => it.found.answer === 0);
+  const accused = [...new Set(good.map((it) => it.found.replica))].sort((a, b) => a - b);
   const whom = accused.length ? ` (${accused.length === 1 ? "replica" : "replicas"} ${listed(accused)})` : "";
-  return [`${good} accepted${whom}, ${refused} refused`, compared.is === "same"];
+  const left = verdicts.length - judged.length;
+  return [`${good.length} accepted${whom}, ${judged.length - good.length} refused${left ? `, ${left} not judged` : ""}`, compared.is === "same"];
 }
 
 function showSummary() {
@@ -212,28 +251,106 @@ function showSummary() {
   else if (committee.shown.answer !== 0) summary.textContent = "Nothing was judged: the first file is no committee.";
   else if (compared.is === "other") summary.textContent = "Nothing was judged: the committee has another chain id than you were told.";
   else if (!verdicts.length) summary.textContent = unread.verdicts.length ? "Nothing was judged." : "Pick a verdict.";
+  else if (verdicts.some(isWaiting)) tellProgress();
   else {
     const [said, isCompared] = summaryOf();
     const end = isCompared ? "." : ", which you have not compared: enter the chain id that you were told.";
-    summary.replaceChildren(`${said}, under `, nameOf(committee), end);
+    const further = verdicts.some((it) => it.place > 0) ? " and its lineage" : "";
+    summary.replaceChildren(`${said}, under `, nameOf(committee), `${further}${end}`);
     document.title = `${said}${isCompared ? "" : ", not compared"} \u2013 ${TITLE}`;
   }
 }
 
-/** Judges each verdict that was not judged under this committee, once. */
+const hasCommittee = () => committee !== null && committee.shown.answer === 0;
+
+/** Whether steps have to be judged before the verdict can be. */
+const isWaiting = (verdict) => verdict.under !== ground;
+
+/** After how many steps the verdict's committee comes; why that can't be said; or null, if more steps have to be judged first. A verdict that
+ * can't be read is judged under the first committee, as each is without a lineage. */
+function placeOf({ said }) {
+  if (lineage === null || said === null || said.chain === committee.shown.chain) return { place: 0, why: null };
+  const { judged, fault } = lineage;
+  const place = judged?.placeOf(said.chain) ?? null;
+  if (place !== null) return { place, why: null };
+  if (fault !== null) return { place, why: "It is of another committee than the one that you picked, and the lineage can\u2019t be read." };
+  if (!judged.isOver) return null;
+  if (judged.refused !== null) return { place, why: `It is of none of the committees before step ${judged.steps.length + 1}, and that step of the lineage is refused. No later committee is judged.` };
+  return { place, why: `No committee of this lineage has its chain: neither the one that you picked nor those of the ${judged.steps.length} steps.` };
+}
+
+/** Judges each verdict that can be judged now and was not, once. */
 function judge() {
-  if (committee === null || committee.shown.answer !== 0) return;
-  for (const verdict of verdicts) {
-    if (verdict.under === committee) continue;
-    verdict.found = checker.check(committee.bytes, verdict.bytes);
-    verdict.said = checker.verdict(verdict.bytes);
-    verdict.under = committee;
+  if (!hasCommittee()) return;
+  for (const verdict of verdicts.filter(isWaiting)) {
+    const known = placeOf(verdict);
+    if (known === null) continue;
+    Object.assign(verdict, known, { under: ground });
+    if (known.why === null) verdict.found = checker.check(known.place ? lineage.judged.committee(known.place).text : committee.bytes, verdict.bytes);
   }
 }
 
+/** Judges the next step. If a file of it can't be read the lineage is faulty. */
+async function judgeStepOf(it) {
+  try {
+    await it.judged.judgeNext();
+  } catch (error) {
+    if (error instanceof WebAssembly.RuntimeError) throw error;
+    it.fault = error.message;
+  }
+}
+
+/** Judges steps until each verdict can be judged, or until something else was picked. */
+async function walk() {
+  const turn = ++latest.walk;
+  const isOld = () => turn !== latest.walk || checker === null;
+  if (!hasCommittee() || !verdicts.some(isWaiting)) return;
+  try {
+    while (verdicts.some(isWaiting)) {
+      await judgeStepOf(lineage);
+      if (isOld()) return;
+      judge();
+      if (Date.now() - latest.told >= 1000 && compared.is !== "other") tellProgress();
+    }
+    showLineage();
+    showAnswers();
+  } catch (error) {
+    if (checker !== null) stop(error);
+  }
+}
+
+/** Says how far the lineage is judged. */
+function tellProgress() {
+  latest.told = Date.now();
+  by("summary").textContent = `Judging the lineage: ${lineage.judged.steps.length} of ${stepsIn(lineage)} so far.`;
+}
+
+/** How far the lineage was judged, in a sentence, and the lines of the steps. */
+function judgedOf({ judged }) {
+  const good = judged.steps.length, { count } = judged.pieces;
+  if (good === 0 && !judged.isOver) return [made("p", {}, "No step was judged: steps are judged as far as a verdict asks.")];
+  const lines = judged.isOver ? [...judged.lines, judged.lastLine] : judged.lines;
+  const said = [made("p", {}, judged.isOver ? "All of them are good." : `Step${good === 1 ? " 1 is" : `s 1 to ${good} are`} good. No later one was judged, since no verdict asks for it.`)];
+  if (judged.refused !== null) said[0] = made("p", { class: "said bad" }, `\u2718 Step ${good + 1} is refused: ${judged.refused.message}. ${STEP_SAYS[judged.refused.number]} No later committee is judged.`);
+  else if (judged.isOver && judged.pieces.later !== null) said[0] = made("p", { class: "said bad" }, `\u2718 Step ${good + 1} is missing, so it was judged up to step ${good}.`);
+  return count ? [...said, linesOf("Steps", lines)] : said;
+}
+
+const stepsIn = ({ pieces }) => `${pieces.count} ${pieces.count === 1 ? "step" : "steps"}`;
+
+function showLineage() {
+  const at = by("lineage-shown");
+  at.replaceChildren();
+  by("lineage-clear").hidden = lineage === null;
+  if (lineage === null) return;
+  if (lineage.fault !== null) at.append(made("p", { class: "said bad" }, "\u2718 ", nameOf(lineage), ` can\u2019t be read as a lineage: ${lineage.fault.replace(/[.\s]+$/, "")}.`), made("p", {}, MAKE_IT));
+  else at.append(made("p", {}, made("strong", {}, nameOf(lineage)), `: ${stepsIn(lineage)}.`));
+  if (lineage.judged !== null) at.append(...judgedOf(lineage));
+}
+
 function showAnswers() {
-  const hasAnswers = committee !== null && committee.shown.answer === 0 && compared.is !== "other";
-  by("answers").replaceChildren(...(hasAnswers ? verdicts.map(cardOf) : []));
+  const hasAnswers = hasCommittee() && compared.is !== "other";
+  by("answers").replaceChildren(...(hasAnswers ? verdicts.filter((it) => !isWaiting(it)).map(cardOf) : []));
   showSummary();
 }
 
@@ -252,10 +369,12 @@ function show() {
   try {
     judge();
     compare();
+    showLineage();
     showAnswers();
   } catch (error) {
-    stop(error);
+    return stop(error);
   }
+  walk();
 }
 
 /** At each digit that is entered: the answers are shown anew only where they read otherwise then, and judged never. */
@@ -266,34 +385,59 @@ function enter() {
 /** Which files could not be read, each by its name. */
 function tellUnread() {
   const parts = Object.values(unread).flat().flatMap((it) => [nameOf(it), ` could not be read: ${it.reason.replace(/[.\s]+$/, "")}. `]);
-  if (parts.length) showFault(...parts, document.querySelector("#answers article") ? "The others were judged." : "Nothing was judged.");
+  const areJudged = hasCommittee() && compared.is !== "other" && verdicts.length > 0;
+  if (parts.length) showFault(...parts, areJudged ? "The others were judged." : "Nothing was judged.");
+}
+
+/** What the zip of a lineage has, or why it is none. */
+async function lineageOf(file) {
+  try {
+    return { name: file.name, pieces: await ZippedPieces.open(file), fault: null, judged: null };
+  } catch (error) {
+    if (!(error instanceof NoZip)) throw error;
+    return { name: file.name, pieces: null, fault: error.message, judged: null };
+  }
+}
+
+/** Puts what was read in its place: of the committee and the lineage all, of which there is one at the most. */
+function put(what, texts) {
+  if (what === "verdicts") verdicts = texts.map((it) => ({ ...withDigest(it), said: checker.verdict(it.bytes) }));
+  else if (what === "lineage") lineage = texts[0] ?? null;
+  else committee = texts.length ? { ...withDigest(texts[0]), shown: checker.committee(texts[0].bytes) } : null;
+  if (what === "verdicts") return;
+  ground = {};
+  if (lineage !== null) lineage.judged = hasCommittee() && lineage.pieces !== null ? new Lineage(checker, committee.bytes, lineage.pieces) : null;
 }
 
 /** Takes what was picked. What stood there before is forgotten at once: no answer stands beside the name of a file that it is not of. */
 async function take(what, files) {
   const turn = ++latest[what];
-  if (what === "committee") committee = null;
-  else verdicts = [];
   unread[what] = [];
+  put(what, []);
   if (checker === null) return stop(null);
   by("fault").hidden = true;
   if (what === "committee") showCommittee();
   show();
   if (!files.length) return;
-  const picked = what === "committee" ? [files[0]] : Array.from(files);
-  const read = await Promise.allSettled(picked.map(textOf));
+  const picked = what === "verdicts" ? Array.from(files) : [files[0]];
+  const read = await Promise.allSettled(picked.map(what === "lineage" ? lineageOf : textOf));
   if (turn !== latest[what] || checker === null) return; // later files were picked meanwhile
-  const texts = read.filter((it) => it.status === "fulfilled").map((it) => it.value);
   unread[what] = read.flatMap((it, i) => (it.status === "rejected" ? [{ name: picked[i].name, reason: it.reason.message }] : []));
   try {
-    if (what === "verdicts") verdicts = texts;
-    else if (texts.length) committee = { ...texts[0], shown: checker.committee(texts[0].bytes) };
+    put(what, read.filter((it) => it.status === "fulfilled").map((it) => it.value));
   } catch (error) {
     return stop(error);
   }
   if (what === "committee") showCommittee();
   show();
   if (checker !== null) tellUnread();
+}
+
+/** Leaves the lineage out again. */
+function clearLineage() {
+  by("lineage-file").value = "";
+  by("lineage-file").focus();
+  take("lineage", []);
 }
 
 function listen(what, input, drop) {
@@ -337,14 +481,15 @@ async function begin() {
   }
   by("elsewhere").hidden = true;
   by("desk").hidden = false;
-  by("insecure").hidden = crypto.subtle !== undefined;
-  by("insecure").textContent = NO_DIGESTS;
   listen("committee", "committee-file", "committee-drop");
+  listen("lineage", "lineage-file", "lineage-drop");
   listen("verdicts", "verdict-files", "verdicts-drop");
+  by("lineage-clear").addEventListener("click", clearLineage);
   listenForCopies();
   document.documentElement.dataset.ready = "yes";
   // What a browser kept in the inputs over a reload.
   await take("committee", by("committee-file").files);
+  await take("lineage", by("lineage-file").files);
   await take("verdicts", by("verdict-files").files);
 }
 

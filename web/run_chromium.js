@@ -1,18 +1,19 @@
-// node run_chromium.js PAGE.html CASES.tsv [PICTURES]: each case in the page itself, in Chromium, by its own file inputs; and each state
-// that the page has. Pictures of them go into the folder PICTURES.
+// node run_chromium.js PAGE.html CASES.tsv LINEAGES [PICTURES]: each case in the page itself, in Chromium, by its own file inputs; and each
+// state that the page has, also with lineages that web/lineages made. Pictures of them go into the folder PICTURES.
 "use strict";
 const { copyFileSync, mkdirSync, mkdtempSync, readFileSync, rmSync, truncateSync, writeFileSync } = require("fs");
 const { tmpdir } = require("os");
 const { dirname } = require("path");
 const { pathToFileURL } = require("url");
 const { Browser } = require("./browser.js");
+const { seeLineages } = require("./chromium_lineages.js");
 
-const KEYS = { Tab: 9, a: 65, c: 67, v: 86 };
+const KEYS = { Tab: 9, " ": 32, a: 65, c: 67, v: 86 };
 
 /** A key, with what a browser does at it where it is pressed with Control. */
 async function press(browser, key, command) {
   const how = command ? { modifiers: 2, commands: [command] } : {};
-  for (const type of ["keyDown", "keyUp"]) await browser.send("Input.dispatchKeyEvent", { type, key, code: key, windowsVirtualKeyCode: KEYS[key], ...how });
+  for (const type of ["keyDown", "keyUp"]) await browser.send("Input.dispatchKeyEvent", { type, key, code: key, windowsVirtualKeyCode: KEYS[key], text: type === "keyDown" && key === " " ? key : undefined, ...how });
 }
 
 /** The page's own words for nothing picked and nothing entered. */
@@ -107,7 +108,7 @@ async function oddFiles(browser, compare, top) {
 }
 
 async function main() {
-  const [page, cases, pictures] = process.argv.slice(2);
+  const [page, cases, lineages, pictures] = process.argv.slice(2);
   const top = process.cwd();
   if (pictures) mkdirSync(pictures, { recursive: true });
   const browser = await Browser.open();
@@ -184,7 +185,7 @@ async function main() {
       await press(browser, "Tab");
       order.push(await browser.tell(`document.activeElement === document.body ? "" : document.activeElement.id || document.activeElement.tagName.toLowerCase()`));
     }
-    compare("committee-file summary told verdict-files", [...new Set(order.filter(Boolean))].join(" "), "where the tabulator key goes");
+    compare("committee-file summary told verdict-files lineage-file", [...new Set(order.filter(Boolean))].join(" "), "where the tabulator key goes");
     // The committee's name stands by itself where it is told.
     compare("committee.hsc committee.hsc", await browser.tell(`Array.from(document.querySelectorAll("#committee-shown bdi, #summary bdi"), (it) => it.textContent).join(" ")`), "the committee's name");
     // A name that is markup stays text.
@@ -199,6 +200,7 @@ async function main() {
     await pasteBack(browser, compare, top, chain);
     await longNames(browser, compare, top);
     await oddFiles(browser, compare, top);
+    await seeLineages(browser, compare, press, lineages);
     await browser.tell(EMPTY);
     await browser.pick("#committee-file", [`${top}/examples/committee.hsc`]);
     await browser.pick("#verdict-files", [`${top}/examples/double_vote.hsx`]);
@@ -207,7 +209,7 @@ async function main() {
     const { nodes } = await browser.send("Accessibility.getFullAXTree");
     const told = nodes.filter((it) => ["button", "textbox", "DisclosureTriangle", "heading", "status", "alert"].includes(it.role?.value) && !it.ignored)
       .map((it) => `${it.role.value}: ${it.name?.value ?? ""}`);
-    for (const wanted of ["button: Committee file", "button: Verdict files, one or more", "textbox: The chain id that you were told, by telephone or on a page that you know: all 64 digits"]) {
+    for (const wanted of ["button: Committee file", "button: Verdict files, one or more", "button: Lineage, a zip file", "textbox: The chain id that you were told, by telephone or on a page that you know: all 64 digits"]) {
       compare(true, told.some((it) => it.startsWith(wanted)), `${wanted}, of ${told.join(" | ")}`);
     }
     if (pictures) writeFileSync(`${pictures}/spoken.txt`, told.join("\n") + "\n");
@@ -247,7 +249,7 @@ async function main() {
     await browser.until(`!by("fault").hidden`);
     await browser.pick("#verdict-files", [`${top}/examples/lock_violation.hsx`]);
     compare("0 Nothing was judged.", await browser.tell(`${cards} + " " + by("summary").textContent`), "answers behind a module that stopped");
-    // A page that came over plain HTTP from another machine has no digests, says so, and judges.
+    // A page that came over plain HTTP from another machine has the module's digests all the same.
     const { identifier } = await browser.send("Page.addScriptToEvaluateOnNewDocument", { source: "Object.defineProperty(crypto, 'subtle', { value: undefined })" });
     await browser.send("Page.navigate", { url: pathToFileURL(page).href });
     await browser.until(`document.documentElement.dataset.ready === "yes"`);
@@ -255,7 +257,7 @@ async function main() {
     await browser.until(`committee !== null`);
     await tellChain(chain);
     await good();
-    compare("false true", await browser.tell(`by("insecure").hidden + " " + by("committee-shown").textContent.includes("computes no SHA-256")`), "a page with no digests");
+    compare(true, (await browser.tell(`by("committee-shown").textContent`)).includes(digest(`${top}/examples/committee.hsc`)), "a digest over plain HTTP");
     await browser.send("Page.removeScriptToEvaluateOnNewDocument", { identifier });
     // A browser without memories of 64 bits is told where to go, and so is one that runs no script; neither has a place for a file.
     const elsewhere = `[document.getElementById("elsewhere").offsetHeight > 0, document.getElementById("desk").offsetHeight > 0].join()`;
