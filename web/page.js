@@ -328,6 +328,7 @@ function tellProgress() {
 /** How far the lineage was judged, in a sentence, and the lines of the steps. */
 function judgedOf({ judged }) {
   const good = judged.steps.length, { count } = judged.pieces;
+  if (verdicts.some(isWaiting)) return [made("p", {}, "Its steps are being judged.")];
   if (good === 0 && !judged.isOver) return [made("p", {}, "No step was judged: steps are judged as far as a verdict asks.")];
   const lines = judged.isOver ? [...judged.lines, judged.lastLine] : judged.lines;
   const said = [made("p", {}, judged.isOver ? "All of them are good." : `Step${good === 1 ? " 1 is" : `s 1 to ${good} are`} good. No later one was judged, since no verdict asks for it.`)];

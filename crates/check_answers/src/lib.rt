@@ -1,6 +1,6 @@
-//! What the checker answers a caller in another language, and what a page shows of a committee and of a verdict beside it: plain
-//! numbers and bytes, for the exports of `hs_check_c` and `hs_check_web`. It takes no memory, keeps nothing between calls, and
-//! reads nothing but what it is handed.
+//! What the checker answers a caller in another language, what a page shows of a committee and of a verdict beside it, and what it
+//! asks of a lineage's step: plain numbers and bytes, for the exports of `hs_check_c` and `hs_check_web`. It takes no memory, keeps
+//! nothing between calls, and reads nothing but what it is handed.
 #![tactic(auto)]
 
 mod judging;
