@@ -72,8 +72,13 @@ fn fetch_good<D: Dial>(
     }
 }
 
-/// The files of a good step from the committee of this file, of the first source that is a server and has them with a renewal, or else
-/// of the first that has them: who keeps a renewal back can't make a step look as if people had made it, where another one gives it.
+// Whether the one step is the other with a renewal: to the same committee.
+fn has_more(step: &StepFiles, than: &StepFiles) -> bool {
+    step.file() == than.file() && step.renewal().is_some()
+}
+
+/// The files of a good step from the committee of this file, of the first source that is a server and has them; with the renewal of
+/// another source that has one to the same committee, if the first one has none.
 pub(crate) fn fetch_next<T: Net<Stream = TcpStream> + Clock>(
     rt: &T,
     alloc: Global,
@@ -83,7 +88,7 @@ pub(crate) fn fetch_next<T: Net<Stream = TcpStream> + Clock>(
     let Ok(old) = CommitteeView::parse(last) else {
         return Ok(None);
     };
-    let mut without_renewal = None;
+    let mut found: Option<StepFiles> = None;
     for source in sources {
         let Origin::Tcp(address) = source.origin else {
             continue;
@@ -91,12 +96,24 @@ pub(crate) fn fetch_next<T: Net<Stream = TcpStream> + Clock>(
         let Some(step) = fetch_good(alloc, &TcpDialer::new(rt, address), &old)? else {
             continue;
         };
-        if step.renewal().is_some() {
-            return Ok(Some(step));
+        let is_better = match &found {
+            Some(first) => has_more(&step, first),
+            None => true,
+        };
+        if is_better {
+            found = Some(step);
         }
-        if without_renewal.is_none() {
-            without_renewal = Some(step);
+        if is_whole(&found) {
+            break;
         }
     }
-    Ok(without_renewal)
+    Ok(found)
+}
+
+// Whether a step was found, and has a renewal.
+fn is_whole(found: &Option<StepFiles>) -> bool {
+    match found {
+        Some(step) => step.renewal().is_some(),
+        None => false,
+    }
 }

@@ -72,6 +72,11 @@ fn last_file<'s>(root: &'s [u8], steps: &'s [StepFiles]) -> &'s [u8] {
     }
 }
 
+// Whether this is the file of a committee that these steps come by.
+fn is_passed(root: &[u8], steps: &[StepFiles], file: &[u8]) -> bool {
+    root == file || steps.iter().any(|step| step.file() == file)
+}
+
 // Adds what the sources have after these steps, and stores it in the folder.
 fn fetch_steps<'a, F: Files<File = File>, T: Net<Stream = TcpStream> + Clock>(
     host: &Host<'a, F, T>,
@@ -86,6 +91,10 @@ fn fetch_steps<'a, F: Files<File = File>, T: Net<Stream = TcpStream> + Clock>(
         let Some(step) = fetch_next(host.rt, host.alloc, last, &asked.sources)? else {
             return Ok(());
         };
+        // A lineage never comes back to a committee: who goes round and round would fill the folder.
+        if is_passed(root, steps, step.file()) {
+            return Ok(());
+        }
         store(host, asked.dir, n + 1, &step)?;
         steps.push(step)?;
     }

@@ -70,8 +70,14 @@ impl<F: Files<File = File>> LineageFolder<'_, F> {
     }
 
     /// Stores the file of the committee that the signer goes over to from this chain, before it says so: whole, in place of one of which
-    /// it did not say so.
+    /// it did not say so, whose renewal and light proof are removed.
     pub fn store_next(&self, chain: &Id, file: &[u8]) -> Result<(), LineageFault> {
+        for name in [NEXT_RENEWAL, NEXT_PROOF] {
+            let path = self.within(&self.chain_folder(chain)?, name)?;
+            if let Err(error) = self.remove(&path) {
+                return Err(LineageFault::of(&error, chain));
+            }
+        }
         self.store_beside(chain, NEXT_FILE, file)
     }
 

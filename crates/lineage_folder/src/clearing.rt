@@ -97,7 +97,8 @@ impl<F: Files<File = File>> LineageFolder<'_, F> {
         Ok(())
     }
 
-    fn remove(&self, path: &str) -> io::Result<()> {
+    // Removes a file, if it is there.
+    pub(crate) fn remove(&self, path: &str) -> io::Result<()> {
         if self.is_there(path)? {
             fs::remove_file(self.files, path)?;
         }

@@ -183,6 +183,14 @@ impl<T: Threads + Wait + Files<File = File>, S: Sink> Approver for Home<'_, T, S
     }
 
     fn keep_proof(&self, committee: &CommitteeView, proof: &LightProof) -> Result<(), OverFault> {
+        let mut next = self.next.lock(self.successor.rt);
+        let next = &mut *next;
+        // Another call may have said meanwhile that it goes over: then nothing is noted of this one.
+        if let Some(ready) = next
+            && ready.handover.is_some()
+        {
+            return Ok(());
+        }
         match self.lineage().keep_proof(committee, proof) {
             Ok(()) => Ok(()),
             Err(fault) => Err(fault_of_words(fault)),
@@ -197,10 +205,14 @@ impl<T: Threads + Wait + Files<File = File>, S: Sink> Approver for Home<'_, T, S
         if ready.file.as_slice() != file || self.is_unsure.load(Ordering::SeqCst) {
             return Err(OverFault::Stopped);
         }
-        if ready.handover.is_none() {
-            self.store_proof(handover)?;
-            self.store_word(handover, file)?;
-            ready.handover = Some(*handover);
+        match &ready.handover {
+            None => {
+                self.store_proof(handover)?;
+                self.store_word(handover, file)?;
+                ready.handover = Some(*handover);
+            }
+            Some(said) if *said != *handover => return Err(OverFault::Stopped),
+            Some(_) => {}
         }
         self.start.end();
         Ok(())

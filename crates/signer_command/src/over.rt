@@ -82,6 +82,9 @@ pub(crate) fn ready_for<T: Threads + Wait + Files<File = File>, S: Sink>(
     file: &[u8],
 ) -> Result<Next, OverFault> {
     let chain = after.chain();
+    if is_passed(home, &chain) {
+        return Err(OverFault::Stopped);
+    }
     let lineage = home.lineage();
     if let Err(fault) = lineage.make_chain(&chain) {
         return Err(fault_of_words(fault));
@@ -104,6 +107,22 @@ pub(crate) fn ready_for<T: Threads + Wait + Files<File = File>, S: Sink>(
         file,
         goods,
         handover: None,
+    })
+}
+
+// Whether this is the chain that the signer is in, or one that it left: no way leads back.
+fn is_passed<T: Threads + Wait + Files<File = File>, S: Sink>(
+    home: &Home<'_, T, S>,
+    chain: &Id,
+) -> bool {
+    if home.successor.committee.chain() == *chain {
+        return true;
+    }
+    home.standing.earlier.iter().any(|file| {
+        match CommitteeView::parse(file) {
+            Ok(committee) => committee.chain() == *chain,
+            Err(_) => false,
+        }
     })
 }
 

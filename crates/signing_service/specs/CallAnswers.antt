@@ -388,6 +388,12 @@ module _ {D : Type 0} (disk : Ghosts D) (committee : List ℕ) (replica : ℕ) (
     pub free : IsFree asks shown over
     pub handed : IsKnownBy over.proof handover
 
+  -- .. or, whatever its light proof shows, this was told
+  pub record IsKnownAt (asks : Bool) (shown : Option Showing) (over : Over) (handover : Header) : Type 0 where
+    pub here : over.chain ≡ chain_id_of committee
+    pub free : IsFree asks shown over
+    pub handed : IsKnownBy over.proof handover ⊎ IsHandedOver handover
+
   -- .. to the committee of the file
   pub record IsOfFile (asks : Bool) (shown : Option Showing) (over : Over) (handover : Header) : Type 0 where
     pub at : IsAtHandover asks shown over handover
@@ -410,7 +416,7 @@ module _ {D : Type 0} (disk : Ghosts D) (committee : List ℕ) (replica : ℕ) (
       (over.chain ≡ chain_id_of committee) × IsFree asks shown over × IsUnprovedBy over.proof unproved
   IsCrossingOf asks tells shown over (crossing.OtherFile payload) =
       (payload ≢ handover_payload over.file)
-      × (over.chain ≡ chain_id_of committee → (handover : Header) × IsAtHandover asks shown over handover × (payload ≡ handover.payload))
+      × (over.chain ≡ chain_id_of committee → (handover : Header) × IsKnownAt asks shown over handover × (payload ≡ handover.payload))
   IsCrossingOf asks tells shown over (crossing.Refused fault) =
       over.chain ≡ chain_id_of committee → (handover : Header) × IsOfFile asks shown over handover
   IsCrossingOf asks tells shown over (crossing.Desk refusal) =

@@ -515,9 +515,10 @@ impl<
             (IsHeldBack D.Disk N.committee N.replica N.opening self.now.reception.now.gate.now.asks
             self.now.caller.shown over.now) }
     {
-        match self.halt() {
+        let halted = self.halt();
+        match halted {
             Some(Halt::Asking) if self.may_pass(over) => None,
-            halted => halted,
+            _ => halted,
         }
     }
 
@@ -558,6 +559,12 @@ impl<
             Ok(proof) => proof,
             Err(unproved) => return Crossing::Unproved(unproved),
         };
+        // What its own desk told counts for more: else it would leave the chain that it knows for another one.
+        if let Some(told) = self.handover()
+            && told.payload != handover_payload(over.file.as_slice())
+        {
+            return Crossing::OtherFile(told.payload);
+        }
         self.go_over(proof.block(), over, Some(&proof))
     }
 
