@@ -50,7 +50,7 @@ class Lineages {
     const newest = this.whole.wanted.split("\n")[5].split(" ")[3];
     await this.says("true true true", `{ const said = document.querySelector("#answers article").textContent.replace(/ /g, ""); ["${newest}", "asecondlineage"].map((it) => said.includes(it)).join(" ") + " " + /committee after step 6 /.test(document.querySelector("#answers .answer").textContent); }`, "what a lineage does not show");
     await this.browser.tell(`by("told").value = committee.shown.chain; by("told").dispatchEvent(new Event("input"))`);
-    await this.says("card verdict is-good", `document.querySelector("#answers article").className`, "a compared answer");
+    await this.says("card verdict", `document.querySelector("#answers article").className`, "an answer by steps, which are compared elsewhere");
     const { data } = await this.browser.send("Page.printToPDF", { preferCSSPageSize: true });
     const pages = Buffer.from(data, "base64").toString("latin1").match(/\/Type\s*\/Page\b(?!s)/g).length;
     this.compare(true, pages <= 2, `pages of paper of a verdict after six steps: ${pages}`);

@@ -30,8 +30,8 @@ const RULES = {
 };
 const NEXT = "What to do: the committee\u2019s operators remove this replica\u2019s keys from the next committee. Each of them can check this file anew, with this page or with hs_check.";
 const NOT_SAID = "What it does not say: why, or when. A replica with a stolen key, and one that was put back to a backup and voted again, look the same as one that lies.";
-const PROVES = "This proves, and no more, that the replica\u2019s keys in this committee come from those of its slot in the first committee by these steps, each of which a quorum of the committee before it committed. In a step that says new, its own key of the committee before signed for its next keys; where it says kept, they are the same. Where it says by hand, nobody signed for them: an operator was taken at his word there. Where it says absent, there is no such slot.";
-const RESTS_ON = "It rests on keys: whoever has old keys of a quorum of an earlier committee can make a second lineage, which looks as good from your committee\u2019s file alone. It also takes it that no two different files or headers have one SHA-256. So compare the newest chain id with somebody who followed the ledger.";
+const PROVES = "This proves, and no more, that the replica\u2019s keys in this committee come from those of its slot in the first committee by these steps, each of which a quorum of the committee before it committed. In a step that says new, its own key of the committee before signed for its next keys; where it says kept, they are the same. Where it says by hand, it is not shown that anybody signed for them: an operator was taken at his word there, or the renewal was left out. Where it says absent, there is no such slot.";
+const RESTS_ON = "It rests on keys: whoever has old keys of a quorum of an earlier committee can make a second lineage, which looks as good from your committee\u2019s file alone. It also takes it that no two different files or headers have one SHA-256. So compare the chain id of the verdict\u2019s committee with somebody who followed the ledger then. The newest one tells less: a second lineage may end in the same committee.";
 const BY_WHOM = "The verdict, each signature and each SHA-256 were judged by the proved checker. How a step hangs together was judged by lines of this page that are not proved: they were compared with hs_follow.";
 const STEP_SAYS = {
   2: "Its file is no committee\u2019s.",
@@ -168,6 +168,7 @@ function storyOf(found, said) {
 function acceptedOf({ found, said, place }, isCompared) {
   const { name, says } = RULES[found.rule];
   const accused = `replica ${found.replica}${place ? ` of the committee after step ${place}` : ""} broke rule ${found.rule}, ${name}`;
+  if (isCompared && place) return [`Accepted by the steps of a lineage: ${accused}, if that committee is the ledger\u2019s`, made("p", {}, storyOf(found, said), " ", says)];
   const answer = isCompared ? `\u2714 Accepted: ${accused}` : `Accepted under a committee that you have not compared: ${accused}, if it is yours`;
   return [answer, made("p", {}, storyOf(found, said), " ", says)];
 }
@@ -191,11 +192,10 @@ const linesOf = (name, lines) => made("div", { class: "lines id", role: "region"
 function stepsOf({ found, place }) {
   if (place === 0) return [made("p", {}, "It is of the committee that you picked: no step of the lineage was needed.")];
   const { judged } = lineage;
-  const newest = judged.steps.length;
   return [made("p", {}, "The steps from the first committee to this one:"), linesOf("Steps to the verdict\u2019s committee", judged.lines.slice(0, place)),
     made("p", {}, "The replica\u2019s slot in each of them:"), linesOf("The replica\u2019s slot in each step", judged.waysOf(found.replica, place)),
-    made("p", {}, PROVES), made("p", {}, `${RESTS_ON} Of the steps that were judged here it is that of step ${newest}:`),
-    chainOf(judged.committee(newest).chain), made("p", {}, BY_WHOM),
+    made("p", {}, PROVES), made("p", {}, `${RESTS_ON} It is that of step ${place}:`),
+    chainOf(judged.committee(place).chain), made("p", {}, BY_WHOM),
     made("p", { class: "soft" }, `SHA-256 of the file of the committee after step ${place}: `, idOf(checker.digest(judged.committee(place).text)))];
 }
 
@@ -221,7 +221,8 @@ function cardOf(verdict, number) {
   if (verdict.why !== null) return cardWith(verdict, number, "", "Not judged", made("p", {}, verdict.why));
   const isCompared = compared.is === "same";
   const isGood = verdict.found.answer === 0;
-  const colour = !isCompared ? "" : isGood ? "is-good" : "is-bad";
+  // Which committee came after others the reader has to compare elsewhere.
+  const colour = !isCompared || (isGood && verdict.place > 0) ? "" : isGood ? "is-good" : "is-bad";
   const card = cardWith(verdict, number, colour, ...(isGood ? acceptedOf(verdict, isCompared) : refusedOf(verdict, isCompared)));
   card.dataset.line = lineOf(verdict.found);
   if (verdict.said !== null) card.append(votesOf(verdict.said, isGood, isCompared));
@@ -239,7 +240,8 @@ function summaryOf() {
   const judged = verdicts.filter((it) => it.why === null);
   const good = judged.filter((it) => it.found.answer === 0);
   const accused = [...new Set(good.map((it) => it.found.replica))].sort((a, b) => a - b);
-  const whom = accused.length ? ` (${accused.length === 1 ? "replica" : "replicas"} ${listed(accused)})` : "";
+  const isOfOne = new Set(good.map((it) => it.place ?? 0)).size <= 1;
+  const whom = accused.length && isOfOne ? ` (${accused.length === 1 ? "replica" : "replicas"} ${listed(accused)})` : "";
   const left = verdicts.length - judged.length;
   return [`${good.length} accepted${whom}, ${judged.length - good.length} refused${left ? `, ${left} not judged` : ""}`, compared.is === "same"];
 }
