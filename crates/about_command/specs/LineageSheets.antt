@@ -54,7 +54,7 @@ ways_head = codes "\nThe replica's slot in each of them:\n\n"
 
 unfoldable pub proves_part : List ℕ
 proves_part =
-    codes "\nThis proves, and no more, that the replica's keys in this committee come from those of its slot\nin the first committee by these steps, each of which a quorum of the committee before it\ncommitted. In a step that says new, its own key of the committee before signed for its next\nkeys; where it says kept, they are the same. Where it says by hand, nobody signed for them: an\noperator was taken at his word there. Where it says absent, there is no such slot.\n"
+    codes "\nThis proves, and no more, that the replica's keys in this committee come from those of its slot\nin the first committee by these steps, each of which a quorum of the committee before it\ncommitted. In a step that says new, its own key of the committee before signed for its next\nkeys; where it says kept, they are the same. Where it says by hand, it is not shown that anybody\nsigned for them: an operator was taken at his word there, or the renewal is missing. Where it\nsays absent, there is no such slot.\n"
 
 abbrev pub lineage_part : List Step → ℕ → List ℕ
 lineage_part steps r = steps_head ++ (steps_text steps ++ (ways_head ++ (ways_upto steps r (length steps) ++ proves_part)))

@@ -105,7 +105,7 @@ fn put_proves(text: &mut Vec<u8>) -> Result<(), AllocError>
 {
     append(
         text,
-        b"\nThis proves, and no more, that the replica's keys in this committee come from those of its slot\nin the first committee by these steps, each of which a quorum of the committee before it\ncommitted. In a step that says new, its own key of the committee before signed for its next\nkeys; where it says kept, they are the same. Where it says by hand, nobody signed for them: an\noperator was taken at his word there. Where it says absent, there is no such slot.\n",
+        b"\nThis proves, and no more, that the replica's keys in this committee come from those of its slot\nin the first committee by these steps, each of which a quorum of the committee before it\ncommitted. In a step that says new, its own key of the committee before signed for its next\nkeys; where it says kept, they are the same. Where it says by hand, it is not shown that anybody\nsigned for them: an operator was taken at his word there, or the renewal is missing. Where it\nsays absent, there is no such slot.\n",
     )
 }
 

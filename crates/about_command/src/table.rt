@@ -269,7 +269,7 @@ hs_follow | step N refused NUMBER NAME | Step N is refused, by the test of this 
 hs_follow | step M is there without step N | The committee's file of step N is not in the folder, and that of step M is. | Put the files of the steps between into the folder, or remove those of step M and after it.\n\
 hs_show | step N slot R new | A key of the replica in the committee before signed for its keys after step N. | Nothing.\n\
 hs_show | step N slot R kept | The replica has the same keys after step N as before. | Nothing.\n\
-hs_show | step N slot R by hand | The replica has other keys after step N, and nobody signed for them. | Ask its operator whether the keys are theirs.\n\
+hs_show | step N slot R by hand | The replica has other keys after step N, and it is not shown that anybody signed for them. | Ask its operator whether the keys are theirs.\n\
 hs_show | step N slot R absent | The committee of step N has no such replica. | The steps prove nothing of its keys from before.\n\
 hs_show | fault lineage | Neither the first committee nor a good step of the lineage has the verdict's chain. | See by hs_follow --lineage how far the folder is good, and that the verdict is of this ledger.\n\
 hs_watch | commit V ID | It is proved that the block ID of view V was committed. | Nothing.\n\
