@@ -28,18 +28,18 @@ class Fault:
         return f"{self.kind} {self.words}"
 
 
-def plan(seed, seconds, count, faulty):
+def plan(seed, seconds, count, faulty, pause=PAUSE):
     """The faults of a seed, by their times from the start. Each kind comes once before one comes again."""
     chance, faults = random.Random(f"plan {seed}"), []
     for kinds in (NETWORK, PROCESSES):
-        at, left = chance.uniform(*PAUSE), []
+        at, left = chance.uniform(*pause), []
         while True:
             left = left or chance.sample(kinds, len(kinds))
             kind, last = left.pop(), chance.uniform(*LASTS)
             if at + last > seconds:
                 break
             faults.append(Fault(at, at + last, kind, words_of(chance, kind, count, faulty)))
-            at += last + chance.uniform(*PAUSE)
+            at += last + chance.uniform(*pause)
     return sorted(faults, key=lambda fault: fault.begin)
 
 
