@@ -6,35 +6,35 @@ use Rattle.std.proofs.Math.ListN.{get_or-append}
 use Rattle.ancestry.specs.Known.{Known, IsKnown, all_of}
 use Rattle.ancestry.specs.Links.{header_at, LeadsTo, HasNoParent, IsParentAt, IsLink, AreLinks, IsIndex, IsStep, IsEnd}
 use Rattle.ancestry.specs.Parents.{IsParent}
-use Rattle.ancestry.specs.declared.links.Link.{Link}
+use Rattle.ancestry.specs.declared.links.ChainLink.{ChainLink}
 use Rattle.ancestry.proofs.Ids.{apart, at_known}
 use Rattle.ancestry.proofs.Walks.{linked_genesis, linked_up, linked_down, linked_last, linked_through, linked_past, leads_to_itself}
 
 -- ---- reading and setting
 
-pub link_is : (known : Known) (links : List Link) (n : ℕ) (link : Link) → IsIndex known links → n ≤ length known.headers → link ≡ get_or links n link → IsLink known n link
+pub link_is : (known : Known) (links : List ChainLink) (n : ℕ) (link : ChainLink) → IsIndex known links → n ≤ length known.headers → link ≡ get_or links n link → IsLink known n link
 link_is known links n link is inside same =
     let count = is.count in
     let there : n < length links = omega arith in
-    subst (λ (l : Link). IsLink known n l) (sym same) (is.each n link there)
+    subst (λ (l : ChainLink). IsLink known n l) (sym same) (is.each n link there)
 
 -- a header without a jump jumps to itself
 pub leads_home : (known : Known) (n : ℕ) → LeadsTo known (header_at known n) (header_at known n)
 leads_home known n = linked_genesis (all_of known) (header_at known n) (at_known known n)
 
-pub links_push : (known : Known) (links : List Link) (n : ℕ) (link : Link) → length links ≡ n → AreLinks known links → IsLink known n link → AreLinks known (links ++ link ∷ [])
+pub links_push : (known : Known) (links : List ChainLink) (n : ℕ) (link : ChainLink) → length links ≡ n → AreLinks known links → IsLink known n link → AreLinks known (links ++ link ∷ [])
 links_push known links n link count each is k d inside =
     elim (cases_lt k (length links)) [
-      | inl before ↦ subst (λ (l : Link). IsLink known k l) (sym (get_or-append links (link ∷ []) d k before)) (each k d before)
+      | inl before ↦ subst (λ (l : ChainLink). IsLink known k l) (sym (get_or-append links (link ∷ []) d k before)) (each k d before)
       | inr behind ↦
           let long = length-append links (link ∷ []) in
           let last : k ≡ n = omega arith in
-          subst (λ (l : Link). IsLink known k l) (sym (get_or_push links link d k (count ∙ sym last)))
+          subst (λ (l : ChainLink). IsLink known k l) (sym (get_or_push links link d k (count ∙ sym last)))
           (subst (λ (j : ℕ). IsLink known j link) (sym last) is)
     ]
 
 -- a jump may end at each header to which the chain leads
-pub with_jump : (known : Known) (links : List Link) (n jump : ℕ) (old new : Link) → IsIndex known links → n ≤ length known.headers → old ≡ get_or links n old
+pub with_jump : (known : Known) (links : List ChainLink) (n jump : ℕ) (old new : ChainLink) → IsIndex known links → n ≤ length known.headers → old ≡ get_or links n old
     → new.parent ≡ old.parent → new.jump ≡ jump → jump ≤ length known.headers → LeadsTo known (header_at known n) (header_at known jump)
     → IsIndex known (set links n new)
 with_jump known links n jump old new is inside read kept ends jump_in leads =
@@ -54,11 +54,11 @@ with_jump known links n jump old new is inside read kept ends jump_in leads =
           elim (cases_eq k n) [
             | inl same ↦
                 subst (λ (j : ℕ). IsLink known j (get_or (set links n new) j d)) (sym same)
-                (subst (λ (l : Link). IsLink known n l) (sym (get_or-set_same links n new d there)) now)
+                (subst (λ (l : ChainLink). IsLink known n l) (sym (get_or-set_same links n new d there)) now)
             | inr other ↦
                 let long = length-set links n new in
                 let in_old : k < length links = omega arith in
-                subst (λ (l : Link). IsLink known k l) (sym (get_or-set_other links n k new d other)) (is.each k d in_old)
+                subst (λ (l : ChainLink). IsLink known k l) (sym (get_or-set_other links n k new d other)) (is.each k d in_old)
           ];
     }
 

@@ -5,7 +5,7 @@ use Rattle.blocks.specs.Headers.{Header}
 use Rattle.blocks.specs.Chains.{IsLinked}
 use Rattle.ancestry.specs.Known.{Known, IsKnown, all_of}
 use Rattle.ancestry.specs.Parents.{IsParent}
-use Rattle.ancestry.specs.declared.links.Link.{Link}
+use Rattle.ancestry.specs.declared.links.ChainLink.{ChainLink}
 
 -- the header at a position: those of the list, and behind them genesis
 abbrev pub header_at : Known → ℕ → Header
@@ -26,18 +26,18 @@ IsParentAt known n p =
     ⊎ (HasNoParent known (header_at known n) × ((header_at known n).view ≤ (header_at known p).view))
 
 -- the link of the header at n: to its parent, and to a header to which its chain leads
-pub record IsLink (known : Known) (n : ℕ) (link : Link) : Type 0 where
+pub record IsLink (known : Known) (n : ℕ) (link : ChainLink) : Type 0 where
   pub parent_in : link.parent ≤ length known.headers
   pub jump_in : link.jump ≤ length known.headers
   pub parent : IsParentAt known n link.parent
   pub jump : LeadsTo known (header_at known n) (header_at known link.jump)
 
 -- each of these links is that of the header at its position
-abbrev pub AreLinks : Known → List Link → Type 0
-AreLinks known links = (n : ℕ) (d : Link) → n < length links → IsLink known n (slice_index_or links n d)
+abbrev pub AreLinks : Known → List ChainLink → Type 0
+AreLinks known links = (n : ℕ) (d : ChainLink) → n < length links → IsLink known n (slice_index_or links n d)
 
 -- known headers, and a link for each of them
-pub record IsIndex (k : Known) (links : List Link) : Type 0 where
+pub record IsIndex (k : Known) (links : List ChainLink) : Type 0 where
   pub known : IsKnown k
   pub count : length links ≡ length k.headers + 1
   pub each : AreLinks k links

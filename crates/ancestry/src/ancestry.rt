@@ -8,7 +8,7 @@ ghost use Rattle.blocks.specs.Headers.{HasLowerId};
 ghost use Rattle.ancestry.specs.Known.{all_of, IsAloneAmong, IsKnown, IsLinkedId, IsAncestorId};
 ghost use Rattle.ancestry.specs.Links.{header_at, LeadsTo, IsLink, IsStep, IsEnd};
 
-use crate::links::{Link, by_view, links_of};
+use crate::links::{ChainLink, by_view, links_of};
 use crate::positions::{header_at, place_of, position_of};
 use blocks::{Id, NamedHeader};
 use std::alloc::{AllocError, Global};
@@ -20,7 +20,7 @@ use std::marker::Model;
 pub struct Ancestry {
     genesis: NamedHeader,
     headers: Vec<NamedHeader>,
-    links: Vec<Link>,
+    links: Vec<ChainLink>,
 }
 
 impl Model for Ancestry {
@@ -162,7 +162,7 @@ impl Ancestry {
     }
 
     // The link of the header at this position.
-    fn link(&self, at: usize) -> Link
+    fn link(&self, at: usize) -> ChainLink
         requires { at ≤ length self.now.headers }
         ensures link { IsLink self.now at result }
         ensures known { IsKnown self.now }

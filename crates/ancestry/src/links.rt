@@ -11,7 +11,7 @@ use std::alloc::{AllocError, Global};
 
 /// How the chain of a header goes on. Both are the header's own position where its parent is not known.
 #[derive(Clone, Copy)]
-pub(crate) struct Link {
+pub(crate) struct ChainLink {
     /// The position of its parent.
     pub(crate) parent: usize,
     /// The position of its parent or of a header farther down its chain.
@@ -52,7 +52,7 @@ pub(crate) fn links_of(
     alloc: Global,
     genesis: &NamedHeader,
     headers: &[NamedHeader],
-) -> Result<Vec<Link>, AllocError>
+) -> Result<Vec<ChainLink>, AllocError>
     requires { IsKnown (record { genesis = genesis.now; headers = headers.now }) }
     ensures { IfOk result (λ links.
         IsIndex (record { genesis = genesis.now; headers = headers.now }) links.items) }
@@ -60,7 +60,7 @@ pub(crate) fn links_of(
     let mut links = Vec::with_capacity(alloc, headers.len() + 1)?;
     for at in 0..headers.len() + 1 {
         let parent = parent_of(genesis, headers, at);
-        links.push(Link { parent, jump: at })?;
+        links.push(ChainLink { parent, jump: at })?;
     }
     Ok(links)
 }

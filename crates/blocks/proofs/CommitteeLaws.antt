@@ -16,10 +16,10 @@ use Rattle.byteorder.specs.Endian.{big_bytes}
 use Rattle.lms_tree.specs.Keys.{IsPublicKey}
 use Rattle.lms_tree.specs.declared.public_key.PublicKey.{PublicKey}
 use Rattle.lms_tree.specs.declared.public_key.KeyRefusal.{KeyRefusal}
-use Rattle.wire.specs.Pieces.{piece, number_at, AreBytes}
-use Rattle.wire.specs.Refusals.{first_of}
-use Rattle.wire.proofs.Numbers.{taken, front, behind, length-piece, piece-number_at, number_again, number_below}
-use Rattle.wire.proofs.Needs.{need_ok, need_true, unless_ok}
+use Rattle.base_wire.specs.Pieces.{piece, number_at, AreBytes}
+use Rattle.base_wire.specs.Refusals.{first_of}
+use Rattle.base_wire.proofs.Numbers.{taken, front, behind, length-piece, piece-number_at, number_again, number_below}
+use Rattle.base_wire.proofs.Needs.{need_ok, need_true, unless_ok}
 use Rattle.blocks.proofs.FirstsMore.{none_at, none_of, unless_none, else_none, both_none}
 use Rattle.blocks.specs.declared.committee.CommitteeRefusal.{CommitteeRefusal}
 use Rattle.blocks.specs.declared.committee.CommitteeRefusal.TheVariants.{Length, Magic, Size, KeyCount, Key, SameKey, Weight}

@@ -2,7 +2,7 @@
 use Rattle.std.proofs.Common.{◌≡◌, ℕ, zero, suc, ◌<◌, Option, Some, None, refl, subst, arith, inl, inr}
 use Rattle.std.proofs.lemmas.Bool.{cases_lt}
 use Rattle.std.specs.Prelude.{Result}
-use Rattle.wire.specs.Refusals.{first_of, or_else, unless}
+use Rattle.base_wire.specs.Refusals.{first_of, or_else, unless}
 
 -- neither of the two answers
 pub both_none : {R : Type 0} (a b : Option R) → or_else a b ≡ None → (a ≡ None) × (b ≡ None)

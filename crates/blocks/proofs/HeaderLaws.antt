@@ -5,9 +5,9 @@ use Rattle.std.specs.Cmp.Lexicographic.{same_text}
 use Rattle.std.proofs.lemmas.Bool.{eqb-true, eq-eqb}
 use Rattle.std.proofs.lemmas.Bool.Decides.{nat_tests}
 use Rattle.std.proofs.lemmas.List.{take_at, drop_at, take_all, length-append}
-use Rattle.wire.specs.Pieces.{piece, number_at, AreBytes}
-use Rattle.wire.proofs.Numbers.{taken, cut_last, length-piece, piece-number_at, number_again, number_below}
-use Rattle.wire.proofs.Needs.{need_ok, need_true, ok_is}
+use Rattle.base_wire.specs.Pieces.{piece, number_at, AreBytes}
+use Rattle.base_wire.proofs.Numbers.{taken, cut_last, length-piece, piece-number_at, number_again, number_below}
+use Rattle.base_wire.proofs.Needs.{need_ok, need_true, ok_is}
 use Rattle.blocks.specs.declared.header.HeaderRefusal.{HeaderRefusal}
 use Rattle.blocks.specs.declared.header.HeaderRefusal.TheVariants.{Length, ViewOrder}
 use Rattle.blocks.specs.HeaderReading.{are_in_order, header_at, header_in}

@@ -1,8 +1,8 @@
 -- Reading a committee from left to right, with the first refusal that is met.
 use Rattle.std.specs.Prelude.{◌<◌, ◌≤◌, ◌==◌, ◌&&◌, ◌||◌, ◌+◌, ◌-◌, ◌*◌, ℕ, Bool, List, length, nat_le, codes, replicate, Option, Some, None, Result, Ok, if◌then◌else◌}
 use Rattle.std.specs.Str.{bytes_eq}
-use Rattle.wire.specs.Pieces.{piece, number_at}
-use Rattle.wire.specs.Refusals.{first_of, need, or_else, unless}
+use Rattle.base_wire.specs.Pieces.{piece, number_at}
+use Rattle.base_wire.specs.Refusals.{first_of, need, or_else, unless}
 use Rattle.blocks.specs.declared.committee.CommitteeRefusal.{CommitteeRefusal}
 use Rattle.blocks.specs.declared.committee.CommitteeRefusal.TheVariants.{Length, Magic, Size, KeyCount, Key, SameKey, Weight}
 use Rattle.blocks.specs.Committees.{has_weights, n_of, place_of, room_of, weight_at, keys_of, key_place, key_at}

@@ -6,8 +6,8 @@ use Rattle.std.specs.List.{All, AllPairs, concat, flat_map}
 use Rattle.std.specs.Str.{bytes_eq}
 use Rattle.byteorder.specs.Endian.{big_bytes}
 use Rattle.lms_tree.specs.Keys.{IsPublicKey}
-use Rattle.wire.specs.Pieces.{piece, number_at}
-use Rattle.wire.specs.declared.limits.TheConstants.{MOST_KEYS}
+use Rattle.base_wire.specs.Pieces.{piece, number_at}
+use Rattle.base_wire.specs.declared.limits.TheConstants.{MOST_KEYS}
 
 -- a replica of a committee: how much it counts, and its public keys of 56 bytes each
 pub record Member : Type 0 where

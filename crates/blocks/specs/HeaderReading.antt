@@ -1,8 +1,8 @@
 -- Reading a header from left to right, with the first refusal that is met.
 use Rattle.std.specs.Prelude.{◌==◌, ◌&&◌, ◌||◌, ℕ, List, Bool, length, codes, nat_lt, Result, Ok}
 use Rattle.std.specs.Str.{bytes_eq}
-use Rattle.wire.specs.Pieces.{piece, number_at}
-use Rattle.wire.specs.Refusals.{need}
+use Rattle.base_wire.specs.Pieces.{piece, number_at}
+use Rattle.base_wire.specs.Refusals.{need}
 use Rattle.blocks.specs.Headers.{Header}
 use Rattle.blocks.specs.declared.header.HeaderRefusal.{HeaderRefusal}
 use Rattle.blocks.specs.declared.header.HeaderRefusal.TheVariants.{Length, Magic, ViewOrder}

@@ -4,8 +4,8 @@ ghost use Rattle.std.specs.Prelude.{ℕ, Bool, true, ◌≡◌, ◌&&◌, ◌+�
 ghost use Rattle.std.specs.List.{All, concat};
 ghost use Rattle.std.specs.Str.{bytes_eq};
 ghost use Rattle.lms_tree.specs.Tree.{key_text};
-ghost use Rattle.wire.specs.Pieces.{AreBytes};
-ghost use Rattle.wire.specs.Refusals.{first_of};
+ghost use Rattle.base_wire.specs.Pieces.{AreBytes};
+ghost use Rattle.base_wire.specs.Refusals.{first_of};
 ghost use Rattle.blocks.specs.CommitteeReading.{CountsFit, is_key, is_count, unused_at, are_zeros, bad_count, key_number, bad_key, bad_key_of, same_key, same_key_of, twin_of, first_twin_of, no_weight, has_size, committee_in, committee_refusal_number};
 ghost use Rattle.blocks.specs.Committees.{IsCommittee, WhereSpelled, HaveOneKey, committee_text, weighted_text, multikey_text, member_text, multikey_member_text, slots_text, has_many_keys, has_weights, n_of, place_of, weight_at, room_of, keys_of, key_place, key_at, key_id_at, root_at};
 ghost use Rattle.blocks.specs.Weights.{Decides, total_of, quorum_of, weight_of, is_any};
@@ -13,11 +13,11 @@ ghost use Rattle.blocks.specs.Genesis.{genesis_of, chain_id_of};
 ghost use Rattle.blocks.specs.Headers.{IsGenesis};
 
 use crate::header::{Header, Id, NamedHeader};
+use base_wire::{MOST_KEYS, array_at, u16_at, u32_at};
 use lms_tree::{PUBLIC_KEY_LEN, PublicKey};
 use sha2::{Digest, Sha256};
 use std::alloc::{AllocError, Global};
 use std::marker::Model;
-use wire::{MOST_KEYS, array_at, u16_at, u32_at};
 
 /// The length of a weight, in bytes.
 const WEIGHT_LEN: usize = 4;
@@ -248,7 +248,7 @@ fn has_count(bytes: &[u8], r: u16) -> bool
 }
 
 // The least replica that has not.
-#[tactic(auto, using(wire::proofs::Firsts::first_none, wire::proofs::Firsts::first_more, wire::proofs::Firsts::first_at))]
+#[tactic(auto, using(base_wire::proofs::Firsts::first_none, base_wire::proofs::Firsts::first_more, base_wire::proofs::Firsts::first_at))]
 fn bad_count(bytes: &[u8], n: u16) -> Option<CommitteeRefusal>
     requires { place_of bytes.now n ≤ length bytes.now }
     ensures { result ≡ first_of (bad_count bytes.now) n }
@@ -270,7 +270,7 @@ fn is_key(key: &[u8]) -> bool
 }
 
 // The first key of replica r that is no public key.
-#[tactic(auto, using(wire::proofs::Firsts::first_none, wire::proofs::Firsts::first_more, wire::proofs::Firsts::first_at))]
+#[tactic(auto, using(base_wire::proofs::Firsts::first_none, base_wire::proofs::Firsts::first_more, base_wire::proofs::Firsts::first_at))]
 fn bad_key_of(bytes: &[u8], r: u16) -> Option<CommitteeRefusal>
     requires place { place_of bytes.now (r + 1) ≤ length bytes.now }
     requires few { r < 2 ^ 13 }
@@ -286,7 +286,7 @@ fn bad_key_of(bytes: &[u8], r: u16) -> Option<CommitteeRefusal>
 }
 
 // The first key of all that is no public key.
-#[tactic(auto, using(wire::proofs::Firsts::first_none, wire::proofs::Firsts::first_more, wire::proofs::Firsts::first_at))]
+#[tactic(auto, using(base_wire::proofs::Firsts::first_none, base_wire::proofs::Firsts::first_more, base_wire::proofs::Firsts::first_at))]
 fn bad_key(bytes: &[u8], n: u16) -> Option<CommitteeRefusal>
     requires place { place_of bytes.now n ≤ length bytes.now }
     requires few { n ≤ 2 ^ 13 }
@@ -309,7 +309,7 @@ struct Slot {
 }
 
 // The refusal of a key that is the same as an earlier one, the first of `count` keys of replica r.
-#[tactic(auto, using(wire::proofs::Firsts::first_none, wire::proofs::Firsts::first_more, wire::proofs::Firsts::first_at))]
+#[tactic(auto, using(base_wire::proofs::Firsts::first_none, base_wire::proofs::Firsts::first_more, base_wire::proofs::Firsts::first_at))]
 fn same_key(bytes: &[u8], of: Slot, r: u16, count: u32) -> Option<CommitteeRefusal>
     requires place { place_of bytes.now (of.replica + 1) ≤ length bytes.now }
     requires few { of.replica < 2 ^ 13 }
@@ -329,7 +329,7 @@ fn same_key(bytes: &[u8], of: Slot, r: u16, count: u32) -> Option<CommitteeRefus
 }
 
 // The earliest key before this one that is the same.
-#[tactic(auto, using(wire::proofs::Firsts::first_none, wire::proofs::Firsts::first_more, wire::proofs::Firsts::first_at))]
+#[tactic(auto, using(base_wire::proofs::Firsts::first_none, base_wire::proofs::Firsts::first_more, base_wire::proofs::Firsts::first_at))]
 fn twin_of(bytes: &[u8], of: Slot) -> Option<CommitteeRefusal>
     requires place { place_of bytes.now (of.replica + 1) ≤ length bytes.now }
     requires few { of.replica < 2 ^ 13 }
@@ -347,7 +347,7 @@ fn twin_of(bytes: &[u8], of: Slot) -> Option<CommitteeRefusal>
 }
 
 // The first key of a replica that stands earlier too.
-#[tactic(auto, using(wire::proofs::Firsts::first_none, wire::proofs::Firsts::first_more, wire::proofs::Firsts::first_at))]
+#[tactic(auto, using(base_wire::proofs::Firsts::first_none, base_wire::proofs::Firsts::first_more, base_wire::proofs::Firsts::first_at))]
 fn first_twin_of(bytes: &[u8], replica: u16) -> Option<CommitteeRefusal>
     requires place { place_of bytes.now (replica + 1) ≤ length bytes.now }
     requires few { replica < 2 ^ 13 }
@@ -363,7 +363,7 @@ fn first_twin_of(bytes: &[u8], replica: u16) -> Option<CommitteeRefusal>
 }
 
 // The first key of all that stands earlier too.
-#[tactic(auto, using(wire::proofs::Firsts::first_none, wire::proofs::Firsts::first_more, wire::proofs::Firsts::first_at))]
+#[tactic(auto, using(base_wire::proofs::Firsts::first_none, base_wire::proofs::Firsts::first_more, base_wire::proofs::Firsts::first_at))]
 fn first_twin(bytes: &[u8], n: u16) -> Option<CommitteeRefusal>
     requires place { place_of bytes.now n ≤ length bytes.now }
     requires few { n ≤ 2 ^ 13 }
@@ -379,7 +379,7 @@ fn first_twin(bytes: &[u8], n: u16) -> Option<CommitteeRefusal>
 }
 
 // The least replica that has no weight.
-#[tactic(auto, using(wire::proofs::Firsts::first_none, wire::proofs::Firsts::first_more, wire::proofs::Firsts::first_at))]
+#[tactic(auto, using(base_wire::proofs::Firsts::first_none, base_wire::proofs::Firsts::first_more, base_wire::proofs::Firsts::first_at))]
 fn first_without_weight(bytes: &[u8], n: u16) -> Option<CommitteeRefusal>
     requires { place_of bytes.now n ≤ length bytes.now }
     ensures { result ≡ first_of (no_weight bytes.now) n }

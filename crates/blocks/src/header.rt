@@ -4,9 +4,9 @@ ghost use Rattle.std.specs.Prelude.{◌≡◌, ◌↔◌, Ok, IfOk, IsTrue, ℕ}
 ghost use Rattle.blocks.specs.HeaderReading.{header_in, header_refusal_number};
 ghost use Rattle.blocks.specs.Headers.{Header as HeaderValue, IsHeader, NamesParent, header_id, header_text};
 
+use base_wire::{array_at, put, u64_at};
 use sha2::{Digest, Sha256};
 use std::marker::Model;
-use wire::{array_at, put, u64_at};
 
 /// The id of a block: the SHA-256 digest of its header's bytes.
 pub type Id = [u8; 32];

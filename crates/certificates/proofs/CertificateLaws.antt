@@ -8,9 +8,9 @@ use Rattle.std.proofs.lemmas.List.Concat.{flat_map-append, flat_map-cons}
 use Rattle.std.proofs.lemmas.List.Elements.{All-head, All-tail, All-nil, All-push}
 use Rattle.std.proofs.Math.Seq.{take-suc}
 use Rattle.byteorder.specs.Endian.{big_bytes}
-use Rattle.wire.specs.Pieces.{piece, number_at, AreBytes}
-use Rattle.wire.proofs.Numbers.{taken, cut_last, length-piece, piece-number_at, number_again, number_below}
-use Rattle.wire.proofs.Needs.{need_ok, need_true, ok_is}
+use Rattle.base_wire.specs.Pieces.{piece, number_at, AreBytes}
+use Rattle.base_wire.proofs.Numbers.{taken, cut_last, length-piece, piece-number_at, number_again, number_below}
+use Rattle.base_wire.proofs.Needs.{need_ok, need_true, ok_is}
 use Rattle.certificates.specs.declared.certificate.Endorsement.{Endorsement}
 use Rattle.certificates.specs.declared.certificate.CertificateRefusal.{CertificateRefusal}
 use Rattle.certificates.specs.declared.certificate.CertificateRefusal.TheVariants.{Length, Order, Count}

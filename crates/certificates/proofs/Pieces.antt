@@ -3,7 +3,7 @@ use Rattle.std.proofs.Common.{◌≡◌, ℕ, ◌+◌, ◌<◌, List, [], ◌∷
 use Rattle.std.specs.Prelude.{slice_index}
 use Rattle.std.proofs.lemmas.List.{drop_more, get_or-drop}
 use Rattle.std.proofs.Math.Seq.{take-add}
-use Rattle.wire.specs.Pieces.{piece}
+use Rattle.base_wire.specs.Pieces.{piece}
 
 pub two_pieces : (bytes : List ℕ) (at m n : ℕ) → piece m bytes at ++ piece n bytes (at + m) ≡ piece (m + n) bytes at
 two_pieces bytes at m n = ap (λ (r : List ℕ). piece m bytes at ++ take n r) (sym (drop-drop m at bytes)) ∙ sym (take-add m n (drop at bytes))

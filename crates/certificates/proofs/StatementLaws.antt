@@ -1,8 +1,8 @@
 -- The parts of a statement stand in its bytes.
 use Rattle.std.proofs.Common.{◌≡◌, ◌<◌, ◌^◌, ◌++◌, ℕ, List, length, drop, refl, sym, ap, ◌∙◌}
 use Rattle.byteorder.specs.Endian.{big_bytes}
-use Rattle.wire.specs.Pieces.{piece, number_at}
-use Rattle.wire.proofs.Numbers.{behind, front, number_again}
+use Rattle.base_wire.specs.Pieces.{piece, number_at}
+use Rattle.base_wire.proofs.Numbers.{behind, front, number_again}
 use Rattle.certificates.specs.Statements.{statement_text, StatementsHaveOneSpelling}
 
 record HasParts (text c : List ℕ) (v : ℕ) (i : List ℕ) : Type 0 where

@@ -1,7 +1,7 @@
 -- Reading a certificate from left to right, with the first refusal that is met.
 use Rattle.std.specs.Prelude.{◌==◌, ◌&&◌, ◌+◌, ◌*◌, ◌++◌, ℕ, zero, suc, Bool, true, List, [], ◌∷◌, length, slice_index, nat_le, nat_lt, Result, Ok, if◌then◌else◌}
-use Rattle.wire.specs.Pieces.{piece, number_at}
-use Rattle.wire.specs.Refusals.{need}
+use Rattle.base_wire.specs.Pieces.{piece, number_at}
+use Rattle.base_wire.specs.Refusals.{need}
 use Rattle.certificates.specs.declared.certificate.Endorsement.{Endorsement}
 use Rattle.certificates.specs.declared.certificate.CertificateRefusal.{CertificateRefusal}
 use Rattle.certificates.specs.declared.certificate.CertificateRefusal.TheVariants.{Memory, Length, Order, Count}

@@ -1,6 +1,6 @@
 -- Why a vote is refused: the tests of `check_vote` in their order.
 use Rattle.std.specs.Prelude.{◌<◌, ℕ, List, [], ◌∷◌}
-use Rattle.wire.specs.Refusals.{IsFirst}
+use Rattle.base_wire.specs.Refusals.{IsFirst}
 use Rattle.blocks.specs.Committees.{n_of, keys_of}
 use Rattle.certificates.specs.declared.vote.SignedVote.{SignedVote}
 use Rattle.certificates.specs.declared.vote.VoteRefusal.{VoteRefusal}

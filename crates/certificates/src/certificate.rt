@@ -8,11 +8,11 @@ ghost use Rattle.certificates.specs.declared.certificate.CertificateRefusal.TheV
 ghost use Rattle.certificates.specs.declared.certificate.TheConstants.{ENDORSEMENT_LEN};
 
 use crate::vote::SignedVote;
+use base_wire::{array_at, u16_at, u64_at};
 use blocks::{Ballot, Id};
 use lms_tree::{SIGNATURE_LEN, Signature};
 use std::alloc::{AllocError, AllocFailed, Global};
 use std::marker::Model;
-use wire::{array_at, u16_at, u64_at};
 
 /// The length in bytes of what stands before the entries: the view, the id and the count.
 pub const CERTIFICATE_HEAD_LEN: usize = 8 + 32 + 2;

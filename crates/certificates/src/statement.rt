@@ -3,8 +3,8 @@
 ghost use Rattle.std.specs.Prelude.{◌≡◌};
 ghost use Rattle.certificates.specs.Statements.{statement_text, StatementsHaveOneSpelling};
 
+use base_wire::put;
 use blocks::Id;
-use wire::put;
 
 /// The length of a statement in bytes.
 pub const STATEMENT_LEN: usize = 76;
@@ -19,7 +19,7 @@ pub struct Statement {
 
 impl Statement {
     /// The 76 bytes that are signed: `HSV1`, the chain id at 4, the view at 36, the block's id at 44.
-    #[tactic(auto, using(wire::proofs::Numbers::filled), unfolding(crate::specs::Statements::statement_text))]
+    #[tactic(auto, using(base_wire::proofs::Numbers::filled), unfolding(crate::specs::Statements::statement_text))]
     pub fn to_bytes(&self) -> [u8; 76]
         ensures { result ≡ statement_text self.now.chain self.now.view self.now.id }
     {

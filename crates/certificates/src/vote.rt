@@ -7,9 +7,9 @@ ghost use Rattle.certificates.specs.VoteChecks.{IsVoteRefusal, vote_refusal_numb
 ghost use Rattle.certificates.specs.Votes.{IsGoodVote, IsSignedBy, ballot_of, vote_text};
 
 use crate::statement::Statement;
+use base_wire::put;
 use blocks::{Ballot, CommitteeView, Id};
 use lms_tree::{PublicKey, SIGNATURE_LEN, Signature, verify};
-use wire::put;
 
 /// The length in bytes of a vote that leaves its replica to what it stands in: the number of the key, the view, the
 /// block's id and the signature.
@@ -46,7 +46,7 @@ impl SignedVote {
 
     /// The bytes of the vote: its replica (2 bytes at 0), its key (1 at 2), its view (8 at 3), its block's id (32 at 11)
     /// and its signature (from 43 on).
-    #[tactic(auto, using(wire::proofs::Numbers::filled), unfolding(crate::specs::Votes::vote_text))]
+    #[tactic(auto, using(base_wire::proofs::Numbers::filled), unfolding(crate::specs::Votes::vote_text))]
     pub fn to_bytes(&self) -> [u8; VOTE_LEN]
         ensures { result ≡ vote_text self.now }
     {

@@ -7,11 +7,11 @@ use Rattle.blocks.specs.Headers.{Header, HasLowerId, header_id}
 use Rattle.blocks.specs.Rules.{IsDoubleVote}
 use Rattle.ancestry.proofs.Ids.{apart_in}
 use Rattle.certificates.specs.declared.vote.SignedVote.{SignedVote}
-use Rattle.evidence.specs.Evidence.{Evidence, IsEvidence, IsNotBelowParent}
+use Rattle.audit_evidence.specs.Evidence.{Evidence, IsEvidence, IsNotBelowParent}
 use Rattle.verdict_format.specs.declared.parts.Shown.TheVariants.{DoubleVote, LockViolation}
 use Rattle.verdict_format.specs.Verdicts.{VotedHeaders}
 use Rattle.certificates.specs.Votes.{ballot_of}
-use Rattle.commit_search.specs.Culprits.{BreakARule}
+use Rattle.audit_commits.specs.Culprits.{BreakARule}
 use Rattle.culprit_search.specs.Searches.{IsFoundAt, IsNoViolation, NoneIsAt, ShowsViolation}
 
 -- where ids rise one header at most has an id

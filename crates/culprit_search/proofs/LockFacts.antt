@@ -4,7 +4,7 @@ use Rattle.std.specs.List.{All}
 use Rattle.std.proofs.lemmas.List.Elements.{All-more, All-nil, All-weaker}
 use Rattle.blocks.specs.Headers.{Header}
 use Rattle.certificates.specs.declared.vote.SignedVote.{SignedVote}
-use Rattle.evidence.specs.Evidence.{Evidence, IsEvidence}
+use Rattle.audit_evidence.specs.Evidence.{Evidence, IsEvidence}
 use Rattle.culprit_search.specs.declared.locks.Locks.{Locks}
 use Rattle.culprit_search.specs.Searches.{FirstHaveNoLockAbove, HasNoLockAbove, IsFoundAt, IsLockView, NoneIsAt, ShowsNoLock}
 use Rattle.culprit_search.proofs.Breaches.{only_one}

@@ -7,10 +7,10 @@ use Rattle.std.proofs.lemmas.List.Elements.{All-push, All-nil, Contains-append_l
 use Rattle.std.proofs.lemmas.List.Quantifiers.{all_pairs_push}
 use Rattle.blocks.specs.Committees.{n_of}
 use Rattle.ancestry.proofs.Walks.{not_in_none}
-use Rattle.evidence.specs.Evidence.{Evidence, IsEvidence}
+use Rattle.audit_evidence.specs.Evidence.{Evidence, IsEvidence}
 use Rattle.verdict_format.specs.Proofs.{IsProof}
 use Rattle.verdict_format.specs.Verdicts.{replica_in}
-use Rattle.commit_search.specs.Culprits.{AreCulprits, IsCulprit}
+use Rattle.audit_commits.specs.Culprits.{AreCulprits, IsCulprit}
 use Rattle.culprit_search.specs.Verdicts.{Accuses, AreVerdicts, IsOnLowerReplica}
 use Rattle.culprit_search.proofs.Written.{accused}
 

@@ -17,7 +17,7 @@ use Rattle.std.proofs.lemmas.Map.Lookups.{exact_bytes}
 use Rattle.std.proofs.lemmas.Slice.Eq.{bytes_eq-Decides}
 use Rattle.blocks.specs.Headers.{Header}
 use Rattle.certificates.specs.declared.vote.SignedVote.{SignedVote}
-use Rattle.evidence.specs.Evidence.{Evidence, IsEvidence}
+use Rattle.audit_evidence.specs.Evidence.{Evidence, IsEvidence}
 use Rattle.certificates.specs.VoteOrder.{IsLowerVote}
 use Rattle.verdict_format.specs.declared.parts.Shown.TheVariants.{DoubleVote, LockViolation}
 use Rattle.culprit_search.specs.Searches.{AreByOne, AreOwnVotes, BeginsAt, EndsAt, HasNoLockAbove, IsFoundAt, IsOnParentBelow, LowerHaveNoLockAbove, NoneBreaksWith, NoneIsDouble, StandBetween}

@@ -5,10 +5,10 @@ use Rattle.std.specs.List.{All, AllPairs, Contains}
 use Rattle.std.proofs.lemmas.List.{take_all}
 use Rattle.std.proofs.lemmas.List.Elements.{All-contains, All-weaker}
 use Rattle.certificates.specs.declared.vote.SignedVote.{SignedVote}
-use Rattle.evidence.specs.Evidence.{Evidence}
+use Rattle.audit_evidence.specs.Evidence.{Evidence}
 use Rattle.certificates.specs.VoteOrder.{IsLowerVote}
 use Rattle.verdict_format.specs.declared.parts.Shown.{Shown}
-use Rattle.commit_search.specs.Culprits.{BreakARule, IsCulprit, IsNamedPair, IsVoteAtMost, Shows}
+use Rattle.audit_commits.specs.Culprits.{BreakARule, IsCulprit, IsNamedPair, IsVoteAtMost, Shows}
 use Rattle.culprit_search.specs.declared.pairs.Offence.{Offence}
 use Rattle.culprit_search.specs.Searches.{AreOwnVotes, IsLeastAgainst, IsLeastPair, NoTwoBreak, NoneBreaksWith}
 use Rattle.culprit_search.proofs.VotesInOrder.{first_is_least}

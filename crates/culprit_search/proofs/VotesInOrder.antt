@@ -10,7 +10,7 @@ use Rattle.std.proofs.lemmas.Bool.Decides.{nat_tests}
 use Rattle.std.proofs.lemmas.List.{get_or-take, get_or-drop, get_or_default, length-take, length-drop, length-take-le}
 use Rattle.std.proofs.lemmas.List.Elements.{All-contains}
 use Rattle.certificates.specs.declared.vote.SignedVote.{SignedVote}
-use Rattle.evidence.specs.Evidence.{Evidence}
+use Rattle.audit_evidence.specs.Evidence.{Evidence}
 use Rattle.certificates.specs.VoteOrder.{IsLowerVote}
 use Rattle.culprit_search.specs.Searches.{AreOwnVotes}
 

@@ -6,7 +6,7 @@ use Rattle.blocks.specs.declared.ballot.Ballot.{Ballot}
 use Rattle.blocks.specs.Rules.{IsDoubleVote}
 use Rattle.certificates.specs.Votes.{IsGoodVote}
 use Rattle.certificates.specs.declared.vote.SignedVote.{SignedVote}
-use Rattle.evidence.specs.Evidence.{Evidence, IsEvidence}
+use Rattle.audit_evidence.specs.Evidence.{Evidence, IsEvidence}
 use Rattle.verdict_format.specs.declared.parts.BoundVote.{BoundVote}
 use Rattle.verdict_format.specs.declared.parts.VerdictParts.{VerdictParts}
 use Rattle.verdict_format.specs.Proofs.{IsLockViolationBy, IsProof}
@@ -15,7 +15,7 @@ use Rattle.verdict_format.specs.declared.parts.Shown.TheVariants.{DoubleVote, Lo
 use Rattle.verdict_format.specs.VerdictText.{IsVerdictOf, shown_of, verdict_kind, parts_in}
 use Rattle.verdict_format.specs.Verdicts.{VotedHeaders, earlier_in, headers_in, later_in, verdict_kind_in, replica_in}
 use Rattle.verdict_format.proofs.VerdictLaws.{kind_again, verdict_again}
-use Rattle.commit_search.specs.Culprits.{IsNamedPair, Shows}
+use Rattle.audit_commits.specs.Culprits.{IsNamedPair, Shows}
 use Rattle.culprit_search.specs.Verdicts.{Accuses, parts_of}
 
 abbrev vote_in : BoundVote → Ballot

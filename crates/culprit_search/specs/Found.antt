@@ -4,9 +4,9 @@ use Rattle.std.specs.List.{All, Contains}
 use Rattle.ancestry.specs.Known.{all_of}
 use Rattle.blocks.specs.Committees.{IsCommittee}
 use Rattle.blocks.specs.Weights.{committee_of}
-use Rattle.commit_search.specs.Chosen.{AreCertifiedHeaders}
-use Rattle.commit_search.specs.Commits.{AreProvedCommits}
-use Rattle.evidence.specs.Evidence.{Evidence, IsEvidence}
+use Rattle.audit_commits.specs.Chosen.{AreCertifiedHeaders}
+use Rattle.audit_commits.specs.Commits.{AreProvedCommits}
+use Rattle.audit_evidence.specs.Evidence.{Evidence, IsEvidence}
 use Rattle.culprit_search.specs.declared.auditing.Searched.{Searched}
 
 -- the index of the certified headers of this evidence, and all of its proved commits

@@ -5,11 +5,11 @@ use Rattle.blocks.specs.Headers.{Header, header_id}
 use Rattle.blocks.specs.Rules.{IsDoubleVote}
 use Rattle.certificates.specs.Votes.{ballot_of}
 use Rattle.certificates.specs.declared.vote.SignedVote.{SignedVote}
-use Rattle.evidence.specs.Evidence.{Evidence}
+use Rattle.audit_evidence.specs.Evidence.{Evidence}
 use Rattle.certificates.specs.VoteOrder.{IsLowerVote}
 use Rattle.verdict_format.specs.declared.parts.Shown.TheVariants.{LockViolation}
 use Rattle.verdict_format.specs.Verdicts.{VotedHeaders}
-use Rattle.commit_search.specs.Culprits.{BreakARule, IsVoteAtMost, Shows}
+use Rattle.audit_commits.specs.Culprits.{BreakARule, IsVoteAtMost, Shows}
 use Rattle.culprit_search.specs.declared.locks.Locks.{Locks}
 use Rattle.culprit_search.specs.declared.pairs.Offence.{Offence}
 

@@ -3,13 +3,13 @@ use Rattle.std.specs.Prelude.{◌<◌, ℕ, List}
 use Rattle.std.specs.List.{AllPairs, Contains}
 use Rattle.blocks.specs.Genesis.{chain_id_of}
 use Rattle.certificates.specs.declared.vote.SignedVote.{SignedVote}
-use Rattle.evidence.specs.Evidence.{Evidence}
+use Rattle.audit_evidence.specs.Evidence.{Evidence}
 use Rattle.verdict_format.specs.declared.parts.BoundVote.{BoundVote}
 use Rattle.verdict_format.specs.declared.parts.Shown.{Shown}
 use Rattle.verdict_format.specs.declared.parts.VerdictParts.{VerdictParts}
 use Rattle.verdict_format.specs.VerdictText.{IsVerdictOf}
 use Rattle.verdict_format.specs.Verdicts.{replica_in}
-use Rattle.commit_search.specs.Culprits.{IsCulprit, IsNamedPair, Shows}
+use Rattle.audit_commits.specs.Culprits.{IsCulprit, IsNamedPair, Shows}
 use Rattle.culprit_search.specs.declared.pairs.Offence.{Offence}
 
 -- a vote without its replica

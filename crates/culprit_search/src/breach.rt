@@ -2,14 +2,14 @@
 
 ghost use Rattle.std.specs.Prelude.{◌≡◌, ◌↔◌, IsTrue, MatchOption};
 ghost use Rattle.blocks.specs.Rules.{IsDoubleVote};
-ghost use Rattle.evidence.specs.Evidence.{IsEvidence};
+ghost use Rattle.audit_evidence.specs.Evidence.{IsEvidence};
 ghost use Rattle.certificates.specs.Votes.{ballot_of};
-ghost use Rattle.commit_search.specs.Culprits.{BreakARule, Shows};
+ghost use Rattle.audit_commits.specs.Culprits.{BreakARule, Shows};
 ghost use Rattle.culprit_search.specs.Searches.{IsBlockOf, IsFoundAt, IsNoViolation, NoneIsAt, ShowsViolation};
 
+use audit_evidence::Evidence;
 use blocks::{Header, Id, NamedHeader};
 use certificates::SignedVote;
-use evidence::Evidence;
 use verdict_format::{Shown, VotedHeaders};
 
 // The header of this id and view, if it is in evidence.

@@ -2,14 +2,14 @@
 
 ghost use Rattle.std.specs.Prelude.{◌≡◌, ◌≤◌, length, MatchOption};
 ghost use Rattle.std.specs.List.{All, AllPairs};
-ghost use Rattle.evidence.specs.Evidence.{IsEvidence};
+ghost use Rattle.audit_evidence.specs.Evidence.{IsEvidence};
 ghost use Rattle.certificates.specs.VoteOrder.{IsLowerVote};
 ghost use Rattle.culprit_search.specs.Searches.{AreByOne, FirstHaveNoLockAbove, HasNoLockAbove, IsLockView, LowerHaveNoLockAbove, ShowsNoLock};
 
 use crate::breach::{block_of, parent_of};
+use audit_evidence::Evidence;
+use base_shared::Shared;
 use certificates::SignedVote;
-use evidence::Evidence;
-use shared_values::Shared;
 
 /// What was learned of the locks of a replica's first votes.
 #[derive(Clone, Copy)]

@@ -4,17 +4,17 @@ ghost use Rattle.std.specs.Prelude.{◌≡◌, ◌↔◌, MatchOption};
 ghost use Rattle.std.specs.List.{AllPairs, Contains};
 ghost use Rattle.certificates.specs.declared.vote.SignedVote.{SignedVote as SignedVoteValue};
 ghost use Rattle.certificates.specs.VoteOrder.{IsLowerVote};
-ghost use Rattle.commit_search.specs.Culprits.{IsCulprit, IsNamedPair, Shows};
+ghost use Rattle.audit_commits.specs.Culprits.{IsCulprit, IsNamedPair, Shows};
 ghost use Rattle.culprit_search.specs.Verdicts.{bound_of, parts_on};
 ghost use Rattle.culprit_search.specs.Searches.{AreByOne, AreOwnVotes, IsLeastAgainst, IsLeastPair, NoTwoBreak, NoneBreaksWith};
 
 use crate::breach::{block_of, what_shows};
 use crate::locks::{Locks, join_lower};
 use crate::screen::may_break;
+use audit_evidence::Evidence;
+use base_shared::Shared;
 use blocks::Id;
 use certificates::SignedVote;
-use evidence::Evidence;
-use shared_values::Shared;
 use verdict_format::{BoundVote, Shown, VerdictParts};
 
 /// Two votes of one replica that break a rule.

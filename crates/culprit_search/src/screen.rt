@@ -7,9 +7,9 @@ ghost use Rattle.culprit_search.specs.Searches.{AreByOne, BeginsAt, EndsAt, IsOn
 
 use crate::breach::block_of;
 use crate::locks::Locks;
+use audit_evidence::Evidence;
+use base_shared::Shared;
 use certificates::SignedVote;
-use evidence::Evidence;
-use shared_values::Shared;
 
 // Whether the votes before this place are below the view, and those from it on are not below it.
 fn begins_at(own: &[Shared<SignedVote>], view: u64, place: usize) -> bool

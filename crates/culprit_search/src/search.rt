@@ -2,14 +2,14 @@
 
 ghost use Rattle.std.specs.Prelude.{IfOk, map};
 ghost use Rattle.std.specs.List.{All};
-ghost use Rattle.commit_search.specs.Culprits.{AreCulprits};
+ghost use Rattle.audit_commits.specs.Culprits.{AreCulprits};
 ghost use Rattle.culprit_search.specs.Verdicts.{AreVerdicts};
 ghost use Rattle.verdict_format.specs.Proofs.{IsProof};
 ghost use Rattle.verdict_format.specs.Verdicts.{replica_in};
 
 use crate::pairs::named_pair;
 use crate::verdict::{Verdict, verdict_on};
-use evidence::Evidence;
+use audit_evidence::Evidence;
 use std::alloc::{AllocError, Global};
 
 /// A verdict on each culprit of the evidence, by rising replica, and none on another. Each names the pair of the

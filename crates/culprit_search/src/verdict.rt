@@ -1,7 +1,7 @@
 //! Verdicts with their bytes.
 
 ghost use Rattle.std.specs.Prelude.{◌≡◌, IfOk};
-ghost use Rattle.commit_search.specs.Culprits.{IsNamedPair, Shows};
+ghost use Rattle.audit_commits.specs.Culprits.{IsNamedPair, Shows};
 ghost use Rattle.culprit_search.specs.Verdicts.{Accuses};
 ghost use Rattle.verdict_format.specs.Proofs.{IsProof};
 ghost use Rattle.verdict_format.specs.RuleNumbers.{rule_number};
@@ -9,7 +9,7 @@ ghost use Rattle.verdict_format.specs.VerdictText.{IsVerdictOf};
 ghost use Rattle.verdict_format.specs.Verdicts.{earlier_in, verdict_kind_in, later_in, replica_in};
 
 use crate::pairs::Offence;
-use evidence::Evidence;
+use audit_evidence::Evidence;
 use std::alloc::{AllocError, Global};
 use std::marker::Model;
 use verdict_format::{Rule, VerdictParts, write_verdict};

@@ -1,1 +1,2 @@
+pub mod LightMaking
 pub mod Proofs

@@ -6,11 +6,11 @@ use Rattle.blocks.specs.Headers.{Header}
 use Rattle.certificates.specs.declared.vote.SignedVote.{SignedVote}
 use Rattle.blocks.specs.Weights.{committee_of}
 use Rattle.log_format.specs.Readings.{IsReading}
-use Rattle.evidence.specs.Evidence.{Evidence, IsEvidenceOf, IsEvidenceRefusal, IsHeaderInEvidence}
-use Rattle.evidence.specs.declared.refusal.EvidenceRefusal.{EvidenceRefusal}
-use Rattle.evidence.specs.Logs.{ReceivedLog}
-use Rattle.commit_search.specs.Commits.{HasNoConflict}
-use Rattle.handover.specs.Handovers.{IsFirstCommitted, IsHandover}
+use Rattle.audit_evidence.specs.Evidence.{Evidence, IsEvidenceOf, IsEvidenceRefusal, IsHeaderInEvidence}
+use Rattle.audit_evidence.specs.declared.refusal.EvidenceRefusal.{EvidenceRefusal}
+use Rattle.audit_evidence.specs.Logs.{ReceivedLog}
+use Rattle.audit_commits.specs.Commits.{HasNoConflict}
+use Rattle.handover_blocks.specs.Handovers.{IsFirstCommitted, IsHandover}
 
 -- the committee has the vote's replica, and the vote is above genesis
 pub record MayBeAssembled (committee : List ℕ) (v : SignedVote) : Type 0 where

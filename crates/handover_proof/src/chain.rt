@@ -1,8 +1,8 @@
 //! The blocks that prove a commit. What is found here is judged as a whole where it is used, so no clause speaks of it.
 
 use ancestry::{Ancestry, header_of};
+use audit_evidence::Evidence;
 use blocks::{Header, NamedHeader};
-use evidence::Evidence;
 use std::alloc::{AllocError, Global};
 
 // Whether h is on b, in the view after.

@@ -4,12 +4,12 @@ ghost use Rattle.std.specs.Prelude.{IfOk, IfSome, OnOk};
 ghost use Rattle.std.specs.List.{All};
 ghost use Rattle.handover_proof.specs.Proofs.{MayBeAssembled};
 
+use audit_evidence::Evidence;
+use base_shared::Shared;
+use base_wire::append;
 use blocks::{CommitteeView, Header, NamedHeader};
 use certificates::{AssembleRefusal, Certificate, SignedVote, assemble};
-use evidence::Evidence;
-use shared_values::Shared;
 use std::alloc::{AllocError, Global};
-use wire::append;
 
 // The first byte of an entry without the replica's own vote.
 const RAISED: u8 = 4;

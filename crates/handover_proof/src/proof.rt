@@ -4,18 +4,18 @@ ghost use Rattle.std.specs.Prelude.{◌≡◌, ◌↔◌, IfErr, IfOk, IfSome, I
 ghost use Rattle.std.specs.List.{All, AllPairs, AllZip, Contains};
 ghost use Rattle.blocks.specs.Weights.{committee_of};
 ghost use Rattle.ancestry.specs.Known.{all_of};
-ghost use Rattle.evidence.specs.Evidence.{Evidence as EvidenceValue};
-ghost use Rattle.commit_search.specs.Commits.{HasNoConflict, IsLowerBlock};
-ghost use Rattle.handover.specs.Handovers.{IsFirstCommitted, IsHandover};
+ghost use Rattle.audit_evidence.specs.Evidence.{Evidence as EvidenceValue};
+ghost use Rattle.audit_commits.specs.Commits.{HasNoConflict, IsLowerBlock};
+ghost use Rattle.handover_blocks.specs.Handovers.{IsFirstCommitted, IsHandover};
 ghost use Rattle.handover_search.specs.Searches.{AreCommitsOf};
 ghost use Rattle.handover_proof.specs.Proofs.{IsHandedOverBy, IsLogOf, IsProofRefusal, ProveHandover};
 
 use crate::chain::proving_blocks;
 use crate::texts::exports_of;
 use ancestry::Ancestry;
+use audit_commits::{certified_chains, first_conflict, proved_commits};
+use audit_evidence::{Evidence, EvidenceRefusal, SourceLog, evidence_of_logs};
 use blocks::{CommitteeView, NamedHeader};
-use commit_search::{certified_chains, first_conflict, proved_commits};
-use evidence::{Evidence, EvidenceRefusal, SourceLog, evidence_of_logs};
 use handover_search::first_handover;
 use log_format::Frames;
 use std::alloc::{AllocError, Global};

@@ -2,10 +2,10 @@
 
 use crate::chain::child_of;
 use crate::entries::entry_on;
+use audit_evidence::Evidence;
+use base_wire::{MOST_ENTRIES, append};
 use blocks::NamedHeader;
-use evidence::Evidence;
 use std::alloc::{AllocError, Global};
-use wire::{MOST_ENTRIES, append};
 
 // Adds a number of four bytes. None here is above 65,536.
 fn put_number(text: &mut Vec<u8>, number: usize) -> Result<(), AllocError> {

@@ -11,10 +11,10 @@ use Rattle.std.proofs.lemmas.Cmp.{ranked}
 use Rattle.std.proofs.lemmas.Option.{get_or_from_slice_get, slice_get-get_or, slice_get_within}
 use Rattle.blocks.specs.Headers.{Header, header_id}
 use Rattle.blocks.specs.Weights.{committee_of}
-use Rattle.evidence.specs.Evidence.{Evidence, IsEvidence}
-use Rattle.commit_search.specs.Commits.{HasNoConflict, IsLowerBlock}
-use Rattle.handover.specs.Handovers.{IsFirstCommitted, IsHandover}
-use Rattle.handover.specs.HandoverLaws.{OneFirstWhereNoneConflict}
+use Rattle.audit_evidence.specs.Evidence.{Evidence, IsEvidence}
+use Rattle.audit_commits.specs.Commits.{HasNoConflict, IsLowerBlock}
+use Rattle.handover_blocks.specs.Handovers.{IsFirstCommitted, IsHandover}
+use Rattle.handover_blocks.specs.HandoverLaws.{OneFirstWhereNoneConflict}
 use Rattle.handover_search.specs.Searches.{IsOnlyHandover}
 
 not_above : (v w : ℕ) (o p : Ordering) → o ≡ nat_cmp v w → ordering_then o p ≡ Less → v ≤ w

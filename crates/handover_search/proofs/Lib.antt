@@ -1,4 +1,5 @@
 pub mod Best
 pub mod Highest
-pub mod Judged
+pub mod JudgedChains
 pub mod Lifted
+pub mod Pieces

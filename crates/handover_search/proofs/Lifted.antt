@@ -10,11 +10,11 @@ use Rattle.blocks.proofs.Chains.{one_chain}
 use Rattle.blocks.proofs.Members.{Has-from_Contains, Contains-from_Has, Contains-first, Contains-later}
 use Rattle.ancestry.specs.Known.{Known, IsKnown, all_of}
 use Rattle.ancestry.proofs.Ids.{apart}
-use Rattle.evidence.specs.Evidence.{Evidence, IsEvidence}
-use Rattle.commit_search.specs.Commits.{IsProvedCommit}
-use Rattle.commit_search.specs.Chosen.{AreCertifiedHeaders}
-use Rattle.commit_search.proofs.CommitFacts.{certified_known, index_is, known_stands}
-use Rattle.handover.specs.Handovers.{IsFirstCommitted, IsHandover}
+use Rattle.audit_evidence.specs.Evidence.{Evidence, IsEvidence}
+use Rattle.audit_commits.specs.Commits.{IsProvedCommit}
+use Rattle.audit_commits.specs.Chosen.{AreCertifiedHeaders}
+use Rattle.audit_commits.proofs.CommitFacts.{certified_known, index_is, known_stands}
+use Rattle.handover_blocks.specs.Handovers.{IsFirstCommitted, IsHandover}
 use Rattle.handover_search.specs.Searches.{IsBestOf, IsCandidate, IsInChainOf}
 
 -- a proved commit and its chain among the certified headers

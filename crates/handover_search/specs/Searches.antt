@@ -5,10 +5,10 @@ use Rattle.blocks.specs.Chains.{IsAncestor}
 use Rattle.blocks.specs.Headers.{Header}
 use Rattle.blocks.specs.Weights.{committee_of}
 use Rattle.ancestry.specs.Known.{Known, all_of}
-use Rattle.evidence.specs.Evidence.{Evidence, IsEvidence}
-use Rattle.commit_search.specs.Chosen.{AreCertifiedHeaders}
-use Rattle.commit_search.specs.Commits.{AreProvedCommits}
-use Rattle.handover.specs.Handovers.{IsFirstCommitted, IsHandover}
+use Rattle.audit_evidence.specs.Evidence.{Evidence, IsEvidence}
+use Rattle.audit_commits.specs.Chosen.{AreCertifiedHeaders}
+use Rattle.audit_commits.specs.Commits.{AreProvedCommits}
+use Rattle.handover_blocks.specs.Handovers.{IsFirstCommitted, IsHandover}
 
 -- a is the block b, or stands in its chain
 abbrev pub IsInChainOf : Known → Header → Header → Type 0

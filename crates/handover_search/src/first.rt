@@ -5,15 +5,15 @@ ghost use Rattle.std.specs.List.{All, Contains};
 ghost use Rattle.blocks.specs.Headers.{Header as HeaderValue};
 ghost use Rattle.blocks.specs.Weights.{committee_of};
 ghost use Rattle.ancestry.specs.Known.{all_of};
-ghost use Rattle.evidence.specs.Evidence.{Evidence as EvidenceValue};
-ghost use Rattle.handover.specs.Handovers.{IsFirstCommitted, IsHandover};
-ghost use Rattle.commit_search.specs.Commits.{HasNoConflict};
+ghost use Rattle.audit_evidence.specs.Evidence.{Evidence as EvidenceValue};
+ghost use Rattle.handover_blocks.specs.Handovers.{IsFirstCommitted, IsHandover};
+ghost use Rattle.audit_commits.specs.Commits.{HasNoConflict};
 ghost use Rattle.handover_search.specs.Searches.{AreCommitsOf, IsOnlyHandover};
 
 use crate::search::first_in_chain;
 use ancestry::Ancestry;
 use blocks::NamedHeader;
-use handover::a_first_handover_is_alone;
+use handover_blocks::a_first_handover_is_alone;
 
 /// The first block that hands over in the chain that evidence proves to be committed, from the index of its certified headers
 /// and all of its proved commits, rising. Where no two of the commits conflict it is the only one, and where there is none

@@ -5,16 +5,16 @@ ghost use Rattle.std.specs.List.{Contains};
 ghost use Rattle.blocks.specs.Chains.{IsAncestor};
 ghost use Rattle.blocks.specs.Headers.{Header as HeaderValue};
 ghost use Rattle.ancestry.specs.Known.{IsKnown, all_of};
-ghost use Rattle.evidence.specs.Evidence.{Evidence as EvidenceValue, IsEvidence};
+ghost use Rattle.audit_evidence.specs.Evidence.{Evidence as EvidenceValue, IsEvidence};
 ghost use Rattle.blocks.specs.Weights.{committee_of};
-ghost use Rattle.commit_search.specs.Commits.{IsProvedCommit};
-ghost use Rattle.commit_search.specs.Chosen.{AreCertifiedHeaders};
-ghost use Rattle.handover.specs.Handovers.{IsFirstCommitted, IsHandover};
+ghost use Rattle.audit_commits.specs.Commits.{IsProvedCommit};
+ghost use Rattle.audit_commits.specs.Chosen.{AreCertifiedHeaders};
+ghost use Rattle.handover_blocks.specs.Handovers.{IsFirstCommitted, IsHandover};
 ghost use Rattle.handover_search.specs.Searches.{IsBestOf, IsCandidate, IsInChainOf};
 
 use ancestry::Ancestry;
 use blocks::NamedHeader;
-use handover::is_handover;
+use handover_blocks::is_handover;
 
 // Whether a known block stands in the chain of another, after its first place.
 fn is_ancestor(chains: &Ancestry, a: &NamedHeader, b: &NamedHeader) -> bool

@@ -2,11 +2,11 @@
 //! hex digits on standard input. docs/hs_check.md is its manual page.
 #![tactic(auto)]
 
-use check_command::run_program;
+use base_streams::StdSink;
+use program_check::run_program;
 use program_parts::run_main;
 use std::io::{Stderr, Stdout};
 use std::process::ExitCode;
-use streams::StdSink;
 
 fn main(rt: HostRuntime) -> ExitCode {
     run_main(

@@ -1,10 +1,10 @@
 //! The exported calls.
 
-ghost use Rattle.check_answers.specs.Judging.{IsJudged, ShowsGuilt};
-ghost use Rattle.check_answers.specs.Naming.{IsNamed, IsWritten, version_text};
-ghost use Rattle.check_answers.specs.Showing.{IsCommitteeShown};
+ghost use Rattle.program_answers.specs.Judging.{IsJudged, ShowsGuilt};
+ghost use Rattle.program_answers.specs.Naming.{IsNamed, IsWritten, version_text};
+ghost use Rattle.program_answers.specs.Showing.{IsCommitteeShown};
 
-use check_answers::{HsCommittee, HsFinding, judge, show_committee, write_name, write_version};
+use program_answers::{HsCommittee, HsFinding, judge, show_committee, write_name, write_version};
 
 /// Judges the bytes of a verdict under the bytes of a committee. Answers 0 where the verdict is accepted, and then `finding`
 /// says what it proves; the number of `Refusal` where it is refused; and minus the number of `CommitteeRefusal` where the

@@ -2,11 +2,11 @@
 
 ghost use Rattle.std.specs.Prelude.{◌≡◌};
 ghost use Rattle.sha2.specs.Sha256.{sha256};
-ghost use Rattle.check_answers.specs.Judging.{IsJudged, ShowsGuilt};
-ghost use Rattle.check_answers.specs.Showing.{AreHeadersShown, IsCommitteeShown, IsKeyShown, IsVerdictShown};
-ghost use Rattle.check_answers.specs.Voting.{IsEndorsementJudged, IsVoteJudged};
+ghost use Rattle.program_answers.specs.Judging.{IsJudged, ShowsGuilt};
+ghost use Rattle.program_answers.specs.Showing.{AreHeadersShown, IsCommitteeShown, IsKeyShown, IsVerdictShown};
+ghost use Rattle.program_answers.specs.Voting.{IsEndorsementJudged, IsVoteJudged};
 
-use check_answers::{
+use program_answers::{
     HsCommittee, HsDigest, HsFinding, HsHeaders, HsKey, HsVerdict, judge, judge_endorsement,
     judge_vote, show_committee, show_digest, show_headers, show_key, show_verdict,
 };

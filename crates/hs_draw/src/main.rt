@@ -2,12 +2,12 @@
 //! manual page.
 #![tactic(auto)]
 
-use draw_command::run_draw;
+use base_streams::StdSink;
+use program_draw::run_draw;
 use program_help::{DRAW, asked_in, run_help};
 use program_parts::run_main;
 use std::io::{Stderr, Stdout};
 use std::process::ExitCode;
-use streams::StdSink;
 
 fn main(rt: HostRuntime) -> ExitCode {
     run_main(

@@ -2,13 +2,12 @@
 //! committee on: `hs_follow C0 --lineage DIR [--fetch SOURCE..]`. docs/hs_follow.md is its manual page.
 #![tactic(auto)]
 
-use follow_command::run_follow;
-use lineage_command::{asks_for_lineage, run_lineage};
+use base_streams::StdSink;
+use program_follow::{asks_for_lineage, run_follow, run_lineage};
 use program_help::{FOLLOW, asked_in, run_help};
 use program_parts::run_main;
 use std::io::{Stderr, Stdout};
 use std::process::ExitCode;
-use streams::StdSink;
 
 fn main(rt: HostRuntime) -> ExitCode {
     run_main(

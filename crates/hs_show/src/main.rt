@@ -2,12 +2,12 @@
 //! line means. docs/hs_show.md is its manual page.
 #![tactic(auto)]
 
-use about_command::{asks_about, asks_for_lineage_sheet, run_about, run_lineage_sheet};
+use base_streams::StdSink;
+use program_about::{asks_about, asks_for_lineage_sheet, run_about, run_lineage_sheet};
 use program_parts::run_main;
-use show_command::run_show;
+use program_show::run_show;
 use std::io::{Stderr, Stdout};
 use std::process::ExitCode;
-use streams::StdSink;
 
 fn main(rt: HostRuntime) -> ExitCode {
     run_main(

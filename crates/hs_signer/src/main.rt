@@ -1,12 +1,12 @@
 //! A replica that answers calls: `hs_signer COMMITTEE R DIR ..`. docs/hs_signer.md is its manual page.
 #![tactic(auto)]
 
+use base_streams::{StdFeed, StdSink};
 use program_help::{SIGNER, asked_in, run_help};
 use program_parts::run_main;
-use signer_command::{Host, run_signer};
+use signer_command::{SignerHost, run_signer};
 use std::io::{Stderr, Stdout};
 use std::process::ExitCode;
-use streams::{StdFeed, StdSink};
 
 fn main(rt: HostRuntime) -> ExitCode {
     run_main(
@@ -18,7 +18,7 @@ fn main(rt: HostRuntime) -> ExitCode {
                 return run_help(rt.alloc(), &SIGNER, asked, out, faults);
             }
             let mut input = StdFeed::new(rt.stdin());
-            let host = Host {
+            let host = SignerHost {
                 rt: &rt,
                 alloc: rt.alloc(),
             };

@@ -1,12 +1,12 @@
 //! The operator's tool: `hs_tool COMMAND ..`. docs/hs_tool.md is its manual page.
 #![tactic(auto)]
 
-use key_files::SystemSeeds;
+use base_streams::{StdFeed, StdSink};
 use program_parts::run_main;
+use program_tool::{Extras, SystemFiles, ToolHost, run_tool};
+use replica_files::SystemSeeds;
 use std::io::{IsTerminal, Stderr, Stdout};
 use std::process::ExitCode;
-use streams::{StdFeed, StdSink};
-use tool_commands::{Extras, Host, SystemFiles, run_tool};
 
 fn main(rt: HostRuntime) -> ExitCode {
     run_main(
@@ -17,7 +17,7 @@ fn main(rt: HostRuntime) -> ExitCode {
             let console = rt.stderr();
             let input = rt.stdin();
             let is_typed = input.is_terminal();
-            let host = Host {
+            let host = ToolHost {
                 files: &rt,
                 rt: &rt,
                 alloc: rt.alloc(),

@@ -1,6 +1,7 @@
 //! An auditor that watches: `hs_watch COMMITTEE OUTDIR SOURCE.. ..`. docs/hs_watch.md is its manual page.
 #![tactic(auto)]
 
+use base_streams::StdSink;
 use program_help::{WATCH, asked_in, run_help};
 use program_parts::run_main;
 use std::alloc::Global;
@@ -9,8 +10,7 @@ use std::process::ExitCode;
 use std::sync::Arc;
 use std::sync::atomic::{AtomicBool, Ordering};
 use std::{env, thread};
-use streams::StdSink;
-use watch_command::{FAULT, Host, READS_INPUT, run_watch};
+use watch_command::{FAULT, READS_INPUT, WatchHost, run_watch};
 
 fn main(rt: HostRuntime) -> ExitCode {
     let Ok(ended) = Arc::new(rt.alloc(), AtomicBool::new(false)) else {
@@ -31,7 +31,7 @@ fn main(rt: HostRuntime) -> ExitCode {
             if let Some(asked) = asked_in(words) {
                 return run_help(rt.alloc(), &WATCH, asked, out, faults);
             }
-            let host = Host {
+            let host = WatchHost {
                 rt: &rt,
                 alloc: rt.alloc(),
                 input_ended: &*ended,

@@ -4,7 +4,7 @@ use Rattle.byteorder.specs.Endian.{big_bytes}
 use Rattle.stable_log.specs.Image.{StandsFor}
 use Rattle.key_index_store.specs.Indices.{limit_of}
 use Rattle.key_index_store.specs.declared.store.TheConstants.{INDICES_PER_RESERVATION}
-use Rattle.wire.specs.declared.limits.TheConstants.{MOST_KEYS}
+use Rattle.base_wire.specs.declared.limits.TheConstants.{MOST_KEYS}
 
 -- a replica has one to four keys
 pub record IsKeyCount (keys : ℕ) : Type 0 where

@@ -3,7 +3,7 @@
 ghost use Rattle.std.specs.Prelude.{◌≡◌, ◌<◌};
 ghost use Rattle.key_index_store.specs.Indices.{key_of as key, limit_of, q_of as q};
 ghost use Rattle.key_index_store.specs.declared.store.TheConstants.{INDICES};
-ghost use Rattle.wire.specs.declared.limits.TheConstants.{MOST_KEYS};
+ghost use Rattle.base_wire.specs.declared.limits.TheConstants.{MOST_KEYS};
 
 use crate::store::INDICES;
 

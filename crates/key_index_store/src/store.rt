@@ -1,11 +1,11 @@
 //! The indices of a replica's keys.
 ghost use Rattle.std.specs.Prelude.{◌≡◌, ◌≢◌, ◌<◌, ◌≤◌, ◌+◌, ◌-◌, ◌*◌, ◌%◌, ◌^◌, [], ℕ, List, IsTrue, true, false, if◌then◌else◌, IfSome, IsSome, ◌↔◌, option_map, length, IfOk, IfErr, OnErr, OnOk, IsErrOf};
-ghost use Rattle.streams.specs.Counting.{HasFailed};
+ghost use Rattle.base_streams.specs.Counting.{HasFailed};
 ghost use Rattle.stable_log.specs.Crash.{Torn, Follows};
 ghost use Rattle.stable_log.specs.Devices.{AtAnyMoment, Untouched};
 ghost use Rattle.stable_log.specs.Image.{empty_journal};
 ghost use Rattle.key_index_store.specs.Boundary.{reservation, reservations, IsBoundary, IsBoundedBy, IsKeyCount, LeavesBoundary, taken_by};
-ghost use Rattle.wire.specs.declared.limits.TheConstants.{MOST_ENTRIES, MOST_KEYS};
+ghost use Rattle.base_wire.specs.declared.limits.TheConstants.{MOST_ENTRIES, MOST_KEYS};
 ghost use Rattle.key_index_store.specs.declared.store.TheConstants.{INDICES, INDICES_PER_RESERVATION};
 ghost use Rattle.key_index_store.specs.Indices.{limit_of};
 ghost use Rattle.key_index_store.specs.State.{IsGiven};

@@ -3,8 +3,8 @@
 ghost use Rattle.std.specs.Prelude.{⊤};
 ghost use Rattle.log_transfer.specs.Connections.{ended};
 
+use base_streams::Fault;
 use log_transfer::Connector;
-use streams::Fault;
 
 /// Gives the bytes of a log, which are only lent, so that no memory is given back while others are read. It never fails, and of
 /// what it gives nothing is told.

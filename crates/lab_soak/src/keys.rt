@@ -4,7 +4,7 @@ use blocks::{Id, Member, write_committee, write_multikey_committee};
 use certificates::Statement;
 use lmots::PrivateSeed;
 use lms_tree::{PUBLIC_KEY_LEN, SigningTree};
-use parallel_keys::generate_parallel;
+use replica_files::generate_parallel;
 use std::alloc::{AllocError, Global};
 use std::io;
 use std::thread::Threads;

@@ -1,7 +1,7 @@
 -- The block of 55 bytes that a step of a chain hashes.
 use Rattle.std.proofs.Common.{◌≡◌, ℕ, ◌+◌, List, [], ◌∷◌, ◌++◌, sym, ◌∙◌, arith, append_assoc, length, take, drop, set}
 use Rattle.std.proofs.lemmas.List.{drop_at, length-take-le, set_split, take-append-le, take-take}
-use Rattle.wire.proofs.Numbers.{filled}
+use Rattle.base_wire.proofs.Numbers.{filled}
 
 -- a block after the number of a step was written: the prefix, the number and the value
 pub numbered : (block : List ℕ) (j : ℕ) → length block ≡ 55 → set block 22 j ≡ take 22 block ++ j ∷ [] ++ drop 23 block

@@ -2,7 +2,7 @@
 use Rattle.std.proofs.Common.{ℕ, zero, suc, ◌<◌, List, [], ◌∷◌, ◌++◌, arith, slice_index}
 use Rattle.std.specs.Int.{byte_at, bytes_high_first}
 use Rattle.sha2.specs.Sha256.{sha256, digest_bytes, final_hash, initial_hash_256}
-use Rattle.wire.specs.Pieces.{AreBytes}
+use Rattle.base_wire.specs.Pieces.{AreBytes}
 use Rattle.lmots.specs.Signatures.{checksum, coefficients}
 
 AreBytes-append : (xs ys : List ℕ) → AreBytes xs → AreBytes ys → AreBytes (xs ++ ys)

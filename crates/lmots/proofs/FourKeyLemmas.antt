@@ -1,6 +1,6 @@
 -- The chains of four one-time keys.
 use Rattle.std.proofs.Common.{◌≡◌, ℕ, ◌+◌, ◌*◌, ◌/◌, ◌%◌, ◌<◌, ◌∙◌, List, refl, ap, arith}
-use Rattle.sha256_lanes.proofs.ChainLemmas.{steps_none, steps_more}
+use Rattle.base_sha256.proofs.ChainLemmas.{steps_none, steps_more}
 use Rattle.lmots.specs.Chains.{chain_end, chain_step, chain_steps, ots_private, prefix}
 use Rattle.lmots.specs.FourKeys.{chain_end_of}
 

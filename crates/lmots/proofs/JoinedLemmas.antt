@@ -3,7 +3,7 @@ use Rattle.std.proofs.Common.{◌≡◌, ℕ, zero, suc, ◌+◌, ◌*◌, ◌<�
 use Rattle.std.proofs.lemmas.Bool.{cases_lt}
 use Rattle.std.proofs.lemmas.List.{drop-append-le, drop_at, length-append, length-drop, take-append-le, take_all}
 use Rattle.std.proofs.Math.Seq.{drop-append-add}
-use Rattle.wire.specs.Pieces.{piece}
+use Rattle.base_wire.specs.Pieces.{piece}
 use Rattle.lmots.specs.Chains.{joined}
 
 pub length-joined : (f : ℕ → List ℕ) (n : ℕ) → ((i : ℕ) → length (f i) ≡ 32) → length (joined f n) ≡ 32 * n

@@ -4,10 +4,10 @@ use Rattle.std.proofs.lemmas.List.{length-append, take_at}
 use Rattle.byteorder.specs.Endian.{big_bytes}
 use Rattle.sha2.specs.Sha256.{sha256}
 use Rattle.sha2.proofs.Facts256.{length-sha256}
-use Rattle.wire.specs.Pieces.{number_at, piece}
+use Rattle.base_wire.specs.Pieces.{number_at, piece}
 use Rattle.lmots.specs.Chains.{chain_end, chain_step, chain_steps, joined, key_of_ends, ots_private, ots_public_key, prefix}
 use Rattle.lmots.specs.Signatures.{IsOtsSignature, candidate_key, continued, message_coefficients, message_hash, ots_signature, randomizer, signed_value}
-use Rattle.sha256_lanes.proofs.ChainLemmas.{steps_none, steps_more}
+use Rattle.base_sha256.proofs.ChainLemmas.{steps_none, steps_more}
 use Rattle.lmots.proofs.DigestBytes.{AreBytes-coefficients, AreBytes-sha256}
 use Rattle.lmots.proofs.JoinedLemmas.{joined-same, length-joined, piece-joined, piece_behind}
 

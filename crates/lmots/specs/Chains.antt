@@ -5,7 +5,7 @@ use Rattle.std.specs.Prelude.{◌≡◌, ◌<◌, ℕ, zero, suc, List, [], ◌�
 use Rattle.byteorder.specs.Endian.{big_bytes}
 use Rattle.sha2.specs.Sha256.{sha256}
 -- the steps of a chain (section 4.3)
-unfoldable pub use Rattle.sha256_lanes.specs.Chains.{chain_step, chain_steps}
+unfoldable pub use Rattle.base_sha256.specs.Chains.{chain_step, chain_steps}
 
 -- what stands first in all that is hashed: the id, q, and the number of a chain or of a use
 unfoldable pub prefix : List ℕ → ℕ → ℕ → List ℕ

@@ -1,6 +1,6 @@
 -- Why bytes are no one-time signature.
 use Rattle.std.specs.Prelude.{◌≡◌, ◌≢◌, ℕ, List, length}
-use Rattle.wire.specs.Pieces.{number_at}
+use Rattle.base_wire.specs.Pieces.{number_at}
 use Rattle.lmots.specs.declared.signatures.TheConstants.{OTS_SIGNATURE_LEN}
 use Rattle.lmots.specs.declared.signatures.OtsRefusal.{OtsRefusal}
 use Rattle.lmots.specs.declared.signatures.OtsRefusal.TheVariants.{Length, OtsType}

@@ -3,7 +3,7 @@
 use Rattle.std.specs.Prelude.{◌≡◌, ℕ, ◌+◌, ◌-◌, ◌*◌, List, ◌++◌, length, sum_by, slice_index}
 use Rattle.byteorder.specs.Endian.{big_bytes}
 use Rattle.sha2.specs.Sha256.{sha256}
-use Rattle.wire.specs.Pieces.{number_at, piece}
+use Rattle.base_wire.specs.Pieces.{number_at, piece}
 use Rattle.lmots.specs.declared.signatures.TheConstants.{OTS_SIGNATURE_LEN}
 use Rattle.lmots.specs.Chains.{chain_steps, joined, key_of_ends, ots_private, prefix}
 

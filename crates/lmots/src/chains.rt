@@ -3,14 +3,14 @@
 ghost use Rattle.std.specs.Prelude.{◌≡◌, take, drop};
 ghost use Rattle.lmots.specs.Chains.{prefix, chain_step, chain_steps};
 
+use base_wire::{array_at, put};
 use sha2::{Digest, Sha256};
 use std::marker::Model;
-use wire::{array_at, put};
 
 /// The 22 bytes with which all that is hashed begins: the key id at 0, `q` at 16 and `number` at 20.
 /// `q` is the number of a one-time key or of a node of a tree, `number` that of a chain or of a use
 /// (RFC 8554, sections 4.2 to 4.5 and 5.3).
-#[tactic(auto, using(wire::proofs::Numbers::filled), unfolding(crate::specs::Chains::prefix))]
+#[tactic(auto, using(base_wire::proofs::Numbers::filled), unfolding(crate::specs::Chains::prefix))]
 pub fn prefix(key_id: &[u8; 16], q: u32, number: u16) -> [u8; 22]
     ensures { result ≡ prefix key_id.now q number }
 {
@@ -47,7 +47,7 @@ impl Chain {
     }
 
     /// Replaces the value by step `j` from it. One block is hashed at once.
-    #[tactic(auto, unfolding(sha256_lanes::specs::Chains::chain_step))]
+    #[tactic(auto, unfolding(base_sha256::specs::Chains::chain_step))]
     pub(crate) fn step(&mut self, j: u8)
         ensures { self.new ≡ (self.old.0, chain_step self.old.0 j self.old.1) }
     {

@@ -7,7 +7,7 @@ ghost use Rattle.lmots.specs.Walks.{AreFirst};
 
 use crate::chains::prefix;
 use crate::keys::{CHAINS, PrivateSeed, key_of_ends};
-use sha256_lanes::walk_eight;
+use base_sha256::walk_eight;
 
 /// The number of one-time keys that are computed at once.
 pub const KEYS_AT_ONCE: u32 = 4;
@@ -61,7 +61,7 @@ fn ends_of_four(secret: &PrivateSeed, q: u32) -> [[u8; 32]; 136]
 }
 
 // Where eight chains of four one-time keys end.
-#[tactic(auto, unfolding(crate::specs::Chains::chain_end, crate::specs::Chains::ots_private, sha256_lanes::specs::Chains::chain_steps, sha256_lanes::specs::Chains::chain_step))]
+#[tactic(auto, unfolding(crate::specs::Chains::chain_end, crate::specs::Chains::ots_private, base_sha256::specs::Chains::chain_steps, base_sha256::specs::Chains::chain_step))]
 fn eight_ends(secret: &PrivateSeed, q: u32, first: u16) -> [[u8; 32]; 8]
     requires chains { first + 8 ≤ 136 }
     requires small { q + 4 ≤ 2 ^ 32 }

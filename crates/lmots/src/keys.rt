@@ -1,14 +1,14 @@
 //! The keys that a seed gives.
 
 ghost use Rattle.std.specs.Prelude.{◌≡◌, ◌++◌, ℕ, List, length};
-ghost use Rattle.wire.specs.Pieces.{piece};
+ghost use Rattle.base_wire.specs.Pieces.{piece};
 ghost use Rattle.lmots.specs.Chains.{AreEndsOf, chain_end, end_in, key_of_ends, ots_private, ots_public_key};
 ghost use Rattle.lmots.specs.Walks.{AreFirst};
 
 use crate::chains::{Chain, chain_steps, prefix};
 use crate::walks::Walks;
+use base_wire::{array_at, put};
 use sha2::{Digest, Sha256};
-use wire::{array_at, put};
 
 /// The number of chains of a one-time key.
 pub(crate) const CHAINS: u16 = 34;
@@ -50,7 +50,7 @@ impl PrivateSeed {
     }
 
     /// The bytes that `from_bytes` reads, as the file of a secret key holds them.
-    #[tactic(auto, using(wire::proofs::Numbers::filled))]
+    #[tactic(auto, using(base_wire::proofs::Numbers::filled))]
     pub fn to_bytes(&self) -> [u8; PRIVATE_SEED_LEN]
         ensures { result ≡ self.now.key_id ++ self.now.seed }
     {
@@ -62,7 +62,7 @@ impl PrivateSeed {
 }
 
 /// Where chain `i` of the one-time key `q` begins (RFC 8554, Appendix A), or a value for another use.
-#[tactic(auto, unfolding(crate::specs::Chains::ots_private, sha256_lanes::specs::Chains::chain_step))]
+#[tactic(auto, unfolding(crate::specs::Chains::ots_private, base_sha256::specs::Chains::chain_step))]
 pub(crate) fn ots_private(secret: &PrivateSeed, q: u32, i: u16) -> [u8; 32]
     ensures { result ≡ ots_private secret.now.key_id secret.now.seed q i }
 {

@@ -10,8 +10,8 @@ ghost use Rattle.lmots.specs.declared.signatures.TheConstants.{OTS_SIGNATURE_LEN
 use crate::chains::prefix;
 use crate::keys::{CHAINS, HASH_LEN, PrivateSeed, chain_starts, key_of_ends, ots_private};
 use crate::walks::Walks;
+use base_wire::{array_at, put, u32_at};
 use sha2::{Digest, Sha256};
-use wire::{array_at, put, u32_at};
 
 /// Where the randomizer stands in a one-time signature, behind its type.
 const RANDOMIZER_AT: usize = 4;
@@ -55,7 +55,7 @@ fn checksum(hash: &[u8; 32]) -> u16
 
 /// How many steps each chain goes for a digest, 34 bytes: the 32 bytes of the digest, and then the two bytes
 /// of its checksum, which counts the steps that the digest leaves out (RFC 8554, sections 4.4 to 4.6).
-#[tactic(auto, using(wire::proofs::Numbers::filled), unfolding(crate::specs::Signatures::coefficients))]
+#[tactic(auto, using(base_wire::proofs::Numbers::filled), unfolding(crate::specs::Signatures::coefficients))]
 pub fn coefficients(hash: &[u8; 32]) -> [u8; 34]
     ensures { result ≡ coefficients hash.now }
 {

@@ -6,7 +6,7 @@ ghost use Rattle.lmots.specs.Walks.{AreChains, AreFirst, CanGo, HaveGoneOn, step
 
 use crate::chains::{chain_steps, prefix};
 use crate::keys::CHAINS;
-use sha256_lanes::walk_eight;
+use base_sha256::walk_eight;
 
 /// The chains of the one-time key `q` under way: chain `i` is at the value `values[i]` and has the steps `at[i]` to
 /// `until[i] - 1` before it.

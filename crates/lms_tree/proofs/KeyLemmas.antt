@@ -2,8 +2,8 @@
 use Rattle.std.proofs.Common.{◌≡◌, ℕ, ◌+◌, ◌≤◌, ◌∙◌, List, ◌++◌, refl, sym, ap, arith, length}
 use Rattle.std.proofs.lemmas.List.{length-append, take_all, take_at}
 use Rattle.byteorder.specs.Endian.{big_bytes}
-use Rattle.wire.specs.Pieces.{AreBytes, number_at, piece}
-use Rattle.wire.proofs.Numbers.{cut, cut_last, piece-number_at}
+use Rattle.base_wire.specs.Pieces.{AreBytes, number_at, piece}
+use Rattle.base_wire.proofs.Numbers.{cut, cut_last, piece-number_at}
 use Rattle.lmots.proofs.JoinedLemmas.{piece_behind}
 use Rattle.lms_tree.specs.Keys.{IsPublicKey}
 use Rattle.lms_tree.specs.Tree.{key_text}

@@ -4,7 +4,7 @@ use Rattle.std.proofs.lemmas.List.{take-take}
 use Rattle.std.proofs.lemmas.Nat.{shr-shr}
 use Rattle.std.specs.Cmp.Lexicographic.{bytes_decides, pointwise}
 use Rattle.byteorder.specs.Endian.{big_number}
-use Rattle.wire.specs.Pieces.{number_at}
+use Rattle.base_wire.specs.Pieces.{number_at}
 use Rattle.lmots.specs.Signatures.{candidate_key}
 use Rattle.lms_tree.specs.Tree.{ancestor, climbed, leaf_hash, ots_in, parent_hash, path_in, root_from_path}
 

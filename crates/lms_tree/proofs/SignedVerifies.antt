@@ -7,7 +7,7 @@ use Rattle.std.proofs.Math.Nat.{pow-suc, pow-le-pow_right}
 use Rattle.byteorder.specs.Endian.{big_bytes, big_number}
 use Rattle.byteorder.specs.Numbers.{big_number-reads_back}
 use Rattle.sha2.proofs.Facts256.{length-sha256}
-use Rattle.wire.specs.Pieces.{number_at}
+use Rattle.base_wire.specs.Pieces.{number_at}
 use Rattle.lmots.specs.Chains.{joined, ots_public_key}
 use Rattle.lmots.specs.Signatures.{IsOtsSignature, candidate_key, ots_signature}
 use Rattle.lmots.proofs.JoinedLemmas.{length-joined, piece-joined, piece_behind}

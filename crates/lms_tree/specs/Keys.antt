@@ -1,6 +1,6 @@
 -- Which bytes are a public key (RFC 8554, section 5.3), and why others are not.
 use Rattle.std.specs.Prelude.{◌≡◌, ◌≢◌, ℕ, List, length}
-use Rattle.wire.specs.Pieces.{number_at}
+use Rattle.base_wire.specs.Pieces.{number_at}
 use Rattle.lms_tree.specs.declared.public_key.KeyRefusal.{KeyRefusal}
 use Rattle.lms_tree.specs.declared.public_key.KeyRefusal.TheVariants.{Length, TreeType, OtsType}
 

@@ -1,6 +1,6 @@
 -- Why a signature is refused.
 use Rattle.std.specs.Prelude.{◌≡◌, ◌≢◌, ℕ, ◌<◌, ◌≤◌, List, length}
-use Rattle.wire.specs.Pieces.{number_at}
+use Rattle.base_wire.specs.Pieces.{number_at}
 use Rattle.lms_tree.specs.declared.verification.SigRefusal.{SigRefusal}
 use Rattle.lms_tree.specs.declared.verification.SigRefusal.TheVariants.{Length, Index, OtsType, TreeType, Root}
 use Rattle.lms_tree.specs.Tree.{root_from_path}

@@ -4,7 +4,7 @@
 use Rattle.std.specs.Prelude.{◌≡◌, ℕ, zero, suc, ◌+◌, ◌-◌, ◌*◌, ◌/◌, ◌%◌, ◌^◌, ◌<◌, ◌≤◌, List, [], ◌++◌, length, nat_lt, slice_index_or, ◌==◌, if◌then◌else◌}
 use Rattle.byteorder.specs.Endian.{big_bytes}
 use Rattle.sha2.specs.Sha256.{sha256}
-use Rattle.wire.specs.Pieces.{number_at, piece}
+use Rattle.base_wire.specs.Pieces.{number_at, piece}
 use Rattle.lmots.specs.declared.signatures.TheConstants.{OTS_SIGNATURE_LEN}
 use Rattle.lms_tree.specs.declared.TheConstants.{LEAVES, LEAF_FOURS, NODES, OTS_AT, PATH_AT, SIGNATURE_LEN, TREE_TYPE_AT}
 use Rattle.lmots.specs.Chains.{joined, ots_public_key, prefix}

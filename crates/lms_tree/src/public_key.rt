@@ -5,8 +5,8 @@ ghost use Rattle.lms_tree.specs.Keys.{key_refusal_number, IsKeyRefusal, IsPublic
 ghost use Rattle.lms_tree.specs.Tree.{key_text};
 
 use crate::TREE_TYPE;
+use base_wire::{array_at, put, u32_at};
 use lmots::OTS_TYPE;
-use wire::{array_at, put, u32_at};
 
 /// The length of a public key, in bytes.
 pub const PUBLIC_KEY_LEN: usize = 56;
@@ -64,7 +64,7 @@ impl PublicKey {
     }
 
     /// The bytes of the key.
-    #[tactic(auto, using(wire::proofs::Numbers::filled), unfolding(crate::specs::Tree::key_text))]
+    #[tactic(auto, using(base_wire::proofs::Numbers::filled), unfolding(crate::specs::Tree::key_text))]
     pub fn to_bytes(&self) -> [u8; PUBLIC_KEY_LEN]
         ensures { result ≡ key_text self.now.key_id self.now.root }
     {

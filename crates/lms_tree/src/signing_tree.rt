@@ -1,7 +1,7 @@
 //! A seed's tree, from which its owner signs.
 
 ghost use Rattle.std.specs.Prelude.{◌≡◌, ◌+◌, ◌*◌, ◌<◌, ◌≤◌, ℕ, length, IfOk};
-ghost use Rattle.wire.specs.Pieces.{number_at};
+ghost use Rattle.base_wire.specs.Pieces.{number_at};
 ghost use Rattle.lmots.specs.Chains.{ots_public_key};
 ghost use Rattle.lms_tree.specs.Tree.{AreFourLeaves, AreLeaves, HasLeaves, IsFilled, lms_signature, path_node, tree_node, tree_root, Verifies};
 ghost use Rattle.lms_tree.specs.declared.TheConstants.{LEAVES, LEAF_FOURS, NODES};
@@ -11,10 +11,10 @@ use crate::public_key::PublicKey;
 use crate::{
     HEIGHT, LEAF_FOURS, LEAVES, NODES, OTS_AT, PATH_AT, SIGNATURE_LEN, TREE_TYPE, TREE_TYPE_AT,
 };
+use base_wire::put;
 use lmots::{KEYS_AT_ONCE, PrivateSeed, four_ots_public, ots_sign};
 use std::alloc::{AllocError, Global};
 use std::marker::Model;
-use wire::put;
 
 /// A private seed with the hashes of all nodes of its tree. A contract sees the seed: the hashes are
 /// always those of its tree.

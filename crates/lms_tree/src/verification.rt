@@ -1,7 +1,7 @@
 //! Whether a signature is one of a message under a key.
 
 ghost use Rattle.std.specs.Prelude.{◌≡◌, ◌≢◌, ◌↔◌, length, IsOk, IfErr, IfNone, IfSome};
-ghost use Rattle.wire.specs.Pieces.{number_at};
+ghost use Rattle.base_wire.specs.Pieces.{number_at};
 ghost use Rattle.lmots.specs.Signatures.{candidate_key};
 ghost use Rattle.lms_tree.specs.Refusals.{sig_refusal_number, IsSigRefusal};
 ghost use Rattle.lms_tree.specs.Tree.{climbed, ots_in, path_in, Verifies};
@@ -10,8 +10,8 @@ ghost use Rattle.lms_tree.specs.declared.TheConstants.{SIGNATURE_LEN};
 use crate::nodes::{leaf_hash, parent_hash};
 use crate::public_key::PublicKey;
 use crate::{HEIGHT, LEAVES, OTS_AT, PATH_AT, SIGNATURE_LEN, TREE_TYPE, TREE_TYPE_AT};
+use base_wire::{array_at, u32_at};
 use lmots::ots_candidate;
-use wire::{array_at, u32_at};
 
 /// Why a signature is refused.
 #[derive(Clone, Copy, PartialEq, Eq, Debug)]

@@ -6,7 +6,7 @@ use Rattle.std.proofs.lemmas.List.{flat_map_more, take_all, take_at, take_more, 
 use Rattle.std.proofs.lemmas.Bool.{cases_lt}
 use Rattle.std.proofs.lemmas.List.Concat.{flat_map-append}
 use Rattle.std.proofs.Math.Seq.{take-append-add}
-use Rattle.streams.specs.Streams.{Wrote, WrotePart}
+use Rattle.base_streams.specs.Streams.{Wrote, WrotePart}
 use Rattle.log_format.specs.Exports.{end_mark, frame_text, stream_text}
 use Rattle.log_export.specs.Sent.{cut_text, sent_text}
 use Rattle.log_export.specs.Splits.{JournalReading}

@@ -2,8 +2,8 @@
 use Rattle.std.specs.Prelude.{ℕ, ◌≡◌, ◌≢◌, ◌<◌, ◌≤◌, ◌++◌, ◌⊎◌, List, ◌∷◌, length, Bool}
 use Rattle.std.specs.Bool.{MatchBool}
 use Rattle.std.specs.List.{All}
-use Rattle.wire.specs.Payloads.{IsPayload}
-use Rattle.wire.specs.declared.limits.TheConstants.{MOST_ENTRIES}
+use Rattle.base_wire.specs.Payloads.{IsPayload}
+use Rattle.base_wire.specs.declared.limits.TheConstants.{MOST_ENTRIES}
 use Rattle.stable_log.specs.Image.{journal_text, payload_text}
 use Rattle.log_export.specs.declared.splitting.Gate.{Gate}
 use Rattle.log_export.specs.declared.splitting.Gate.TheVariants.{Closed, Entry, Damaged}

@@ -1,14 +1,14 @@
 //! Writes streams of frames.
 
 ghost use Rattle.std.specs.Prelude.{◌≡◌, ◌≤◌, OnErr, OnOk, codes, length};
-ghost use Rattle.wire.specs.declared.limits.TheConstants.{LONGEST_PAYLOAD};
+ghost use Rattle.base_wire.specs.declared.limits.TheConstants.{LONGEST_PAYLOAD};
 ghost use Rattle.log_format.specs.Exports.{end_mark, frame_text};
-ghost use Rattle.streams.specs.Counting.{Counts};
-ghost use Rattle.streams.specs.Streams.{Wrote, WrotePart};
+ghost use Rattle.base_streams.specs.Counting.{Counts};
+ghost use Rattle.base_streams.specs.Streams.{Wrote, WrotePart};
 ghost use Rattle.log_export.specs.Sent.{sent_text};
 
 use crate::splitting::JournalFront;
-use streams::{Fault, Sink, write_all};
+use base_streams::{Fault, Sink, write_all};
 
 /// Begins a stream of frames. After a fault, of this call as of the others, a first part was written.
 pub fn begin_export<W: Sink>(sink: &mut W) -> Result<(), Fault>
@@ -20,7 +20,7 @@ pub fn begin_export<W: Sink>(sink: &mut W) -> Result<(), Fault>
 }
 
 /// Writes a frame with this payload, of at most 65,536 bytes.
-#[tactic(auto, using(streams::proofs::Writing::wrote_both), unfolding(log_format::specs::Exports::frame_text))]
+#[tactic(auto, using(base_streams::proofs::Writing::wrote_both), unfolding(log_format::specs::Exports::frame_text))]
 pub fn send_frame<W: Sink>(sink: &mut W, payload: &[u8]) -> Result<(), Fault>
     requires { length payload.now ≤ LONGEST_PAYLOAD }
     ensures ok { OnOk result (Wrote (W.text sink.old) (W.text sink.new) (frame_text payload.now)) }
@@ -33,7 +33,7 @@ pub fn send_frame<W: Sink>(sink: &mut W, payload: &[u8]) -> Result<(), Fault>
 }
 
 /// Ends a stream of so many frames.
-#[tactic(auto, using(streams::proofs::Writing::wrote_both), unfolding(log_format::specs::Exports::end_mark))]
+#[tactic(auto, using(base_streams::proofs::Writing::wrote_both), unfolding(log_format::specs::Exports::end_mark))]
 pub fn end_export<W: Sink>(sink: &mut W, count: u32) -> Result<(), Fault>
     ensures ok { OnOk result (Wrote (W.text sink.old) (W.text sink.new) (end_mark count)) }
     ensures err { OnErr result (WrotePart (W.text sink.old) (W.text sink.new) (end_mark count)) }

@@ -1,15 +1,15 @@
 //! The payloads of a journal's bytes, read in place.
 
 ghost use Rattle.std.specs.Prelude.{◌≡◌, ◌≢◌, ◌↔◌, ◌<◌, ◌≤◌, ℕ, List, [], true, IfOk, IsTrue, MatchOption, length, slice_index_or, take};
-ghost use Rattle.wire.specs.Payloads.{IsPayload};
-ghost use Rattle.wire.specs.declared.limits.TheConstants.{MOST_ENTRIES};
+ghost use Rattle.base_wire.specs.Payloads.{IsPayload};
+ghost use Rattle.base_wire.specs.declared.limits.TheConstants.{MOST_ENTRIES};
 ghost use Rattle.log_format.specs.Fronts.{IsFrame};
 ghost use Rattle.stable_log.specs.Image.{StandsFor, magic};
 ghost use Rattle.log_export.specs.Splits.{AreIndices, AreJournalPayloads, IsAtGate, IsFrontOf};
 
+use base_wire::{LONGEST_PAYLOAD, MOST_ENTRIES, u32_at};
 use std::alloc::{AllocError, Global};
 use std::marker::Model;
-use wire::{LONGEST_PAYLOAD, MOST_ENTRIES, u32_at};
 
 // What stands in front of the first gate.
 const MAGIC: &[u8; 8] = b"HSJ1\0\0\0\0";

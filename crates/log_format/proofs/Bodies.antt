@@ -4,8 +4,8 @@ use Rattle.std.proofs.lemmas.Bool.{cases_lt}
 use Rattle.std.proofs.lemmas.List.{length-drop, length-take}
 use Rattle.std.proofs.lemmas.List.Elements.{All-nil, All-cons, All-head, All-tail}
 use Rattle.std.specs.List.{flat_map}
-use Rattle.wire.specs.Pieces.{number_at, AreBytes}
-use Rattle.wire.specs.Payloads.{IsPayload}
+use Rattle.base_wire.specs.Pieces.{number_at, AreBytes}
+use Rattle.base_wire.specs.Payloads.{IsPayload}
 use Rattle.log_format.specs.Exports.{frame_text}
 use Rattle.log_format.specs.Readings.{Reading, unfinished, Ends, IsBody}
 use Rattle.log_format.specs.declared.status.Status.{Status}

@@ -4,8 +4,8 @@ use Rattle.std.proofs.lemmas.Bool.{cases_lt}
 use Rattle.std.proofs.lemmas.List.{length-append, append-nil, nil_from_length}
 use Rattle.std.proofs.lemmas.List.Elements.{All-head, All-tail}
 use Rattle.std.specs.List.{flat_map}
-use Rattle.wire.specs.Pieces.{number_at}
-use Rattle.wire.specs.Payloads.{IsPayload}
+use Rattle.base_wire.specs.Pieces.{number_at}
+use Rattle.base_wire.specs.Payloads.{IsPayload}
 use Rattle.log_format.specs.Exports.{frame_text, end_mark}
 use Rattle.log_format.specs.Readings.{unfinished, HasEndMark, IsBody, IsOpen}
 use Rattle.log_format.specs.ReadingLaws.{AreFirstOf}

@@ -1,7 +1,7 @@
 -- How a stream ends: a rest gives one status, and none where a whole frame stands there that there is room for.
 use Rattle.std.proofs.Common.{◌≡◌, ◌⊎◌, inl, inr, ℕ, ◌+◌, ◌<◌, ◌≤◌, List, ◌++◌, Bool, true, false, length, refl, sym, ◌∙◌, arith}
-use Rattle.wire.specs.Pieces.{number_at}
-use Rattle.wire.specs.Payloads.{IsPayload}
+use Rattle.base_wire.specs.Pieces.{number_at}
+use Rattle.base_wire.specs.Payloads.{IsPayload}
 use Rattle.log_format.specs.Exports.{frame_text}
 use Rattle.log_format.specs.Readings.{unfinished, HasLength, HasGreatLength, HasEndMark, HasOtherEndMark, IsOpen, Ends}
 use Rattle.log_format.specs.declared.status.Status.{Status}

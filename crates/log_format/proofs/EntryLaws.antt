@@ -5,9 +5,9 @@ use Rattle.std.proofs.lemmas.Bool.Decides.{nat_tests}
 use Rattle.std.proofs.lemmas.List.{drop_more, get_or-drop, length-append, length-drop}
 use Rattle.byteorder.specs.Endian.{big_bytes}
 use Rattle.sha2.proofs.Facts256.{length-sha256}
-use Rattle.wire.specs.Pieces.{piece, AreBytes}
-use Rattle.wire.proofs.Numbers.{AreBytes-piece, front, behind, taken, length-piece, piece-number_at, number_again}
-use Rattle.wire.proofs.Order.{refused_fails}
+use Rattle.base_wire.specs.Pieces.{piece, AreBytes}
+use Rattle.base_wire.proofs.Numbers.{AreBytes-piece, front, behind, taken, length-piece, piece-number_at, number_again}
+use Rattle.base_wire.proofs.Order.{refused_fails}
 use Rattle.blocks.specs.Headers.{Header, IsHeader, NamesParent, header_id, header_text}
 use Rattle.blocks.specs.HeaderReading.{header_at, header_in}
 use Rattle.blocks.proofs.HeaderLaws.{header_found, header_again}

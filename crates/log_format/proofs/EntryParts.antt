@@ -2,9 +2,9 @@
 use Rattle.std.proofs.Common.{◌≡◌, ◌==◌, List, ℕ, Bool, true, Result, Ok, Err, length, refl, sym, ap, ◌∙◌}
 use Rattle.std.specs.Prelude.{IsOk, codes}
 use Rattle.std.specs.Str.{bytes_eq}
-use Rattle.wire.specs.Pieces.{piece, number_at}
-use Rattle.wire.specs.Refusals.{need}
-use Rattle.wire.proofs.Needs.{need_ok, ok_is}
+use Rattle.base_wire.specs.Pieces.{piece, number_at}
+use Rattle.base_wire.specs.Refusals.{need}
+use Rattle.base_wire.proofs.Needs.{need_ok, ok_is}
 use Rattle.blocks.specs.Headers.{Header}
 use Rattle.blocks.specs.HeaderReading.{are_in_order, header_at, header_in}
 use Rattle.blocks.specs.declared.header.HeaderRefusal.TheVariants.{Length, Magic, ViewOrder}

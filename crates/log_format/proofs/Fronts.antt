@@ -4,8 +4,8 @@ use Rattle.std.proofs.lemmas.List.{length-append, length-take, length-drop, leng
 use Rattle.std.proofs.lemmas.List.Elements.{All-nil, All-push}
 use Rattle.std.specs.Prelude.{codes}
 use Rattle.std.specs.List.{flat_map}
-use Rattle.wire.specs.Pieces.{number_at, AreBytes}
-use Rattle.wire.specs.Payloads.{IsPayload}
+use Rattle.base_wire.specs.Pieces.{number_at, AreBytes}
+use Rattle.base_wire.specs.Payloads.{IsPayload}
 use Rattle.log_format.specs.Exports.{frame_text}
 use Rattle.log_format.specs.Fronts.{IsFrame, AreFramesOf}
 use Rattle.log_format.specs.Readings.{Ends, IsReading}

@@ -9,7 +9,7 @@ use Rattle.std.proofs.lemmas.List.{length-append, length-drop, length-take, take
 use Rattle.std.proofs.lemmas.List.Elements.{All-head, All-take, All-drop}
 use Rattle.std.proofs.lemmas.List.Concat.{flat_map-append}
 use Rattle.std.specs.List.{flat_map}
-use Rattle.wire.specs.Payloads.{IsPayload}
+use Rattle.base_wire.specs.Payloads.{IsPayload}
 use Rattle.log_format.specs.Exports.{frame_text, end_mark, asked_for}
 use Rattle.log_format.specs.Readings.{IsBody, IsReading, HasFrames, unfinished, room_beside}
 use Rattle.log_format.specs.ReadingLaws.{AStreamHasOneReading, EveryStreamHasAReading, AnExportReadsBack, ALongExportIsTooLong, ACutExportHasTheFirstFrames, AreFirstOf}

@@ -1,8 +1,8 @@
 -- Requests, as they are read.
 use Rattle.std.proofs.Common.{◌≡◌, ℕ, List, length, take, refl, sym, ap, ◌∙◌, arith}
 use Rattle.std.specs.Prelude.{codes}
-use Rattle.wire.specs.Pieces.{number_at, AreBytes}
-use Rattle.wire.proofs.Numbers.{taken, cut_last, piece-number_at, number_again, number_below}
+use Rattle.base_wire.specs.Pieces.{number_at, AreBytes}
+use Rattle.base_wire.proofs.Numbers.{taken, cut_last, piece-number_at, number_again, number_below}
 use Rattle.log_format.specs.Requests.{IsRequest, request_text}
 use Rattle.log_format.specs.declared.request.FrameRequest.{FrameRequest}
 

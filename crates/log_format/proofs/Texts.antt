@@ -2,9 +2,9 @@
 use Rattle.std.proofs.Common.{◌≡◌, ℕ, ◌+◌, ◌^◌, ◌<◌, ◌≤◌, List, ◌++◌, length, take, drop, refl, sym, ap, subst, ◌∙◌, arith}
 use Rattle.std.proofs.lemmas.List.{take_at, drop_at, get_or-drop, length-append, take-append-le, take-append-drop, drop-append-le}
 use Rattle.byteorder.specs.Endian.{big_bytes}
-use Rattle.wire.specs.Pieces.{piece, number_at, AreBytes}
-use Rattle.wire.proofs.Numbers.{cut, length-piece, piece-number_at, number_again}
-use Rattle.wire.specs.Payloads.{IsPayload}
+use Rattle.base_wire.specs.Pieces.{piece, number_at, AreBytes}
+use Rattle.base_wire.proofs.Numbers.{cut, length-piece, piece-number_at, number_again}
+use Rattle.base_wire.specs.Payloads.{IsPayload}
 use Rattle.log_format.specs.Exports.{frame_text, end_mark}
 use Rattle.log_format.specs.Readings.{HasLength, HasEndMark}
 

@@ -1,7 +1,7 @@
 -- Why bytes are no entry: the tests of a reader, in their order.
 use Rattle.std.specs.Prelude.{◌≡◌, ◌⊎◌, ◌<◌, ◌==◌, ℕ, List, [], ◌∷◌, Bool, true, Option, Some, None, length, slice_index, drop, IsOk, ⊤, if◌then◌else◌}
-use Rattle.wire.specs.Pieces.{piece, number_at}
-use Rattle.wire.specs.Refusals.{AllPassed, IsFirst}
+use Rattle.base_wire.specs.Pieces.{piece, number_at}
+use Rattle.base_wire.specs.Refusals.{AllPassed, IsFirst}
 use Rattle.blocks.specs.Headers.{Header as BlockHeader, NamesParent, header_id}
 use Rattle.blocks.specs.HeaderReading.{header_at, header_in}
 use Rattle.certificates.specs.Certificates.{Certificate as ParentCertificate}

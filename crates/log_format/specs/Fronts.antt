@@ -1,7 +1,7 @@
 -- What stands at the front of the rest of a stream.
 use Rattle.std.specs.Prelude.{ℕ, ◌≡◌, ◌≤◌, ◌<◌, ◌-◌, ◌++◌, List, length, Bool}
 use Rattle.std.specs.List.{All, flat_map}
-use Rattle.wire.specs.Payloads.{IsPayload}
+use Rattle.base_wire.specs.Payloads.{IsPayload}
 use Rattle.log_format.specs.Exports.{frame_text}
 use Rattle.log_format.specs.Readings.{Ends}
 use Rattle.log_format.specs.declared.status.Status.{Status}

@@ -1,8 +1,8 @@
 -- Laws on what streams say.
 use Rattle.std.specs.Prelude.{ℕ, ◌≡◌, ◌≤◌, ◌<◌, ◌++◌, ◌⊎◌, List, [], length, take, Bool}
 use Rattle.std.specs.List.{All}
-use Rattle.wire.specs.Pieces.{AreBytes}
-use Rattle.wire.specs.Payloads.{IsPayload}
+use Rattle.base_wire.specs.Pieces.{AreBytes}
+use Rattle.base_wire.specs.Payloads.{IsPayload}
 use Rattle.log_format.specs.Exports.{asked_for, export_text}
 use Rattle.log_format.specs.Readings.{Reading, IsReading, room_beside, unfinished}
 use Rattle.log_format.specs.declared.status.Status.{Status}

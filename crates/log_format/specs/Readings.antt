@@ -1,9 +1,9 @@
 -- What a stream says, whole or in part: its frames, and how it ends. docs/FORMATS.md, 'Reading an export'.
 use Rattle.std.specs.Prelude.{ℕ, ◌≡◌, ◌≢◌, ◌≤◌, ◌<◌, ◌+◌, ◌-◌, ◌++◌, ◌⊎◌, List, [], length, take, codes, Bool, true, false}
 use Rattle.std.specs.List.{All, flat_map}
-use Rattle.wire.specs.Pieces.{number_at}
-use Rattle.wire.specs.Payloads.{IsPayload}
-use Rattle.wire.specs.declared.limits.TheConstants.{LONGEST_PAYLOAD, MOST_ENTRIES}
+use Rattle.base_wire.specs.Pieces.{number_at}
+use Rattle.base_wire.specs.Payloads.{IsPayload}
+use Rattle.base_wire.specs.declared.limits.TheConstants.{LONGEST_PAYLOAD, MOST_ENTRIES}
 use Rattle.log_format.specs.Exports.{frame_text}
 use Rattle.log_format.specs.declared.status.Status.{Status}
 use Rattle.log_format.specs.declared.status.Status.TheVariants.{Whole, Cut, Broken, TooLong, Failed}

@@ -2,7 +2,7 @@
 
 ghost use Rattle.std.specs.Prelude.{◌≡◌, ◌≢◌, ◌+◌, ◌*◌, ◌==◌, ◌<◌, ◌≤◌, ◌↔◌, ◌++◌, ◌⊎◌, true, drop, length, option_map, Ok, Err, IfErr, IfOk, IfSome, IsSome, IsTrue, OnOk};
 ghost use Rattle.std.specs.Option.{ForSome};
-ghost use Rattle.wire.specs.Pieces.{piece};
+ghost use Rattle.base_wire.specs.Pieces.{piece};
 ghost use Rattle.blocks.specs.Headers.{Header as HeaderValue, IsHeader, NamesParent, header_id};
 ghost use Rattle.certificates.specs.Assembling.{IsVoteFor};
 ghost use Rattle.certificates.specs.CertificateReading.{is_whole_certificate};
@@ -10,6 +10,7 @@ ghost use Rattle.log_format.specs.declared.entry.TheConstants.{BEHIND_VOTE, LONG
 ghost use Rattle.log_format.specs.EntryReading.{AreReadable, IsEntryRefusal, IsOwnVoteOn, IsReadableEntry, IsReadableOn, IsCertificateRefusal, block_in, certificate_in_rest, certificate_place, entry_in, entry_refusal_number, is_voted_in, entry_kind_in, own_in, parent_in};
 ghost use Rattle.log_format.specs.EntryText.{Entry as EntryValue, EntriesHaveOneSpelling, IsEntry, IsEntryOf, IsOn, entry_text, entry_kind, is_signed, own_of, own_vote_text, stored_in, own_vote_of};
 
+use base_wire::{append, array_at, u64_at};
 use blocks::{HEADER_LEN, Header, Id, NamedHeader};
 use certificates::{
     BOUND_VOTE_LEN, Certificate, CertificateRefusal, CheckedBlock, LONGEST_CERTIFICATE, SignedVote,
@@ -19,7 +20,6 @@ use lms_tree::Signature;
 use replica_core::Stored;
 use std::alloc::{AllocError, Global};
 use std::marker::Model;
-use wire::{append, array_at, u64_at};
 
 /// The first byte of an entry with the replica's own vote.
 const VOTED: u8 = 3;

@@ -1,15 +1,15 @@
 //! The frames of a stream, read in place.
 
 ghost use Rattle.std.specs.Prelude.{◌≡◌, ◌≤◌, ◌-◌, false, length, map, IfOk, ◌<◌, [], slice_index_or};
-ghost use Rattle.wire.specs.Pieces.{number_at};
+ghost use Rattle.base_wire.specs.Pieces.{number_at};
 ghost use Rattle.log_format.specs.Readings.{Ends, IsReading};
-ghost use Rattle.wire.specs.declared.limits.TheConstants.{MOST_ENTRIES};
+ghost use Rattle.base_wire.specs.declared.limits.TheConstants.{MOST_ENTRIES};
 ghost use Rattle.log_format.specs.Fronts.{IsFront, AreFramesOf};
 
 use crate::Status;
+use base_wire::{LONGEST_PAYLOAD, MOST_ENTRIES, u32_at};
 use std::alloc::{AllocError, Global};
 use std::marker::Model;
-use wire::{LONGEST_PAYLOAD, MOST_ENTRIES, u32_at};
 
 /// The whole frames at the front of a stream, each a part of the text, and how the stream ends. Contracts see
 /// the payloads in order and the status.

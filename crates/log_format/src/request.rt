@@ -4,7 +4,7 @@ ghost use Rattle.std.specs.Prelude.{◌≡◌, ◌↔◌, Some, IfSome, IsTrue, 
 ghost use Rattle.log_format.specs.Requests.{IsRequest, request_text};
 ghost use Rattle.log_format.specs.declared.request.FrameRequest.{FrameRequest as RequestValue};
 
-use wire::{put, u32_at};
+use base_wire::{put, u32_at};
 
 /// The length of a request in bytes.
 pub const REQUEST_LEN: usize = 12;

@@ -1,8 +1,8 @@
 -- What answers a request of either kind. docs/FORMATS.md, 'Request for a chain'.
 use Rattle.std.specs.Prelude.{◌≡◌, ℕ, List, Option, Some, None, length, true, false}
-use Rattle.chain_request.specs.declared.asking.Asked.{Asked}
-use Rattle.chain_request.specs.declared.asking.Asked.TheVariants.{Frames, OtherChain}
-use Rattle.chain_request.specs.declared.asking.TheConstants.{NO_LOG}
+use Rattle.log_request.specs.declared.asking.Asked.{Asked}
+use Rattle.log_request.specs.declared.asking.Asked.TheVariants.{Frames, OtherChain}
+use Rattle.log_request.specs.declared.asking.TheConstants.{NO_LOG}
 use Rattle.stable_log.specs.declared.disk.Disk.{Ghosts}
 use Rattle.vote_log.specs.declared.export_error.ExportError.{ExportError}
 use Rattle.vote_log.specs.declared.export_error.ExportError.TheVariants.{Memory}

@@ -7,15 +7,15 @@ ghost use Rattle.vote_desk.specs.SomeDesk.{IsDeskOf, SomeDesk};
 ghost use Rattle.log_handout.specs.Handouts.{AreFrames, HasAll, IsPiece, IsUnmade, begun, next_entry, wanted};
 
 use crate::stage::Stage;
+use base_streams::MemorySink;
+use base_wire::append;
 use log_format::FrameRequest;
 use stable_log::Disk;
 use std::alloc::{AllocError, Global};
 use std::marker::Model;
 use std::sync::Wait;
-use streams::MemorySink;
 use vote_desk::{Desk, DeskNaming};
 use vote_log::ExportError;
-use wire::append;
 
 /// The bytes of an export before its frames, and how many stand behind them.
 const FRONT: &[u8] = b"HSL1";

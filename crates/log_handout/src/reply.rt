@@ -5,7 +5,7 @@ ghost use Rattle.vote_desk.specs.SomeDesk.{IsDeskOf, SomeDesk};
 ghost use Rattle.log_handout.specs.Replies.{IsBegun, IsReplyPiece, IsReplyUnmade};
 
 use crate::handout::{Handout, copy_of};
-use chain_request::{Asked, NO_LOG};
+use log_request::{Asked, NO_LOG};
 use stable_log::Disk;
 use std::alloc::Global;
 use std::sync::Wait;

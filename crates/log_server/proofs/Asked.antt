@@ -3,12 +3,12 @@ use Rattle.std.proofs.Common.{◌≡◌, ◌≤◌, ◌<◌, ◌++◌, ◌∙◌
 use Rattle.std.specs.Prelude.{◌≢◌, ◌↔◌, IfSome, IsTrue, OnErr, Result, Ok, Err}
 use Rattle.std.proofs.lemmas.Bool.{cases_lt, false≢true}
 use Rattle.std.proofs.lemmas.List.{drop_all, drop_at, take_all, take-append-drop}
-use Rattle.streams.specs.Streams.{Read}
-use Rattle.chain_request.specs.ChainRequests.{IsAskedIn}
-use Rattle.chain_request.specs.Gathering.{first_request, request_len}
-use Rattle.chain_request.specs.declared.asking.Asked.{Asked}
-use Rattle.chain_request.proofs.AskedLaws.{asked_first}
-use Rattle.chain_request.proofs.GatheringLaws.{first_of_short, len_before, one_more, twelve_at_least, whole_stays}
+use Rattle.base_streams.specs.Streams.{Read}
+use Rattle.log_request.specs.ChainRequests.{IsAskedIn}
+use Rattle.log_request.specs.Gathering.{first_request, request_len}
+use Rattle.log_request.specs.declared.asking.Asked.{Asked}
+use Rattle.log_request.proofs.AskedLaws.{asked_first}
+use Rattle.log_request.proofs.GatheringLaws.{first_of_short, len_before, one_more, twelve_at_least, whole_stays}
 use Rattle.log_server.specs.Serving.{GaveBytes}
 use Rattle.log_server.specs.Replies.{AsksNothing, Gathered, IsAskedOf, TookAsked}
 use Rattle.log_server.proofs.Requests.{gave_last}

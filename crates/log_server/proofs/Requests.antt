@@ -2,7 +2,7 @@
 use Rattle.std.proofs.Common.{◌≡◌, ℕ, suc, ◌+◌, ◌<◌, ◌≤◌, List, [], ◌∷◌, ◌++◌, Option, Some, None, length, take, drop, refl, sym, ap, subst, ◌∙◌, arith, append_assoc}
 use Rattle.std.proofs.lemmas.List.{append-nil, length-append, take_at, take-append-le, take-append-drop, length-take, drop_at, drop_all}
 use borrow.Rule.Slice.PartMut.{put_mid, post_of}
-use Rattle.streams.specs.Streams.{Read}
+use Rattle.base_streams.specs.Streams.{Read}
 use Rattle.std.specs.Prelude.{IfSome}
 use Rattle.log_format.specs.Requests.{IsRequest, request_text}
 use Rattle.log_format.specs.declared.request.FrameRequest.{FrameRequest}

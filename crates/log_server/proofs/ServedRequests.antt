@@ -7,8 +7,8 @@ use Rattle.std.proofs.lemmas.List.Elements.{All-append, All-nil, All-cons}
 use Rattle.log_format.specs.declared.request.FrameRequest.{FrameRequest}
 use Rattle.vote_log.specs.Logs.{LogState}
 use Rattle.vote_log.specs.LogExport.{export_of, frame_count}
-use Rattle.streams.specs.Streams.{Wrote}
-use Rattle.streams.proofs.Writing.{wrote_nothing, wrote_both}
+use Rattle.base_streams.specs.Streams.{Wrote}
+use Rattle.base_streams.proofs.Writing.{wrote_nothing, wrote_both}
 use Rattle.log_server.specs.Serving.{IsRequestOf, IsServeRefusal}
 use Rattle.log_server.specs.declared.error.ServeError.{ServeError}
 use Rattle.log_server.specs.declared.error.ServeError.TheVariants.{Memory, Device, Sink, Source, BadRequest, Stopped}

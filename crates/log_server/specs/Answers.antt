@@ -1,14 +1,14 @@
 -- What a log answers to requests.
 use Rattle.std.specs.Prelude.{ℕ, ◌≡◌, ◌⊎◌, ◌≤◌, ◌<◌, List, length, Option, IfSome, Bool, true, false, Result, Ok, Err, ⊤}
 use Rattle.std.specs.List.{All}
-use Rattle.chain_request.specs.declared.asking.TheConstants.{NO_LOG}
-use Rattle.chain_request.specs.declared.asking.Asked.TheVariants.{Frames, OtherChain}
+use Rattle.log_request.specs.declared.asking.TheConstants.{NO_LOG}
+use Rattle.log_request.specs.declared.asking.Asked.TheVariants.{Frames, OtherChain}
 use Rattle.log_format.specs.declared.request.FrameRequest.{FrameRequest}
 use Rattle.vote_log.specs.Logs.{LogState}
 use Rattle.vote_log.specs.LogExport.{export_of, frame_count}
-use Rattle.streams.specs.Streams.{Wrote, WrotePart}
-use Rattle.streams.specs.declared.feed.Feed.{Ghosts as FeedGhosts}
-use Rattle.streams.specs.declared.sink.Sink.{Ghosts as SinkGhosts}
+use Rattle.base_streams.specs.Streams.{Wrote, WrotePart}
+use Rattle.base_streams.specs.declared.feed.Feed.{Ghosts as FeedGhosts}
+use Rattle.base_streams.specs.declared.sink.Sink.{Ghosts as SinkGhosts}
 use Rattle.stable_log.specs.declared.disk.Disk.{Ghosts as DiskGhosts}
 use Rattle.log_server.specs.Serving.{BlamesOne}
 use Rattle.log_server.specs.Replies.{AsksForFrames, AsksNothing, AsksSomething, IsAskedOf, chain_of}

@@ -1,6 +1,6 @@
 -- Which faults say that a write to the sink failed.
 use Rattle.std.specs.Prelude.{◌≡◌, ℕ, Result, Ok, Err}
-use Rattle.streams.specs.Counting.{one_more}
+use Rattle.base_streams.specs.Counting.{one_more}
 use Rattle.log_server.specs.declared.fault.ServiceFault.{ServiceFault}
 use Rattle.log_server.specs.declared.fault.ServiceFault.TheVariants.{Listen, Output}
 

@@ -1,9 +1,9 @@
 -- What a feed asks of a server that has the log of one chain. docs/FORMATS.md, 'Request for a chain'.
 use Rattle.std.specs.Prelude.{ℕ, ◌≡◌, ◌≢◌, ◌++◌, List, drop, Option, Some, IfSome, ⊤}
-use Rattle.chain_request.specs.ChainRequests.{IsAskedIn}
-use Rattle.chain_request.specs.Gathering.{first_request, request_len}
-use Rattle.chain_request.specs.declared.asking.Asked.{Asked}
-use Rattle.chain_request.specs.declared.asking.Asked.TheVariants.{Frames}
+use Rattle.log_request.specs.ChainRequests.{IsAskedIn}
+use Rattle.log_request.specs.Gathering.{first_request, request_len}
+use Rattle.log_request.specs.declared.asking.Asked.{Asked}
+use Rattle.log_request.specs.declared.asking.Asked.TheVariants.{Frames}
 use Rattle.log_format.specs.declared.request.FrameRequest.{FrameRequest}
 use Rattle.vote_log.specs.Logs.{LogState}
 use Rattle.blocks.specs.Headers.{header_id}

@@ -1,6 +1,6 @@
 -- One request that is answered. docs/FORMATS.md, 'Request'.
 use Rattle.std.specs.Prelude.{ℕ, ◌≡◌, ◌≢◌, ◌<◌, ◌++◌, List, [], length, take, drop, Option, Some, IfSome, true, false, Result, Err, ⊤}
-use Rattle.streams.specs.Counting.{HasFailed}
+use Rattle.base_streams.specs.Counting.{HasFailed}
 use Rattle.log_format.specs.Requests.{IsRequest, request_text}
 use Rattle.log_format.specs.declared.request.FrameRequest.{FrameRequest}
 use Rattle.vote_log.specs.Logs.{LogState}

@@ -1,19 +1,19 @@
 //! One request that is answered, and its line.
 
 ghost use Rattle.std.specs.Prelude.{◌≡◌, ◌≤◌, ◌++◌, OnOk, Result as ResultValue, codes, decimal, length};
-ghost use Rattle.streams.specs.Counting.{Counts};
+ghost use Rattle.base_streams.specs.Counting.{Counts};
 ghost use Rattle.stable_log.specs.Devices.{Untouched};
-ghost use Rattle.streams.specs.Streams.{Wrote};
+ghost use Rattle.base_streams.specs.Streams.{Wrote};
 ghost use Rattle.log_server.specs.declared.error.ServeError.{ServeError as ServeErrorValue};
 ghost use Rattle.log_server.specs.declared.reply.Reply.{Reply as ReplyValue};
 ghost use Rattle.log_server.specs.Answers.{IsAnswered};
 ghost use Rattle.log_server.specs.ServedLines.{fault_line, served_line};
 
 use crate::{Reply, ServeError, reply_to};
+use base_streams::{Fault, Feed, Sink, write_all};
+use base_text::Line;
 use itoa::Buffer;
-use printed_lines::Line;
 use stable_log::Disk;
-use streams::{Fault, Feed, Sink, write_all};
 use vote_log::VoteLog;
 
 /// Answers one request of a feed as `reply_to` does: by the export of the log that it asks for, which goes to `sink`, or by the

@@ -2,13 +2,13 @@
 
 ghost use Rattle.std.specs.Prelude.{◌≡◌, ◌≤◌, length};
 ghost use Rattle.std.specs.Io.{WritesAtMost};
-ghost use Rattle.patient_sockets.specs.Awaiting.{awaited};
-ghost use Rattle.chain_request.specs.Gathering.{request_len};
+ghost use Rattle.base_sockets.specs.Awaiting.{awaited};
+ghost use Rattle.log_request.specs.Gathering.{request_len};
 
-use chain_request::CHAIN_REQUEST_LEN;
+use base_sockets::{Came, FirstBytes, Lobby, LobbyRules};
 use log_format::REQUEST_LEN;
+use log_request::CHAIN_REQUEST_LEN;
 use mio::net::TcpStream;
-use patient_sockets::{Came, FirstBytes, Lobby, LobbyRules};
 use std::io;
 use std::io::{ErrorKind, Read, Write};
 use std::net::Net;
@@ -50,13 +50,13 @@ const _: () = prove!(REQUEST_SECONDS == 10);
 
 /// The bytes of a client, which have come. They end where the client ended, or in an error where no more came in time.
 #[derive(Drop)]
-pub(crate) struct Asking {
+pub(crate) struct ClientBytes {
     pub bytes: Vec<u8>,
     pub given: usize,
     pub came: Came,
 }
 
-impl Read for Asking {
+impl Read for ClientBytes {
     fn read(&mut self, buffer: &mut [u8]) -> io::Result<usize> {
         let count = copy_from(&self.bytes, self.given, buffer);
         self.given = self.given.saturating_add(count);

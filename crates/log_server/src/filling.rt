@@ -1,10 +1,10 @@
 //! Reading of exactly so many bytes of a feed.
 
 ghost use Rattle.std.specs.Prelude.{◌≡◌, IfOk, OnErr, length};
-ghost use Rattle.streams.specs.Counting.{Counts};
+ghost use Rattle.base_streams.specs.Counting.{Counts};
 ghost use Rattle.log_server.specs.Serving.{IsFeedFilled, TookFirst};
 
-use streams::{Fault, Feed};
+use base_streams::{Fault, Feed};
 
 /// What came of a buffer.
 #[derive(Clone, Copy, Debug, PartialEq, Eq)]

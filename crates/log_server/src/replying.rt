@@ -2,8 +2,8 @@
 
 ghost use Rattle.std.specs.Prelude.{◌≡◌, ◌≢◌, IfErr, IfOk, IsErrOf, OnErr, OnOk};
 ghost use Rattle.stable_log.specs.Devices.{Untouched};
-ghost use Rattle.streams.specs.Counting.{Counts};
-ghost use Rattle.streams.specs.Streams.{Wrote, WrotePart};
+ghost use Rattle.base_streams.specs.Counting.{Counts};
+ghost use Rattle.base_streams.specs.Streams.{Wrote, WrotePart};
 ghost use Rattle.log_server.specs.Answers.{IsAnswer};
 ghost use Rattle.log_server.specs.Serving.{BlamesFeed, BlamesOne, TookFirst};
 ghost use Rattle.log_server.specs.Replies.{Gathered, IsAskedOf, IsAskedRefusal, TookAsked};
@@ -11,10 +11,10 @@ ghost use Rattle.log_server.specs.Replies.{Gathered, IsAskedOf, IsAskedRefusal, 
 use crate::error::ServeError;
 use crate::reply::Reply;
 use crate::serving::send;
+use base_streams::{Fault, Feed, Sink, write_all};
 use blocks::Id;
-use chain_request::{Asked, NO_LOG, RequestBytes, asked_in};
+use log_request::{Asked, NO_LOG, RequestBytes, asked_in};
 use stable_log::Disk;
-use streams::{Fault, Feed, Sink, write_all};
 use vote_log::VoteLog;
 
 // Reads a request byte by byte, until it is whole, or the feed ends or fails.

@@ -1,9 +1,9 @@
 //! Requests that come over TCP, one after the other.
 
 ghost use Rattle.std.specs.Prelude.{◌≡◌, IsErrOf, OnOk, Result as ResultValue, length};
-ghost use Rattle.streams.specs.Counting.{Counts};
+ghost use Rattle.base_streams.specs.Counting.{Counts};
 ghost use Rattle.stable_log.specs.Devices.{Untouched};
-ghost use Rattle.streams.specs.Streams.{Wrote};
+ghost use Rattle.base_streams.specs.Streams.{Wrote};
 ghost use Rattle.log_server.specs.declared.error.ServeError.{ServeError as ServeErrorValue};
 ghost use Rattle.log_server.specs.declared.reply.Reply.{Reply as ReplyValue};
 ghost use Rattle.log_server.specs.Answers.{IsServed, MayAnswer};
@@ -12,15 +12,15 @@ ghost use Rattle.log_server.specs.ServedLines.{served_line};
 
 use crate::ServeError;
 use crate::answering::{answer, print_answer};
-use crate::connection::{Asking, RULES, Telling};
+use crate::connection::{ClientBytes, RULES, Telling};
 use crate::fault::ServiceFault;
-use patient_sockets::{Arrival, Lobby, bind};
+use base_sockets::{Arrival, Lobby, bind};
+use base_streams::{Fault, Sink, StdFeed, StdSink};
 use stable_log::Disk;
 use std::alloc::Global;
 use std::net::{Net, TcpListener, TcpStream};
 use std::time::{Clock, Duration};
 use std::{io, thread};
-use streams::{Fault, Sink, StdFeed, StdSink};
 use vote_log::VoteLog;
 
 // How many seconds nothing is accepted behind a connection that could not be.
@@ -134,7 +134,7 @@ fn answer_arrival<'a, R: Net + Clock, D: Disk, W: Sink>(
         × Untouched D.Disk log.old.disk log.new.disk }
     ensures counted { Counts (W.failed out.old) (W.failed out.new) result }
 {
-    let asking = Asking {
+    let asking = ClientBytes {
         bytes: arrival.bytes,
         given: 0,
         came: arrival.came,

@@ -3,15 +3,15 @@
 ghost use Rattle.std.specs.Prelude.{◌≡◌, ◌≢◌, ◌⊎◌, false, IfErr, IfOk, IfSome, IsErrOf, OnErr, OnOk, length};
 ghost use Rattle.log_format.specs.declared.request.FrameRequest.{FrameRequest as RequestValue};
 ghost use Rattle.stable_log.specs.Devices.{Untouched};
-ghost use Rattle.streams.specs.Streams.{Wrote, WrotePart};
+ghost use Rattle.base_streams.specs.Streams.{Wrote, WrotePart};
 ghost use Rattle.vote_log.specs.LogExport.{export_of, frame_count};
 ghost use Rattle.log_server.specs.Serving.{BlamesFeed, BlamesOne, BlamesSending, IsReadRefusal, IsRequestOf, IsSendRefusal, IsServeRefusal, TookFirst, TookRequest};
 
 use crate::error::ServeError;
 use crate::filling::{Filled, fill};
+use base_streams::{Feed, Sink};
 use log_format::{FrameRequest, REQUEST_LEN};
 use stable_log::Disk;
-use streams::{Feed, Sink};
 use vote_log::{ExportError, VoteLog};
 
 fn read_request<R: Feed>(feed: &mut R) -> Result<FrameRequest, ServeError>

@@ -6,10 +6,10 @@ use Rattle.log_transfer.specs.Bytes.{most_of_frames}
 use Rattle.log_transfer.specs.Connections.{CountsBytes}
 use Rattle.log_transfer.specs.Places.{IsEnd, IsPlace}
 use Rattle.log_transfer.specs.Pulls.{first_place}
-use Rattle.log_transfer.specs.declared.place.Place.{Place}
+use Rattle.log_transfer.specs.declared.reader_state.ReaderState.{ReaderState}
 
 -- before the first connection
-pub place_first : (taken tries : ℕ) (p : Place) → p ≡ first_place tries → 1 ≤ tries → IsPlace taken p
+pub place_first : (taken tries : ℕ) (p : ReaderState) → p ≡ first_place tries → 1 ≤ tries → IsPlace taken p
 place_first taken tries p is some =
     let first : IsPlace taken (first_place tries) = record {
       few = omega arith;
@@ -17,10 +17,10 @@ place_first taken tries p is some =
       frames = λ shown. absurd (false≢true shown);
       stream = λ end. absurd (let none = end.last refl in omega (arith, some, none));
     } in
-    subst (λ (q : Place). IsPlace taken q) (sym is) first
+    subst (λ (q : ReaderState). IsPlace taken q) (sym is) first
 
 -- no more than the frames of the connection have
-pub place_within : (taken : ℕ) (p : Place) → p.held ≤ 4096 → p.count ≤ p.held → taken ≤ most_of_frames p.count → IsPlace taken p
+pub place_within : (taken : ℕ) (p : ReaderState) → p.held ≤ 4096 → p.count ≤ p.held → taken ≤ most_of_frames p.count → IsPlace taken p
 place_within taken p few counted within = record {
   few = few;
   counted = counted;
@@ -29,7 +29,7 @@ place_within taken p few counted within = record {
 }
 
 -- no more than a stream has, and none is open
-pub place_ended : (taken : ℕ) (p : Place) → p.held ≤ 4096 → p.count ≤ p.held → p.is_open ≡ false → taken ≤ 268451852 → IsPlace taken p
+pub place_ended : (taken : ℕ) (p : ReaderState) → p.held ≤ 4096 → p.count ≤ p.held → p.is_open ≡ false → taken ≤ 268451852 → IsPlace taken p
 place_ended taken p few counted closed within = record {
   few = few;
   counted = counted;
@@ -38,7 +38,7 @@ place_ended taken p few counted closed within = record {
 }
 
 -- behind a frame
-pub shown_within : (taken : ℕ) (p : Place) → IsPlace taken p → p.is_open ≡ true → taken ≤ 268451852
+pub shown_within : (taken : ℕ) (p : ReaderState) → IsPlace taken p → p.is_open ≡ true → taken ≤ 268451852
 shown_within taken p is shown =
     let few = is.few in
     let counted = is.counted in

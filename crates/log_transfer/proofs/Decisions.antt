@@ -1,7 +1,7 @@
 -- What came decides, whatever comes behind it.
 use Rattle.std.proofs.Common.{◌≡◌, ◌≢◌, inl, inr, ℕ, ◌+◌, ◌<◌, ◌≤◌, List, ◌++◌, length, take, drop, refl, sym, ap, ◌∙◌, arith}
 use Rattle.std.proofs.lemmas.List.{length-append, length-drop, take-append-le, drop-append-le}
-use Rattle.wire.specs.Pieces.{number_at, piece}
+use Rattle.base_wire.specs.Pieces.{number_at, piece}
 use Rattle.log_format.specs.declared.status.Status.TheVariants.{Whole, Broken, TooLong}
 use Rattle.log_transfer.specs.Pulled.{Decides}
 

@@ -1,8 +1,8 @@
 -- What a source in memory gives.
 use Rattle.std.proofs.Common.{◌≡◌, ℕ, zero, suc, List, [], ◌∷◌, ◌++◌, Bool, true, false, Option, Some, None, All, sym, ap, subst, ◌∙◌, arith, append_assoc}
 use Rattle.std.specs.Prelude.{⊤}
-use Rattle.streams.specs.Fuse.{after_call}
-use Rattle.wire.specs.Pieces.{AreBytes}
+use Rattle.base_streams.specs.Fuse.{after_call}
+use Rattle.base_wire.specs.Pieces.{AreBytes}
 use Rattle.log_transfer.specs.Connections.{Connection, GivesFirst, GivesSome, behind, ended}
 use Rattle.log_transfer.specs.Scripts.{GivesOf, IsText, gives_all, stream_at}
 

@@ -4,7 +4,7 @@ use Rattle.std.specs.Prelude.{codes}
 use Rattle.std.proofs.lemmas.List.{append-nil, length-append, take_at}
 use Rattle.std.specs.Bool.{MatchBool}
 use Rattle.std.proofs.lemmas.Bool.{false≢true}
-use Rattle.wire.specs.Payloads.{IsPayload}
+use Rattle.base_wire.specs.Payloads.{IsPayload}
 use Rattle.log_format.specs.Exports.{frame_text}
 use Rattle.log_format.specs.Readings.{IsBody, IsReading, room_beside, unfinished}
 use Rattle.log_format.specs.declared.status.Status.{Status}
@@ -15,7 +15,7 @@ use Rattle.log_transfer.specs.Connections.{Connection, GivesSome, behind, failin
 use Rattle.log_transfer.specs.Streams.{EndsBehind, GaveAll}
 use Rattle.log_transfer.specs.Turns.{IsEntered}
 use Rattle.log_transfer.specs.Magics.{EndsAtMagic}
-use Rattle.log_transfer.specs.declared.place.Place.{Place}
+use Rattle.log_transfer.specs.declared.reader_state.ReaderState.{ReaderState}
 use Rattle.log_transfer.specs.Places.{Visit, IsVisit, AreVisits, IsOutcome, IsRest, IsAhead, Leads, may_go_on, IsEnd}
 
 abbrev Gives : Type 1
@@ -76,16 +76,16 @@ magic_other old new bytes c may gave size other = record {
 abbrev Rest : (old : Gives) → (Connection → Type 0) → (held tries count : ℕ) → List (List ℕ) → Status → Type 0
 Rest old left held tries count frames status = (m : Visit) × IsRest left count (room_beside held) m × ((more : List (List ℕ)) × (frames ≡ m.frames ++ more) × IsOutcome old 0 (held + length m.frames) tries m.status more status)
 
-pub ahead_closed : (gives : Gives) (left : Connection → Type 0) (p : Place) (frames : List (List ℕ)) (status : Status) → p.is_open ≡ false → IsOutcome gives 0 p.held p.tries p.last frames status → IsAhead gives left p frames status
+pub ahead_closed : (gives : Gives) (left : Connection → Type 0) (p : ReaderState) (frames : List (List ℕ)) (status : Status) → p.is_open ≡ false → IsOutcome gives 0 p.held p.tries p.last frames status → IsAhead gives left p frames status
 ahead_closed gives left p frames status is o = subst (λ (b : Bool). MatchBool b (Rest gives left p.held p.tries p.count frames status) (IsOutcome gives 0 p.held p.tries p.last frames status)) (sym is) o
 
-pub closed_ahead : (gives : Gives) (left : Connection → Type 0) (p : Place) (frames : List (List ℕ)) (status : Status) → p.is_open ≡ false → IsAhead gives left p frames status → IsOutcome gives 0 p.held p.tries p.last frames status
+pub closed_ahead : (gives : Gives) (left : Connection → Type 0) (p : ReaderState) (frames : List (List ℕ)) (status : Status) → p.is_open ≡ false → IsAhead gives left p frames status → IsOutcome gives 0 p.held p.tries p.last frames status
 closed_ahead gives left p frames status is a = subst (λ (b : Bool). MatchBool b (Rest gives left p.held p.tries p.count frames status) (IsOutcome gives 0 p.held p.tries p.last frames status)) is a
 
-pub ahead_open : (gives : Gives) (left : Connection → Type 0) (p : Place) (frames : List (List ℕ)) (status : Status) → p.is_open ≡ true → Rest gives left p.held p.tries p.count frames status → IsAhead gives left p frames status
+pub ahead_open : (gives : Gives) (left : Connection → Type 0) (p : ReaderState) (frames : List (List ℕ)) (status : Status) → p.is_open ≡ true → Rest gives left p.held p.tries p.count frames status → IsAhead gives left p frames status
 ahead_open gives left p frames status is r = subst (λ (b : Bool). MatchBool b (Rest gives left p.held p.tries p.count frames status) (IsOutcome gives 0 p.held p.tries p.last frames status)) (sym is) r
 
-pub open_ahead : (gives : Gives) (left : Connection → Type 0) (p : Place) (frames : List (List ℕ)) (status : Status) → p.is_open ≡ true → IsAhead gives left p frames status → Rest gives left p.held p.tries p.count frames status
+pub open_ahead : (gives : Gives) (left : Connection → Type 0) (p : ReaderState) (frames : List (List ℕ)) (status : Status) → p.is_open ≡ true → IsAhead gives left p frames status → Rest gives left p.held p.tries p.count frames status
 open_ahead gives left p frames status is a = subst (λ (b : Bool). MatchBool b (Rest gives left p.held p.tries p.count frames status) (IsOutcome gives 0 p.held p.tries p.last frames status)) is a
 
 -- ---- the next connection
@@ -98,7 +98,7 @@ no_frames old new later held tries left last c ended frames status may size gave
     (subst (λ (h : ℕ). IsOutcome new 0 h left ended frames status) same o)
 
 -- from a closed place
-module _ (old new : Gives) (old_left new_left : Connection → Type 0) (p q : Place) (closed : p.is_open ≡ false) (may : may_go_on p.last ≡ true) (size : q.tries + 1 ≡ p.tries) (held : q.held ≡ p.held)
+module _ (old new : Gives) (old_left new_left : Connection → Type 0) (p q : ReaderState) (closed : p.is_open ≡ false) (may : may_go_on p.last ≡ true) (size : q.tries + 1 ≡ p.tries) (held : q.held ≡ p.held)
     (later : (k f m : ℕ) (c : Connection) → new k f m c → old (k + 1) f m c) where
   -- to a closed one, by a connection that gave no frame
   pub leads_on : (c : Connection) → old 0 p.held (4097 - p.held) c → IsReading p.held c.text c.fails [] q.last → q.is_open ≡ false → Leads old new old_left new_left p q []
@@ -126,7 +126,7 @@ module _ (old new : Gives) (old_left new_left : Connection → Type 0) (p q : Pl
 
 -- ---- the open connection
 
-module _ (old new : Gives) (old_left new_left : Connection → Type 0) (p q : Place) (shown : p.is_open ≡ true) (later : (k f m : ℕ) (c : Connection) → new k f m c → old k f m c) (tries : q.tries ≡ p.tries) where
+module _ (old new : Gives) (old_left new_left : Connection → Type 0) (p q : ReaderState) (shown : p.is_open ≡ true) (later : (k f m : ℕ) (c : Connection) → new k f m c → old k f m c) (tries : q.tries ≡ p.tries) where
   -- it gives a frame
   pub leads_frame : (x : List ℕ) → 0 < room_beside p.held → IsPayload x → GaveAll old_left new_left (frame_text x) → q.is_open ≡ true → q.held ≡ p.held + 1 → q.count ≡ p.count + 1 → Leads old new old_left new_left p q (x ∷ [])
   leads_frame x some is gave still held count = λ frames status a.
@@ -161,15 +161,15 @@ module _ (old new : Gives) (old_left new_left : Connection → Type 0) (p q : Pl
 
 -- ---- one behind the other
 
-pub leads_stay : (gives : Gives) (left : Connection → Type 0) (p : Place) → Leads gives gives left left p p []
+pub leads_stay : (gives : Gives) (left : Connection → Type 0) (p : ReaderState) → Leads gives gives left left p p []
 leads_stay gives left p = λ frames status a. a
 
-pub leads_both : (g0 g1 g2 : Gives) (l0 l1 l2 : Connection → Type 0) (p q r : Place) (front : List (List ℕ)) → Leads g0 g1 l0 l1 p q [] → Leads g1 g2 l1 l2 q r front → Leads g0 g2 l0 l2 p r front
+pub leads_both : (g0 g1 g2 : Gives) (l0 l1 l2 : Connection → Type 0) (p q r : ReaderState) (front : List (List ℕ)) → Leads g0 g1 l0 l1 p q [] → Leads g1 g2 l1 l2 q r front → Leads g0 g2 l0 l2 p r front
 leads_both g0 g1 g2 l0 l1 l2 p q r front a b = λ frames status ahead. a (front ++ frames) status (b frames status ahead)
 
 -- ---- a connection that was opened
 
-pub leads_entered : (old mid new : Gives) (mid_left old_left new_left : Connection → Type 0) (p q : Place) (b : Bool) → q.is_open ≡ b → p.is_open ≡ false → may_go_on p.last ≡ true → q.tries + 1 ≡ p.tries → q.held ≡ p.held
+pub leads_entered : (old mid new : Gives) (mid_left old_left new_left : Connection → Type 0) (p q : ReaderState) (b : Bool) → q.is_open ≡ b → p.is_open ≡ false → may_go_on p.last ≡ true → q.tries + 1 ≡ p.tries → q.held ≡ p.held
     → ((k f m : ℕ) (c : Connection) → mid k f m c → old (k + 1) f m c) → ((k f m : ℕ) (c : Connection) → new k f m c → mid k f m c)
     → ((c : Connection) → mid_left c → old 0 p.held (4097 - p.held) c) → IsEntered mid_left new_left b q.count q.last → Leads old new old_left new_left p q []
 leads_entered old mid new mid_left old_left new_left p q true is closed may size held later same opened entered =
@@ -177,23 +177,23 @@ leads_entered old mid new mid_left old_left new_left p q true is closed may size
 leads_entered old mid new mid_left old_left new_left p q false is closed may size held later same opened entered =
     leads_on old new old_left new_left p q closed may size held (λ k f m c n. later k f m c (same k f m c n)) entered.c (opened entered.c entered.may) (entered.reading p.held) is
 
-pub leads_unopened : (old new : Gives) (old_left new_left : Connection → Type 0) (p q : Place) → p.is_open ≡ false → may_go_on p.last ≡ true → q.tries + 1 ≡ p.tries → q.held ≡ p.held
+pub leads_unopened : (old new : Gives) (old_left new_left : Connection → Type 0) (p q : ReaderState) → p.is_open ≡ false → may_go_on p.last ≡ true → q.tries + 1 ≡ p.tries → q.held ≡ p.held
     → ((k f m : ℕ) (c : Connection) → new k f m c → old (k + 1) f m c) → old 0 p.held (4097 - p.held) failing → q.is_open ≡ false → q.last ≡ Failed → Leads old new old_left new_left p q []
 leads_unopened old new old_left new_left p q closed may size held later refused shut last =
     leads_on old new old_left new_left p q closed may size held later failing refused (inl (record { short = omega arith; none = refl; named = last })) shut
 
 -- ---- the end
 
-pub fetched_at : (old new : Gives) (old_left new_left : Connection → Type 0) (p q : Place) (frames : List (List ℕ)) → p.is_open ≡ false → Leads old new old_left new_left p q frames → IsEnd q → IsOutcome old 0 p.held p.tries p.last frames q.last
+pub fetched_at : (old new : Gives) (old_left new_left : Connection → Type 0) (p q : ReaderState) (frames : List (List ℕ)) → p.is_open ≡ false → Leads old new old_left new_left p q frames → IsEnd q → IsOutcome old 0 p.held p.tries p.last frames q.last
 fetched_at old new old_left new_left p q frames closed leads end =
     let now : IsAhead new new_left q [] q.last = ahead_closed new new_left q [] q.last end.closed (record { visits = []; run = end.last; frames_are = refl; status_is = refl }) in
     subst (λ (l : List (List ℕ)). IsOutcome old 0 p.held p.tries p.last l q.last) (append-nil frames) (closed_ahead old old_left p (frames ++ []) q.last closed (leads [] q.last now))
 
-pub leads_then : (g0 g1 g2 : Gives) (l0 l1 l2 : Connection → Type 0) (p q r : Place) (front next : List (List ℕ)) → Leads g0 g1 l0 l1 p q front → Leads g1 g2 l1 l2 q r next → Leads g0 g2 l0 l2 p r (front ++ next)
+pub leads_then : (g0 g1 g2 : Gives) (l0 l1 l2 : Connection → Type 0) (p q r : ReaderState) (front next : List (List ℕ)) → Leads g0 g1 l0 l1 p q front → Leads g1 g2 l1 l2 q r next → Leads g0 g2 l0 l2 p r (front ++ next)
 leads_then g0 g1 g2 l0 l1 l2 p q r front next a b = λ frames status ahead.
     subst (λ (l : List (List ℕ)). IsAhead g0 l0 p l status) (sym (append_assoc front next frames)) (a (next ++ frames) status (b frames status ahead))
 
-pub fetched_end : (g0 g1 g2 : Gives) (l0 l1 l2 : Connection → Type 0) (p q r : Place) (frames : List (List ℕ)) (status : Status) → p.is_open ≡ false → Leads g0 g1 l0 l1 p q frames → Leads g1 g2 l1 l2 q r [] → IsEnd r → status ≡ r.last → IsOutcome g0 0 p.held p.tries p.last frames status
+pub fetched_end : (g0 g1 g2 : Gives) (l0 l1 l2 : Connection → Type 0) (p q r : ReaderState) (frames : List (List ℕ)) (status : Status) → p.is_open ≡ false → Leads g0 g1 l0 l1 p q frames → Leads g1 g2 l1 l2 q r [] → IsEnd r → status ≡ r.last → IsOutcome g0 0 p.held p.tries p.last frames status
 fetched_end g0 g1 g2 l0 l1 l2 p q r frames status closed a b end is =
     subst (λ (s : Status). IsOutcome g0 0 p.held p.tries p.last frames s) (sym is)
     (fetched_at g0 g2 l0 l2 p r frames closed (subst (λ (l : List (List ℕ)). Leads g0 g2 l0 l2 p r l) (append-nil frames) (leads_then g0 g1 g2 l0 l1 l2 p q r frames [] a b)) end)
@@ -233,10 +233,10 @@ module _ (gives : Gives) (next : (k f m : ℕ) → GivesSome (gives k f m)) wher
   some_outcome (suc tries) k held Cut = goes k held tries Cut (some_outcome tries) refl
   some_outcome (suc tries) k held Failed = goes k held tries Failed (some_outcome tries) refl
 
-  abbrev SomeAhead : (left : Connection → Type 0) (p : Place) → Type 0
+  abbrev SomeAhead : (left : Connection → Type 0) (p : ReaderState) → Type 0
   SomeAhead left p = (frames : List (List ℕ)) × (status : Status) × IsAhead gives left p frames status
 
-  some_ahead : (left : Connection → Type 0) (p : Place) → GivesSome left → SomeAhead left p
+  some_ahead : (left : Connection → Type 0) (p : ReaderState) → GivesSome left → SomeAhead left p
   some_ahead left p some = by_open p.is_open refl
     where
       by_open : (b : Bool) → p.is_open ≡ b → SomeAhead left p
@@ -248,12 +248,12 @@ module _ (gives : Gives) (next : (k f m : ℕ) → GivesSome (gives k f m)) wher
           (m.frames ++ o.0, o.1, ahead_open gives left p (m.frames ++ o.0) o.1 shown (m, record { may = some.is; body = body.1 }, (o.0, refl, o.2)))
 
 -- of the place before, these frames and more
-pub record IsSomeLog (gives : Gives) (p : Place) (front : List (List ℕ)) : Type 0 where
+pub record IsSomeLog (gives : Gives) (p : ReaderState) (front : List (List ℕ)) : Type 0 where
   pub more : List (List ℕ)
   pub status : Status
   pub outcome : IsOutcome gives 0 p.held p.tries p.last (front ++ more) status
 
-pub some_log : (old new : Gives) (old_left new_left : Connection → Type 0) (p q : Place) (front : List (List ℕ)) → p.is_open ≡ false → Leads old new old_left new_left p q front
+pub some_log : (old new : Gives) (old_left new_left : Connection → Type 0) (p q : ReaderState) (front : List (List ℕ)) → p.is_open ≡ false → Leads old new old_left new_left p q front
     → GivesSome new_left → ((k f m : ℕ) → GivesSome (new k f m)) → IsSomeLog old p front
 some_log old new old_left new_left p q front closed leads some next =
     let a = some_ahead new next new_left q some in

@@ -1,6 +1,6 @@
 -- How many bytes of a connection are read.
 use Rattle.std.specs.Prelude.{ℕ, ◌≤◌, ◌+◌, ◌*◌}
-use Rattle.wire.specs.declared.limits.TheConstants.{LONGEST_PAYLOAD}
+use Rattle.base_wire.specs.declared.limits.TheConstants.{LONGEST_PAYLOAD}
 use Rattle.log_transfer.specs.declared.budget.TheConstants.{MOST_OF_A_STREAM}
 use Rattle.log_transfer.specs.declared.stream.Came.{Came}
 use Rattle.log_transfer.specs.declared.stream.Came.TheVariants.{Frame, End}

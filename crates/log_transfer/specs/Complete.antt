@@ -1,12 +1,12 @@
 -- Sources that keep nothing back.
 use Rattle.std.specs.Prelude.{ℕ, ◌≡◌, ◌≢◌, ◌≤◌, ◌+◌, ◌++◌, ◌⊎◌, List, [], ◌∷◌, length, true, false, None}
 use Rattle.std.specs.List.{All}
-use Rattle.wire.specs.Payloads.{IsPayload}
+use Rattle.base_wire.specs.Payloads.{IsPayload}
 use Rattle.log_format.specs.Exports.{export_text}
 use Rattle.log_format.specs.ReadingLaws.{AreFirstOf}
 use Rattle.log_format.specs.declared.status.Status.{Status}
 use Rattle.log_format.specs.declared.status.Status.TheVariants.{Whole, Failed}
-use Rattle.wire.specs.declared.limits.TheConstants.{MOST_ENTRIES}
+use Rattle.base_wire.specs.declared.limits.TheConstants.{MOST_ENTRIES}
 use Rattle.log_transfer.specs.Connections.{Connection}
 use Rattle.log_transfer.specs.Scripts.{GivesOf, stream_at}
 use Rattle.log_transfer.specs.Places.{Visit, AreVisits, IsFetched, asked_beside}

@@ -1,6 +1,6 @@
 -- What connections to a source give.
 use Rattle.std.specs.Prelude.{ℕ, ◌≡◌, ◌+◌, ◌++◌, List, [], Bool, true, false, Option, None, Some, Result, IfOk, OnErr}
-use Rattle.wire.specs.Pieces.{AreBytes}
+use Rattle.base_wire.specs.Pieces.{AreBytes}
 
 -- the bytes of a connection, and whether the connect, or a read behind them, fails
 pub record Connection : Type 0 where

@@ -1,6 +1,6 @@
 -- Failures that were counted.
 use Rattle.std.specs.Prelude.{ℕ, ◌≡◌, Bool, true, false, Option, None, Some}
-use Rattle.streams.specs.Counting.{one_more}
+use Rattle.base_streams.specs.Counting.{one_more}
 use Rattle.log_format.specs.declared.status.Status.{Status}
 use Rattle.log_format.specs.declared.status.Status.TheVariants.{Whole, Cut, Broken, TooLong, Failed}
 use Rattle.log_transfer.specs.declared.filling.Filled.{Filled}

@@ -1,16 +1,16 @@
 -- Where a reader of a source stands, and what connections it makes.
 use Rattle.std.specs.Prelude.{ℕ, ◌≡◌, ◌<◌, ◌≤◌, ◌+◌, ◌*◌, ◌-◌, ◌^◌, ◌++◌, min, List, [], ◌∷◌, length, Bool, true, false, cond}
 use Rattle.std.specs.Bool.{MatchBool}
-use Rattle.wire.specs.declared.limits.TheConstants.{MOST_ENTRIES}
-use Rattle.streams.specs.Counting.{HasFailed}
+use Rattle.base_wire.specs.declared.limits.TheConstants.{MOST_ENTRIES}
+use Rattle.base_streams.specs.Counting.{HasFailed}
 use Rattle.log_format.specs.Readings.{IsBody, IsReading, room_beside}
 use Rattle.log_format.specs.declared.status.Status.{Status}
 use Rattle.log_format.specs.declared.status.Status.TheVariants.{Whole, Cut, Broken, TooLong, Failed}
 use Rattle.log_transfer.specs.Bytes.{most_of_frames}
 use Rattle.log_transfer.specs.Connections.{Connection}
 use Rattle.log_transfer.specs.declared.budget.TheConstants.{MOST_OF_A_STREAM}
-use Rattle.log_transfer.specs.declared.place.Place.{Place}
-use Rattle.log_transfer.specs.declared.place.TheConstants.{MOST_TRIES}
+use Rattle.log_transfer.specs.declared.reader_state.ReaderState.{ReaderState}
+use Rattle.log_transfer.specs.declared.reader_state.TheConstants.{MOST_TRIES}
 
 -- ---- connections that were made
 
@@ -82,34 +82,34 @@ pub record IsRest (left : Connection → Type 0) (count room : ℕ) (v : Visit) 
   pub body : IsBody v.connection.fails count room v.connection.text v.frames v.status
 
 -- what may come from here on: of the open connection and those behind it, or of those alone
-abbrev pub IsAhead : (ℕ → ℕ → ℕ → Connection → Type 0) → (Connection → Type 0) → Place → List (List ℕ) → Status → Type 0
+abbrev pub IsAhead : (ℕ → ℕ → ℕ → Connection → Type 0) → (Connection → Type 0) → ReaderState → List (List ℕ) → Status → Type 0
 IsAhead gives left p frames status =
     MatchBool p.is_open
     ((v : Visit) × IsRest left p.count (room_beside p.held) v × ((more : List (List ℕ)) × (frames ≡ v.frames ++ more) × IsOutcome gives 0 (p.held + length v.frames) p.tries v.status more status))
     (IsOutcome gives 0 p.held p.tries p.last frames status)
 
 -- whatever may come behind the new place comes, behind these frames, behind the old one
-abbrev pub Leads : (old new : ℕ → ℕ → ℕ → Connection → Type 0) (old_left new_left : Connection → Type 0) (p q : Place) → List (List ℕ) → Type 0
+abbrev pub Leads : (old new : ℕ → ℕ → ℕ → Connection → Type 0) (old_left new_left : Connection → Type 0) (p q : ReaderState) → List (List ℕ) → Type 0
 Leads old new old_left new_left p q front = (frames : List (List ℕ)) (status : Status) → IsAhead new new_left q frames status → IsAhead old old_left p (front ++ frames) status
 
 -- no more is to come
-pub record IsEnd (p : Place) : Type 0 where
+pub record IsEnd (p : ReaderState) : Type 0 where
   pub closed : p.is_open ≡ false
   pub last : may_go_on p.last ≡ true → p.tries ≡ 0
 
 -- no more frames than a source may have, and where so many bytes of the last connection were read, no more than its frames
 -- have, or at the end than a stream has
-pub record IsPlace (taken : ℕ) (p : Place) : Type 0 where
+pub record IsPlace (taken : ℕ) (p : ReaderState) : Type 0 where
   pub few : p.held ≤ MOST_ENTRIES
   pub counted : p.count ≤ p.held
   pub frames : p.is_open ≡ true → taken ≤ most_of_frames p.count
   pub stream : IsEnd p → taken ≤ MOST_OF_A_STREAM
 
 -- the count of failures does not fall, up to its last value; where the last try ended as Failed, one was counted
-pub record IsCaused (before now : ℕ) (p : Place) : Type 0 where
+pub record IsCaused (before now : ℕ) (p : ReaderState) : Type 0 where
   pub risen : min before (2 ^ 64 - 1) ≤ now
   pub cause : p.is_open ≡ false → p.tries ≡ 0 → HasCause before now p.last
 
 -- how much there is still to do
-abbrev pub work : Place → ℕ
+abbrev pub work : ReaderState → ℕ
 work p = 2 * p.tries + cond p.is_open 1 0

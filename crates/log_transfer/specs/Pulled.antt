@@ -2,7 +2,7 @@
 use Rattle.std.specs.Prelude.{ℕ, ◌≡◌, ◌≢◌, ◌<◌, ◌≤◌, ◌-◌, ◌++◌, List, [], length, take, codes, Bool, false, Option, Some, None, MatchOption}
 use Rattle.std.specs.Bool.{MatchBool}
 use Rattle.std.specs.List.{All, flat_map}
-use Rattle.wire.specs.Payloads.{IsPayload}
+use Rattle.base_wire.specs.Payloads.{IsPayload}
 use Rattle.log_format.specs.Exports.{frame_text}
 use Rattle.log_format.specs.Fronts.{IsFrame}
 use Rattle.log_format.specs.Readings.{Ends, IsOpen, IsReading, room_beside}

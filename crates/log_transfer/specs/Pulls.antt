@@ -4,21 +4,21 @@ use Rattle.log_format.specs.declared.status.Status.TheVariants.{Failed}
 use Rattle.log_transfer.specs.Places.{IsEnd}
 use Rattle.log_transfer.specs.Turns.{NoMore, OneMore}
 use Rattle.log_transfer.specs.declared.connector.Connector.{Ghosts}
-use Rattle.log_transfer.specs.declared.place.Place.{Place}
+use Rattle.log_transfer.specs.declared.reader_state.ReaderState.{ReaderState}
 use Rattle.log_transfer.specs.declared.pull.Step.{Step}
 use Rattle.log_transfer.specs.declared.pull.Step.TheVariants.{Frame, End}
 
 -- a source that is read, and where its reader stands
 pub record Pulling (C : Type 0) : Type 0 where
   pub connector : C
-  pub place : Place
+  pub place : ReaderState
 
 -- before the first connection
-abbrev pub first_place : ℕ → Place
+abbrev pub first_place : ℕ → ReaderState
 first_place tries = record { held = 0; tries = tries; is_open = false; count = 0; last = Failed }
 
 -- the same, where so many frames are held already
-abbrev pub place_behind : ℕ → ℕ → Place
+abbrev pub place_behind : ℕ → ℕ → ReaderState
 place_behind held tries = record { held = held; tries = tries; is_open = false; count = 0; last = Failed }
 
 -- a frame, or the end

@@ -1,7 +1,7 @@
 -- A source in memory.
 use Rattle.std.specs.Prelude.{ℕ, Bool, Option, Some, None, ◌≡◌, List, [], slice_index_or}
 use Rattle.std.specs.List.{All}
-use Rattle.wire.specs.Pieces.{AreBytes}
+use Rattle.base_wire.specs.Pieces.{AreBytes}
 use Rattle.std.proofs.Common.{refl, sym}
 use Rattle.std.proofs.lemmas.List.{append-nil}
 use Rattle.log_transfer.specs.Connections.{Connection, GivesFirst, failing}

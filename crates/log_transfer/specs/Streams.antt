@@ -1,7 +1,7 @@
 -- What stands at the front of the rest of a stream that is read piece by piece.
 use Rattle.std.specs.Prelude.{ℕ, ◌≡◌, ◌<◌, ◌++◌, List, [], length, take}
 use Rattle.byteorder.specs.Endian.{big_bytes}
-use Rattle.wire.specs.Payloads.{IsPayload}
+use Rattle.base_wire.specs.Payloads.{IsPayload}
 use Rattle.log_format.specs.Exports.{frame_text}
 use Rattle.log_format.specs.Readings.{Ends, unfinished}
 use Rattle.log_format.specs.declared.status.Status.{Status}

@@ -6,10 +6,10 @@ ghost use Rattle.log_transfer.specs.Connections.{CountsBytes};
 ghost use Rattle.log_transfer.specs.declared.budget.TheConstants.{MOST_OF_A_STREAM};
 
 use crate::tries::read_some;
+use base_wire::{LONGEST_PAYLOAD, MOST_ENTRIES};
 use std::io;
 use std::io::{ErrorKind, Read};
 use std::marker::Model;
-use wire::{LONGEST_PAYLOAD, MOST_ENTRIES};
 
 /// How many bytes one connection is read for at most: the magic, 4,096 frames of a length and a payload each, and the
 /// end mark. They are 268,451,852.

@@ -1,12 +1,12 @@
 //! Connections to a source.
 
 ghost use Rattle.std.specs.Prelude.{◌≡◌, ◌≤◌, ◌<◌, ◌+◌, ℕ, IfOk, OnOk, OnErr, length, take};
-ghost use Rattle.streams.specs.Counting.{Counts};
+ghost use Rattle.base_streams.specs.Counting.{Counts};
 ghost use Rattle.log_transfer.specs.Connections.{Connection, CountsBytes, GivesSome, behind, ended, failing};
 ghost use Rattle.log_transfer.specs.declared.budget.TheConstants.{MOST_OF_A_STREAM};
 
 use crate::failure::Failure;
-use streams::Fault;
+use base_streams::Fault;
 
 /// A source of a log, over one connection at a time. Each is asked for a part of the log, and gives bytes up to an
 /// end or a failure.

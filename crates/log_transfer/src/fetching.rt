@@ -7,8 +7,8 @@ ghost use Rattle.log_transfer.specs.declared.budget.TheConstants.{MOST_OF_A_STRE
 use crate::connector::Connector;
 use crate::error::FetchError;
 use crate::payload::Payload;
-use crate::place::Place;
 use crate::pull::{Step, next_frame};
+use crate::reader_state::ReaderState;
 use log_format::Status;
 use std::alloc::Global;
 
@@ -42,7 +42,7 @@ pub fn fetch<C: Connector>(
     ensures err { OnErr result (C.taken connector.old ≤ MOST_OF_A_STREAM
         → C.taken connector.new ≤ MOST_OF_A_STREAM) }
 {
-    let mut place = Place::first(tries);
+    let mut place = ReaderState::first(tries);
     let mut frames = Vec::new(alloc);
     let mut payload = Vec::new(alloc);
     loop {

@@ -8,9 +8,9 @@ use crate::budget::Budget;
 use crate::connector::Connector;
 use crate::failure::Failure;
 use crate::tries::{counted, no_connection};
+use base_streams::Fault;
 use std::fs::{File, Files};
 use std::io;
-use streams::Fault;
 
 // An open file, and what it may still be read for.
 #[derive(Drop)]

@@ -1,11 +1,11 @@
 //! What stands at the front of what came of a stream.
 
 ghost use Rattle.std.specs.Prelude.{◌≡◌, ◌≤◌, length};
-ghost use Rattle.wire.specs.Pieces.{number_at};
+ghost use Rattle.base_wire.specs.Pieces.{number_at};
 ghost use Rattle.log_transfer.specs.Pulled.{Decides, IsAtFront};
 
+use base_wire::{LONGEST_PAYLOAD, u32_at};
 use log_format::Status;
-use wire::{LONGEST_PAYLOAD, u32_at};
 
 // What stands at the front of what came.
 pub(crate) enum Front<'a> {

@@ -2,21 +2,21 @@
 
 ghost use Rattle.std.specs.Prelude.{◌≡◌, ◌≤◌, ◌<◌, ◌++◌, ◌∷◌, List, [], None, Some, length, take, IfOk, OnOk, OnErr};
 ghost use native.Mathlib.Nat.{le_refl};
-ghost use Rattle.wire.specs.Pieces.{AreBytes};
-ghost use Rattle.streams.specs.Counting.{one_more};
-ghost use Rattle.streams.specs.Fuse.{after_call, is_burning};
+ghost use Rattle.base_wire.specs.Pieces.{AreBytes};
+ghost use Rattle.base_streams.specs.Counting.{one_more};
+ghost use Rattle.base_streams.specs.Fuse.{after_call, is_burning};
 ghost use Rattle.log_format.specs.Requests.{request_text};
 ghost use Rattle.log_transfer.specs.Connections.{ended, failing};
 ghost use Rattle.log_transfer.specs.Scripts.{GivesOf, gives_all, stream_at};
-ghost use Rattle.log_transfer.specs.declared.place.TheConstants.{MOST_TRIES};
+ghost use Rattle.log_transfer.specs.declared.reader_state.TheConstants.{MOST_TRIES};
 
 use crate::connector::Connector;
-use crate::place::MOST_TRIES;
+use crate::reader_state::MOST_TRIES;
+use base_streams::{Fault, Fuse};
 use log_format::{FrameRequest, REQUEST_LEN};
 use std::alloc::{AllocError, Global};
 use std::collections::VecDeque;
 use std::marker::Model;
-use streams::{Fault, Fuse};
 
 // What one connection gives, and whether a read behind it fails.
 #[derive(Drop)]

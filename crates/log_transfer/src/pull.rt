@@ -4,17 +4,17 @@ ghost use Rattle.std.specs.Prelude.{◌≡◌, ◌<◌, ◌≤◌, ℕ, [], IfOk
 ghost use Rattle.log_transfer.specs.Connections.{GivesSome};
 ghost use Rattle.log_transfer.specs.Places.{IsCaused, IsEnd, IsPlace, MayTry};
 ghost use Rattle.log_transfer.specs.Pulls.{IsStep, first_place, place_behind};
-ghost use Rattle.wire.specs.declared.limits.TheConstants.{MOST_ENTRIES};
+ghost use Rattle.base_wire.specs.declared.limits.TheConstants.{MOST_ENTRIES};
 ghost use Rattle.log_transfer.specs.declared.budget.TheConstants.{MOST_OF_A_STREAM};
 
 use crate::connector::Connector;
 use crate::error::FetchError;
 use crate::failure::Failure;
-use crate::place::Place;
+use crate::reader_state::ReaderState;
 use crate::steps::advance;
+use base_wire::LONGEST_PAYLOAD;
 use log_format::Status;
 use std::marker::Model;
-use wire::LONGEST_PAYLOAD;
 
 /// What `Pull::next` gives.
 #[derive(Clone, Copy, Debug, PartialEq, Eq)]
@@ -28,7 +28,7 @@ pub enum Step {
 // The next frame, in `out`.
 pub(crate) fn next_frame<C: Connector>(
     connector: &mut C,
-    place: &mut Place,
+    place: &mut ReaderState,
     out: &mut Vec<u8>,
 ) -> Result<Step, FetchError>
     requires place { IsPlace (C.taken connector.old) place.old }
@@ -69,7 +69,7 @@ pub(crate) fn next_frame<C: Connector>(
 #[derive(Drop)]
 pub struct Pull<C: Connector> {
     connector: C,
-    place: Place,
+    place: ReaderState,
 }
 
 impl<C: Connector> Model for Pull<C> {
@@ -93,7 +93,7 @@ impl<C: Connector> Pull<C> {
     {
         Pull {
             connector,
-            place: Place::first(tries),
+            place: ReaderState::first(tries),
         }
     }
 
@@ -106,7 +106,7 @@ impl<C: Connector> Pull<C> {
     {
         Pull {
             connector,
-            place: Place::behind(held, tries),
+            place: ReaderState::behind(held, tries),
         }
     }
 

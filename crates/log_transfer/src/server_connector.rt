@@ -5,20 +5,20 @@ ghost use native.Mathlib.Nat.{le_refl};
 ghost use Rattle.std.specs.Io.KnownBytes.{Appends};
 ghost use Rattle.log_format.specs.Requests.{request_text};
 ghost use Rattle.log_transfer.specs.Connections.{CountsBytes, ended, sent_of, taken_of};
-ghost use Rattle.log_transfer.specs.declared.place.TheConstants.{MOST_TRIES};
+ghost use Rattle.log_transfer.specs.declared.reader_state.TheConstants.{MOST_TRIES};
 
 use crate::budget::Budget;
 use crate::connector::Connector;
 use crate::dial::Dial;
 use crate::failure::Failure;
-use crate::place::MOST_TRIES;
+use crate::reader_state::MOST_TRIES;
 use crate::tcp_connector::{CONNECT_SECONDS, WAIT_SECONDS};
 use crate::tries::{counted, no_connection};
+use base_streams::Fault;
 use log_format::FrameRequest;
 use std::io::{ErrorKind, Read, Write};
 use std::time::{Clock, Duration, Instant};
 use std::{io, thread};
-use streams::Fault;
 
 /// How many seconds all reads of one connection may wait together. It bounds a server that sends a few bytes at a time;
 /// what the reader does between its reads does not count.

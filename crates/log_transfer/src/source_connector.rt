@@ -6,7 +6,7 @@ use crate::connector::Connector;
 use crate::failure::Failure;
 use crate::file_connector::FileConnector;
 use crate::tcp_connector::TcpConnector;
-use streams::Fault;
+use base_streams::Fault;
 
 /// A server, or a file, each with a connector of its own. It tells what that tells, and may be sent to another thread where
 /// both may.

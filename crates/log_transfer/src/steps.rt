@@ -1,7 +1,7 @@
 //! Steps of a reader of a source.
 
 ghost use Rattle.std.specs.Prelude.{◌≡◌, ◌<◌, ◌≤◌, ◌+◌, ℕ, List, [], ◌∷◌, length, take, codes, true, false, MatchOption, ◌⊎◌, ◌↔◌, IsTrue};
-ghost use Rattle.wire.specs.declared.limits.TheConstants.{LONGEST_PAYLOAD};
+ghost use Rattle.base_wire.specs.declared.limits.TheConstants.{LONGEST_PAYLOAD};
 ghost use Rattle.log_transfer.specs.Connections.{Connection};
 ghost use Rattle.log_transfer.specs.Counting.{IsMagicCounted, IsEnterCounted};
 ghost use Rattle.log_transfer.specs.Streams.{GaveAll};
@@ -11,10 +11,10 @@ ghost use Rattle.log_transfer.specs.Places.{IsCaused, IsPlace, Leads, may_go_on}
 
 use crate::connector::Connector;
 use crate::filling::{Filled, fill};
-use crate::place::{Place, may_go_on};
+use crate::reader_state::{ReaderState, may_go_on};
 use crate::stream::{Came, read_frame, unfinished};
+use base_wire::MOST_ENTRIES;
 use log_format::Status;
-use wire::MOST_ENTRIES;
 
 // The greatest number of frames of one source.
 const MOST_FRAMES: u32 = MOST_ENTRIES as u32;
@@ -52,7 +52,7 @@ fn read_magic<C: Connector>(connector: &mut C) -> Option<Status>
 }
 
 // Reads the magic of a connection that was opened.
-fn enter<C: Connector>(connector: &mut C, place: &mut Place)
+fn enter<C: Connector>(connector: &mut C, place: &mut ReaderState)
     requires closed { place.old.is_open ≡ false }
     requires fresh { C.taken connector.old ≡ 0 }
     ensures entered { IsEntered (C.left connector.old)
@@ -76,7 +76,7 @@ fn enter<C: Connector>(connector: &mut C, place: &mut Place)
 }
 
 // Makes the next connection, and reads its magic.
-fn open_next<C: Connector>(connector: &mut C, place: &mut Place)
+fn open_next<C: Connector>(connector: &mut C, place: &mut ReaderState)
     requires closed { place.old.is_open ≡ false }
     requires may { may_go_on place.old.last ≡ true }
     requires some { 0 < place.old.tries }
@@ -107,7 +107,7 @@ enum Turn {
 }
 
 // Reads one frame of the open connection, or its end.
-fn step<C: Connector>(connector: &mut C, place: &mut Place, buffer: &mut [u8]) -> Turn
+fn step<C: Connector>(connector: &mut C, place: &mut ReaderState, buffer: &mut [u8]) -> Turn
     requires shown { place.old.is_open ≡ true }
     requires buffer { length buffer.old ≡ LONGEST_PAYLOAD }
     requires place { IsPlace (C.taken connector.old) place.old }
@@ -134,7 +134,7 @@ fn step<C: Connector>(connector: &mut C, place: &mut Place, buffer: &mut [u8]) -
 }
 
 // Goes on with the open connection, or makes one.
-fn go_on<C: Connector>(connector: &mut C, place: &mut Place, buffer: &mut [u8]) -> Turn
+fn go_on<C: Connector>(connector: &mut C, place: &mut ReaderState, buffer: &mut [u8]) -> Turn
     requires buffer { length buffer.old ≡ LONGEST_PAYLOAD }
     requires place { IsPlace (C.taken connector.old) place.old }
     ensures turn { IsTurn (C.gives connector.old) (C.gives connector.new) (C.left connector.old)
@@ -160,7 +160,7 @@ fn go_on<C: Connector>(connector: &mut C, place: &mut Place, buffer: &mut [u8]) 
 // Reads the next frame, and makes connections for it. None where no more is to come.
 pub(crate) fn advance<C: Connector>(
     connector: &mut C,
-    place: &mut Place,
+    place: &mut ReaderState,
     buffer: &mut [u8],
 ) -> Option<usize>
     requires buffer { length buffer.old ≡ LONGEST_PAYLOAD }

@@ -1,7 +1,7 @@
 //! Reading of one frame.
 
 ghost use Rattle.std.specs.Prelude.{◌≡◌, ◌<◌, ◌≤◌, ◌+◌, ◌^◌, ℕ, length};
-ghost use Rattle.wire.specs.declared.limits.TheConstants.{LONGEST_PAYLOAD, MOST_ENTRIES};
+ghost use Rattle.base_wire.specs.declared.limits.TheConstants.{LONGEST_PAYLOAD, MOST_ENTRIES};
 ghost use Rattle.log_format.specs.Readings.{unfinished};
 ghost use Rattle.log_transfer.specs.Bytes.{IsCameWithin, most_of_frames};
 ghost use Rattle.log_transfer.specs.Connections.{Connection};
@@ -11,8 +11,8 @@ ghost use Rattle.log_transfer.specs.declared.budget.TheConstants.{MOST_OF_A_STRE
 
 use crate::connector::Connector;
 use crate::filling::{Filled, fill};
+use base_wire::{LONGEST_PAYLOAD, u32_at};
 use log_format::Status;
-use wire::{LONGEST_PAYLOAD, u32_at};
 
 // What came of the length of a frame.
 enum Head {

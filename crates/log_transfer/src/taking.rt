@@ -6,9 +6,9 @@ ghost use Rattle.log_transfer.specs.Pulled.{IsTaken, room_of};
 
 use crate::front::{Front, front_of};
 use crate::payload::Payload;
+use base_wire::MOST_ENTRIES;
 use log_format::Status;
 use std::alloc::{AllocError, Global};
-use wire::MOST_ENTRIES;
 
 // How many bytes are left behind the frames that were taken, and the status, if they decide it.
 #[derive(Drop)]

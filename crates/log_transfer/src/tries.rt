@@ -2,11 +2,11 @@
 
 ghost use Rattle.std.specs.Prelude.{◌≡◌, ◌≤◌, IfOk, IsErr, Ok, OnErr, length};
 ghost use Rattle.std.specs.Io.KnownBytes.{ReadConsumes};
-ghost use Rattle.streams.specs.Counting.{Counts};
+ghost use Rattle.base_streams.specs.Counting.{Counts};
 
+use base_streams::Fault;
 use std::io;
 use std::io::{ErrorKind, Read};
-use streams::Fault;
 
 // How often a read is tried that signals interrupt.
 const MOST_INTERRUPTIONS: u32 = 100;

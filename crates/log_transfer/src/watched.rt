@@ -4,7 +4,7 @@ ghost use Rattle.std.specs.Prelude.{◌≡◌};
 
 use crate::connector::Connector;
 use crate::failure::Failure;
-use streams::Fault;
+use base_streams::Fault;
 
 /// Is told how far a source has come.
 pub trait Watch {

@@ -11,17 +11,17 @@ use Rattle.log_format.specs.declared.status.Status.{Status}
 use Rattle.log_transfer.specs.Connections.{Connection, GivesSome}
 use Rattle.log_transfer.specs.Places.{HasCause, IsCaused, IsEnd, Leads}
 use Rattle.log_transfer.specs.Pulls.{first_place}
-use Rattle.log_transfer.specs.declared.place.Place.{Place}
+use Rattle.log_transfer.specs.declared.reader_state.ReaderState.{ReaderState}
 use Rattle.log_transfer.proofs.Places.{leads_stay, leads_then, fetched_end, some_log}
-use Rattle.evidence.specs.Evidence.{IsEvidenceRefusal, IsReportOf}
-use Rattle.evidence.specs.Gathering.{Gathered, Grows, IsGatheringRefusal}
-use Rattle.evidence.specs.Logs.{ReceivedLog, FrameHasHeader, FrameNamesVote, HaveEntries, LogHasHeader, LogNamesVote}
-use Rattle.evidence.specs.NamedVotes.{all_votes}
-use Rattle.evidence.specs.Sets.{InSome}
-use Rattle.evidence.specs.declared.refusal.EvidenceRefusal.{EvidenceRefusal}
-use Rattle.evidence.specs.declared.refusal.EvidenceRefusal.TheVariants.{Memory}
-use Rattle.evidence.specs.declared.source.SourceReport.{SourceReport}
-use Rattle.evidence.proofs.Gatherings.{fault_as, fault_later, grown_as, grown_both, grown_start, in_more}
+use Rattle.audit_evidence.specs.Evidence.{IsEvidenceRefusal, IsReportOf}
+use Rattle.audit_evidence.specs.Gathering.{Gathered, Grows, IsGatheringRefusal}
+use Rattle.audit_evidence.specs.Logs.{ReceivedLog, FrameHasHeader, FrameNamesVote, HaveEntries, LogHasHeader, LogNamesVote}
+use Rattle.audit_evidence.specs.NamedVotes.{all_votes}
+use Rattle.audit_evidence.specs.Sets.{InSome}
+use Rattle.audit_evidence.specs.declared.refusal.EvidenceRefusal.{EvidenceRefusal}
+use Rattle.audit_evidence.specs.declared.refusal.EvidenceRefusal.TheVariants.{Memory}
+use Rattle.audit_evidence.specs.declared.source.SourceReport.{SourceReport}
+use Rattle.audit_evidence.proofs.Gatherings.{fault_as, fault_later, grown_as, grown_both, grown_start, in_more}
 use Rattle.parallel_verify.specs.Collections.{IsGathering, IsLogFrom, reader_at, tally_of}
 use Rattle.parallel_verify.specs.Parts.{IsGathered, Part, PartHasHeader, TellsSteps}
 use Rattle.parallel_verify.specs.Steps.{AreReplayed}
@@ -35,7 +35,7 @@ pub record IsSeen (Told : List (List ℕ) → Option Status → Type 0) (genesis
   pub told : Told given end
   pub steps : entries ≡ frames → AreReplayed genesis given s
 
-pub gathering_start : (Told : List (List ℕ) → Type 0) (gives : Gives) (left : Connection → Type 0) (p : Place) (g : Gathered) (replica : ℕ) → Told [] → IsGathering Told (reader_at gives left p) (reader_at gives left p) g g (tally_of replica 0 0)
+pub gathering_start : (Told : List (List ℕ) → Type 0) (gives : Gives) (left : Connection → Type 0) (p : ReaderState) (g : Gathered) (replica : ℕ) → Told [] → IsGathering Told (reader_at gives left p) (reader_at gives left p) g g (tally_of replica 0 0)
 gathering_start Told gives left p g replica told =
     record { given = []; told = told; leads = leads_stay gives left p; grown = grown_start g FrameHasHeader (FrameNamesVote replica); have = refl; counted = refl }
 
@@ -47,7 +47,7 @@ grown_add a b c replica given x g h =
     (λ v. let all = in_more (FrameNamesVote replica) given x v in (all.1, all.0))
     (grown_both a b c (InSome FrameHasHeader given) (FrameHasHeader x) (InSome (FrameNamesVote replica) given) (FrameNamesVote replica x) g h)
 
-module _ (Told : List (List ℕ) → Type 0) (old mid new : Gives) (old_left mid_left new_left : Connection → Type 0) (p q r : Place) (a b : Gathered) (replica frames entries : ℕ) (so_far : IsGathering Told (reader_at old old_left p) (reader_at mid mid_left q) a b (tally_of replica frames entries)) where
+module _ (Told : List (List ℕ) → Type 0) (old mid new : Gives) (old_left mid_left new_left : Connection → Type 0) (p q r : ReaderState) (a b : Gathered) (replica frames entries : ℕ) (so_far : IsGathering Told (reader_at old old_left p) (reader_at mid mid_left q) a b (tally_of replica frames entries)) where
   -- one frame more
   pub gathering_more : (Then : List (List ℕ) → Type 0) (c : Gathered) (x : List ℕ) (n : ℕ) → ((fs : List (List ℕ)) → Told fs → Then (fs ++ x ∷ [])) → Leads mid new mid_left new_left q r (x ∷ []) → Grows b c (FrameHasHeader x) (FrameNamesVote replica x)
       → ((fs : List (List ℕ)) → HaveEntries fs entries → HaveEntries (fs ++ x ∷ []) n) → IsGathering Then (reader_at old old_left p) (reader_at new new_left r) a c (tally_of replica (frames + 1) n)
@@ -87,13 +87,13 @@ module _ (Told : List (List ℕ) → Type 0) (old mid new : Gives) (old_left mid
       )
 
 -- nothing failed yet, and a try is left
-pub first_caused : (now : ℕ) (p : Place) → 0 < p.tries → IsCaused now now p
+pub first_caused : (now : ℕ) (p : ReaderState) → 0 < p.tries → IsCaused now now p
 first_caused now p tries = record { risen = omega arith; cause = λ closed none. absurd (omega (arith, tries, none)) }
 
 -- ---- the thread of a source
 
 -- something comes of every source
-pub some_log_of : (gives : Gives) (left : Connection → Type 0) (p : Place) (replica : ℕ) → p.is_open ≡ false → GivesSome left → ((k f m : ℕ) → GivesSome (gives k f m)) → (l : ReceivedLog) × IsLogFrom gives p replica l
+pub some_log_of : (gives : Gives) (left : Connection → Type 0) (p : ReaderState) (replica : ℕ) → p.is_open ≡ false → GivesSome left → ((k f m : ℕ) → GivesSome (gives k f m)) → (l : ReceivedLog) × IsLogFrom gives p replica l
 some_log_of gives left p replica closed some next =
     let came = some_log gives gives left left p p [] closed (leads_stay gives left p) some next in (
       record { replica = replica; frames = came.more; status = came.status },

@@ -7,14 +7,14 @@ use Rattle.blocks.specs.Headers.{Header}
 use Rattle.blocks.specs.Genesis.{genesis_of}
 use Rattle.certificates.specs.declared.vote.SignedVote.{SignedVote}
 use Rattle.log_format.specs.declared.status.Status.TheVariants.{Failed}
-use Rattle.evidence.specs.Evidence.{IsEvidenceRefusal, IsHeaderInEvidence, IsReportOf}
-use Rattle.evidence.specs.Gathering.{Gathered, Grows, IsGatheringRefusal, IsUnion}
-use Rattle.evidence.specs.Logs.{ReceivedLog, LogNamesVote}
-use Rattle.evidence.specs.NamedVotes.{all_votes}
-use Rattle.evidence.specs.Sets.{InSome}
-use Rattle.evidence.specs.declared.refusal.EvidenceRefusal.{EvidenceRefusal}
-use Rattle.evidence.specs.declared.source.SourceReport.{SourceReport}
-use Rattle.evidence.proofs.Gatherings.{fault_as, fault_at, grown_as, grown_step, zip_length, zip_more}
+use Rattle.audit_evidence.specs.Evidence.{IsEvidenceRefusal, IsHeaderInEvidence, IsReportOf}
+use Rattle.audit_evidence.specs.Gathering.{Gathered, Grows, IsGatheringRefusal, IsUnion}
+use Rattle.audit_evidence.specs.Logs.{ReceivedLog, LogNamesVote}
+use Rattle.audit_evidence.specs.NamedVotes.{all_votes}
+use Rattle.audit_evidence.specs.Sets.{InSome}
+use Rattle.audit_evidence.specs.declared.refusal.EvidenceRefusal.{EvidenceRefusal}
+use Rattle.audit_evidence.specs.declared.source.SourceReport.{SourceReport}
+use Rattle.audit_evidence.proofs.Gatherings.{fault_as, fault_at, grown_as, grown_step, zip_length, zip_more}
 use Rattle.parallel_verify.specs.Parts.{IsJoined, IsPartOn, Part, PartHasHeader}
 
 -- ---- one part

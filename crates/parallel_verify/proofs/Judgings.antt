@@ -11,15 +11,15 @@ use Rattle.certificates.specs.VoteOrder.{IsLowerVote}
 use Rattle.certificates.specs.Votes.{IsAnswerOn, IsGoodVote}
 use Rattle.certificates.specs.declared.vote.SignedVote.{SignedVote}
 use Rattle.log_format.specs.declared.status.Status.TheVariants.{Whole}
-use Rattle.evidence.specs.Evidence.{IsReportOf}
-use Rattle.evidence.specs.declared.source.SourceReport.{SourceReport}
-use Rattle.evidence.specs.Gathering.{Gains, Gathered, Grows, IsListingOf}
-use Rattle.evidence.specs.Logs.{HaveEntries, LogNamesVote, ReceivedLog}
-use Rattle.evidence.specs.Sets.{InSome}
-use Rattle.evidence.proofs.Gatherings.{only, zip_length}
-use Rattle.evidence.proofs.NamedVotes.{contains_next}
+use Rattle.audit_evidence.specs.Evidence.{IsReportOf}
+use Rattle.audit_evidence.specs.declared.source.SourceReport.{SourceReport}
+use Rattle.audit_evidence.specs.Gathering.{Gains, Gathered, Grows, IsListingOf}
+use Rattle.audit_evidence.specs.Logs.{HaveEntries, LogNamesVote, ReceivedLog}
+use Rattle.audit_evidence.specs.Sets.{InSome}
+use Rattle.audit_evidence.proofs.Gatherings.{only, zip_length}
+use Rattle.audit_evidence.proofs.NamedVotes.{contains_next}
 use Rattle.blocks.specs.Headers.{Header}
-use Rattle.parallel_verify.specs.Judged.{AreAllKept, AreBadAmong, AreCounted, IsKept, IsSound, NamesGoodVote, SeparatesBad}
+use Rattle.parallel_verify.specs.JudgedSources.{AreAllKept, AreBadAmong, AreCounted, IsKept, IsSound, NamesGoodVote, SeparatesBad}
 use Rattle.parallel_verify.specs.Parts.{TellsSteps}
 use Rattle.parallel_verify.proofs.Joinings.{zip_at}
 

@@ -1,6 +1,7 @@
+pub mod Answered
 pub mod Collected
 pub mod Joinings
-pub mod Answered
-pub mod Replaying
 pub mod Judgings
 pub mod Outcomes
+pub mod Remembered
+pub mod Replaying

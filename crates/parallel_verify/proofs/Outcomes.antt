@@ -6,14 +6,14 @@ use Rattle.std.proofs.lemmas.List.Elements.{All-cons, All-head, All-nil, All-tai
 use Rattle.blocks.proofs.Members.{Has, Contains-from_Has, Has-from_Contains}
 use Rattle.certificates.specs.declared.vote.SignedVote.{SignedVote}
 use Rattle.log_transfer.specs.declared.connector.Connector.{Ghosts}
-use Rattle.evidence.specs.Evidence.{IsEvidenceRefusal, IsHeaderInEvidence}
-use Rattle.evidence.specs.Logs.{ReceivedLog}
-use Rattle.evidence.specs.declared.refusal.EvidenceRefusal.{EvidenceRefusal}
-use Rattle.evidence.specs.declared.refusal.EvidenceRefusal.TheVariants.{Memory, Collision}
-use Rattle.evidence.specs.declared.source.SourceReport.{SourceReport}
-use Rattle.evidence.proofs.Gatherings.{fault_as}
+use Rattle.audit_evidence.specs.Evidence.{IsEvidenceRefusal, IsHeaderInEvidence}
+use Rattle.audit_evidence.specs.Logs.{ReceivedLog}
+use Rattle.audit_evidence.specs.declared.refusal.EvidenceRefusal.{EvidenceRefusal}
+use Rattle.audit_evidence.specs.declared.refusal.EvidenceRefusal.TheVariants.{Memory, Collision}
+use Rattle.audit_evidence.specs.declared.source.SourceReport.{SourceReport}
+use Rattle.audit_evidence.proofs.Gatherings.{fault_as}
 use Rattle.parallel_verify.specs.Collections.{IsRefusalOfSources, MayBeTried, MayFail, MayGive}
-use Rattle.parallel_verify.specs.Judged.{IsJudged, SeparatesBad}
+use Rattle.parallel_verify.specs.JudgedSources.{IsJudged, SeparatesBad}
 use Rattle.parallel_verify.specs.Parts.{HasReport, IsPartOn, IsResultOn, Part, PartHasHeader}
 use Rattle.parallel_verify.specs.Readings.{AreGathered, IsCausedPart, IsJudgedBy, IsOutcome, IsRefusedAmong, MayBeTriedIn, Tells, sources_of}
 use Rattle.parallel_verify.specs.declared.judging.Judgement.{Judgement}

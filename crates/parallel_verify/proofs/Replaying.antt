@@ -3,14 +3,14 @@ use Rattle.std.proofs.Common.{◌≡◌, ◌↔◌, ◌∙◌, ◌≤◌, ◌==�
 use Rattle.std.specs.Prelude.{IsOk, IsTrue}
 use Rattle.std.proofs.lemmas.Bool.Decides.{nat_tests}
 use Rattle.std.proofs.lemmas.List.{length-drop, length-take}
-use Rattle.wire.specs.Pieces.{piece}
-use Rattle.wire.proofs.Needs.{need_ok}
+use Rattle.base_wire.specs.Pieces.{piece}
+use Rattle.base_wire.proofs.Needs.{need_ok}
 use Rattle.blocks.specs.Headers.{Header}
 use Rattle.blocks.specs.HeaderReading.{header_in}
 use Rattle.blocks.specs.declared.header.HeaderRefusal.{HeaderRefusal}
 use Rattle.blocks.specs.Replica.{Stored}
 use Rattle.blocks.specs.Replay.{Durable, IsLegal, IsLegalEntry, IsLegalFrom, first_durable, replay, replay_entry, replay_from}
-use Rattle.evidence.specs.Logs.{SpellsEntry}
+use Rattle.audit_evidence.specs.Logs.{SpellsEntry}
 use Rattle.log_format.specs.EntryReading.{own_in}
 use Rattle.log_format.specs.EntryText.{is_signed}
 use Rattle.log_format.proofs.EntryLaws.{entry_again}

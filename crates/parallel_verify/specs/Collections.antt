@@ -4,14 +4,14 @@ use Rattle.std.specs.List.{AllZip}
 use Rattle.log_format.specs.declared.status.Status.{Status}
 use Rattle.log_transfer.specs.Connections.{Connection}
 use Rattle.log_transfer.specs.Places.{HasCause, IsFetched, IsOutcome, Leads, MayTry}
-use Rattle.log_transfer.specs.declared.place.Place.{Place}
-use Rattle.evidence.specs.Evidence.{Evidence, IsEvidenceOf, IsEvidenceRefusal, IsHeaderInEvidence}
-use Rattle.evidence.specs.Gathering.{Gathered, Grows}
-use Rattle.evidence.specs.Logs.{ReceivedLog, FrameHasHeader, FrameNamesVote, HaveEntries}
-use Rattle.evidence.specs.Sets.{InSome}
-use Rattle.evidence.specs.declared.refusal.EvidenceRefusal.{EvidenceRefusal}
-use Rattle.evidence.specs.declared.refusal.EvidenceRefusal.TheVariants.{Memory, Collision}
-use Rattle.evidence.specs.declared.source.SourceReport.{SourceReport}
+use Rattle.log_transfer.specs.declared.reader_state.ReaderState.{ReaderState}
+use Rattle.audit_evidence.specs.Evidence.{Evidence, IsEvidenceOf, IsEvidenceRefusal, IsHeaderInEvidence}
+use Rattle.audit_evidence.specs.Gathering.{Gathered, Grows}
+use Rattle.audit_evidence.specs.Logs.{ReceivedLog, FrameHasHeader, FrameNamesVote, HaveEntries}
+use Rattle.audit_evidence.specs.Sets.{InSome}
+use Rattle.audit_evidence.specs.declared.refusal.EvidenceRefusal.{EvidenceRefusal}
+use Rattle.audit_evidence.specs.declared.refusal.EvidenceRefusal.TheVariants.{Memory, Collision}
+use Rattle.audit_evidence.specs.declared.source.SourceReport.{SourceReport}
 use Rattle.parallel_verify.specs.declared.source.Source.{Source}
 
 -- ---- of all sources
@@ -58,7 +58,7 @@ IsRefusalOfSources Gives committee sources (Collision h k) = HaveCollision Gives
 -- ---- of one source, frame by frame
 
 -- the log that may come from a place on
-pub record IsLogFrom (gives : ℕ → ℕ → ℕ → Connection → Type 0) (p : Place) (replica : ℕ) (l : ReceivedLog) : Type 0 where
+pub record IsLogFrom (gives : ℕ → ℕ → ℕ → Connection → Type 0) (p : ReaderState) (replica : ℕ) (l : ReceivedLog) : Type 0 where
   pub of : l.replica ≡ replica
   pub outcome : IsOutcome gives 0 p.held p.tries p.last l.frames l.status
 
@@ -66,9 +66,9 @@ pub record IsLogFrom (gives : ℕ → ℕ → ℕ → Connection → Type 0) (p 
 pub record ReaderState : Type 1 where
   pub gives : ℕ → ℕ → ℕ → Connection → Type 0
   pub left : Connection → Type 0
-  pub place : Place
+  pub place : ReaderState
 
-abbrev pub reader_at : (ℕ → ℕ → ℕ → Connection → Type 0) → (Connection → Type 0) → Place → ReaderState
+abbrev pub reader_at : (ℕ → ℕ → ℕ → Connection → Type 0) → (Connection → Type 0) → ReaderState → ReaderState
 reader_at gives left place = record { gives = gives; left = left; place = place }
 
 -- the replica of a source, and how many frames and entries came of it

@@ -1,9 +1,10 @@
-pub use Rattle.evidence.specs.Evidence
-pub use Rattle.evidence.specs.Logs
-pub use Rattle.evidence.specs.Sets
-pub mod Sources
+pub use Rattle.audit_evidence.specs.Evidence
+pub use Rattle.audit_evidence.specs.Logs
+pub use Rattle.audit_evidence.specs.Sets
+pub mod Answers
 pub mod Collections
+pub mod JudgedSources
 pub mod Parts
-pub mod Steps
-pub mod Judged
 pub mod Readings
+pub mod Sources
+pub mod Steps

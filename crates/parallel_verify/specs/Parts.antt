@@ -7,13 +7,13 @@ use Rattle.blocks.specs.Replay.{IsLegal}
 use Rattle.certificates.specs.declared.vote.SignedVote.{SignedVote}
 use Rattle.log_transfer.specs.Connections.{Connection}
 use Rattle.log_format.specs.declared.status.Status.{Status}
-use Rattle.evidence.specs.Evidence.{IsEvidenceRefusal, IsReportOf}
-use Rattle.evidence.specs.Gathering.{Gathered, Grows}
-use Rattle.evidence.specs.Logs.{ReceivedLog, LogHasHeader, LogNamesVote}
-use Rattle.evidence.specs.NamedVotes.{all_votes}
-use Rattle.evidence.specs.Sets.{IsEither}
-use Rattle.evidence.specs.declared.refusal.EvidenceRefusal.{EvidenceRefusal}
-use Rattle.evidence.specs.declared.source.SourceReport.{SourceReport}
+use Rattle.audit_evidence.specs.Evidence.{IsEvidenceRefusal, IsReportOf}
+use Rattle.audit_evidence.specs.Gathering.{Gathered, Grows}
+use Rattle.audit_evidence.specs.Logs.{ReceivedLog, LogHasHeader, LogNamesVote}
+use Rattle.audit_evidence.specs.NamedVotes.{all_votes}
+use Rattle.audit_evidence.specs.Sets.{IsEither}
+use Rattle.audit_evidence.specs.declared.refusal.EvidenceRefusal.{EvidenceRefusal}
+use Rattle.audit_evidence.specs.declared.source.SourceReport.{SourceReport}
 use Rattle.parallel_verify.specs.Collections.{IsCausedIn, IsLogOfSource}
 use Rattle.parallel_verify.specs.Steps.{has_vote, steps_in}
 

@@ -4,12 +4,12 @@ use Rattle.std.specs.List.{AllZip, Contains}
 use Rattle.certificates.specs.declared.vote.SignedVote.{SignedVote}
 use Rattle.log_format.specs.declared.status.Status.{Status}
 use Rattle.log_transfer.specs.declared.connector.Connector.{Ghosts}
-use Rattle.evidence.specs.Evidence.{Evidence, IsEvidenceOf}
-use Rattle.evidence.specs.Logs.{ReceivedLog}
-use Rattle.evidence.specs.declared.refusal.EvidenceRefusal.{EvidenceRefusal}
-use Rattle.evidence.specs.declared.refusal.EvidenceRefusal.TheVariants.{Memory, Collision}
+use Rattle.audit_evidence.specs.Evidence.{Evidence, IsEvidenceOf}
+use Rattle.audit_evidence.specs.Logs.{ReceivedLog}
+use Rattle.audit_evidence.specs.declared.refusal.EvidenceRefusal.{EvidenceRefusal}
+use Rattle.audit_evidence.specs.declared.refusal.EvidenceRefusal.TheVariants.{Memory, Collision}
 use Rattle.parallel_verify.specs.Collections.{MayBeTried, MayFail, MayGive}
-use Rattle.parallel_verify.specs.Judged.{IsJudged, SeparatesBad}
+use Rattle.parallel_verify.specs.JudgedSources.{IsJudged, SeparatesBad}
 use Rattle.parallel_verify.specs.Parts.{IsGathered, IsPartOn, Part}
 use Rattle.parallel_verify.specs.declared.judging.Judgement.{Judgement}
 use Rattle.parallel_verify.specs.declared.judging.Judging.{Judging}

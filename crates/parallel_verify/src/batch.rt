@@ -4,14 +4,14 @@ ghost use Rattle.std.specs.Prelude.{◌≡◌, IfOk};
 ghost use Rattle.std.specs.List.{AllZip};
 ghost use Rattle.certificates.specs.Votes.{IsAnswerOn};
 
+use crate::{Board, BoardNaming};
+use base_shared::Shared;
 use blocks::CommitteeView;
 use certificates::{SignedVote, Verifier, check_vote};
 use rayon::prelude::*;
-use shared_values::Shared;
 use std::alloc::{AllocError, Global};
 use std::sync::Wait;
 use std::thread::Threads;
-use vote_board::{Board, BoardNaming};
 
 // Nearly each check costs more than a thread, so that no list of votes is too short to be split.
 const LEAST_PIECE: usize = 1;

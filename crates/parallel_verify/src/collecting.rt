@@ -2,10 +2,10 @@
 
 ghost use Rattle.std.specs.Prelude.{◌≡◌, List, IfErr, IfOk};
 ghost use Rattle.std.specs.List.{All, AllZip};
-ghost use Rattle.evidence.specs.Evidence.{IsEvidenceOf, IsEvidenceRefusal, IsHeaderInEvidence};
-ghost use Rattle.evidence.specs.Logs.{ReceivedLog};
+ghost use Rattle.audit_evidence.specs.Evidence.{IsEvidenceOf, IsEvidenceRefusal, IsHeaderInEvidence};
+ghost use Rattle.audit_evidence.specs.Logs.{ReceivedLog};
 ghost use Rattle.parallel_verify.specs.Collections.{IsEvidenceOfSources, IsRefusalOfSources, MayFail, MayBeTried, MayGive};
-ghost use Rattle.parallel_verify.specs.Judged.{IsJudged};
+ghost use Rattle.parallel_verify.specs.JudgedSources.{IsJudged};
 ghost use Rattle.parallel_verify.specs.Parts.{HasReport, IsPartOn};
 ghost use Rattle.parallel_verify.specs.Readings.{IsReadingOf, MayBeTriedIn, sources_of};
 
@@ -17,15 +17,15 @@ use crate::numbers::{CertificateList, ListNaming};
 use crate::observer::{NoOne, Observer};
 use crate::part::{Ending, Part};
 use crate::source::{Observed, Source};
+use crate::{Board, BoardNaming};
+use audit_evidence::{Evidence, EvidenceRefusal, Mark};
 use blocks::CommitteeView;
 use certificates::{LmsVerifier, Verifier};
-use evidence::{Evidence, EvidenceRefusal, Mark};
 use log_transfer::Connector;
 use std::alloc::{AllocError, Global};
 use std::marker::Brand;
 use std::sync::Wait;
 use std::thread::Threads;
-use vote_board::{Board, BoardNaming};
 
 /// What one reading of sources gave.
 #[derive(Drop)]

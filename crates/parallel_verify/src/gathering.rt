@@ -13,14 +13,14 @@ use crate::observer::Observer;
 use crate::part::Part;
 use crate::reading::gather;
 use crate::source::Observed;
+use crate::{Board, BoardNaming};
+use audit_evidence::{EvidenceRefusal, Keeper, Mark};
 use blocks::CommitteeView;
-use evidence::{EvidenceRefusal, Keeper, Mark};
 use log_transfer::Connector;
 use std::alloc::{AllocError, Global};
 use std::sync::{Mutex, Wait};
 use std::thread;
 use std::thread::Threads;
-use vote_board::{Board, BoardNaming};
 
 // What one source names, and its observer.
 fn gather_observed<M: Mark, K: Keeper<M>, C: Connector, O: Observer>(

@@ -2,15 +2,15 @@
 
 ghost use Rattle.std.specs.Prelude.{◌≡◌, ◌++◌, List, [], ◌∷◌, IfErr, IfOk, OnOk};
 ghost use Rattle.std.specs.List.{AllZip, Contains};
-ghost use Rattle.evidence.specs.Evidence.{IsEvidenceRefusal, IsHeaderInEvidence, IsReportOf};
-ghost use Rattle.evidence.specs.Gathering.{Grows, IsGatheringRefusal, IsUnion};
-ghost use Rattle.evidence.specs.Logs.{ReceivedLog};
-ghost use Rattle.evidence.specs.NamedVotes.{all_votes};
+ghost use Rattle.audit_evidence.specs.Evidence.{IsEvidenceRefusal, IsHeaderInEvidence, IsReportOf};
+ghost use Rattle.audit_evidence.specs.Gathering.{Grows, IsGatheringRefusal, IsUnion};
+ghost use Rattle.audit_evidence.specs.Logs.{ReceivedLog};
+ghost use Rattle.audit_evidence.specs.NamedVotes.{all_votes};
 ghost use Rattle.parallel_verify.specs.Parts.{HasReport, IsJoined, IsPartOn, PartHasHeader};
 
 use crate::part::Part;
+use audit_evidence::{EvidenceRefusal, Gathered, Listing, Mark, SourceReport};
 use blocks::CommitteeView;
-use evidence::{EvidenceRefusal, Gathered, Listing, Mark, SourceReport};
 use std::alloc::{AllocError, Global};
 
 // Adds what one source names.

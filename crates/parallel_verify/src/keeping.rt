@@ -3,14 +3,14 @@
 ghost use Rattle.std.specs.Prelude.{◌≡◌, IfOk};
 
 use crate::numbers::{CertificateList, ListNaming, Number, numbered};
+use crate::{Board, BoardNaming};
+use audit_evidence::{CertificateVotes, Keeper, KeptCertificate, VoteKeeper};
+use base_shared::Shared;
 use blocks::{Id, NamedHeader};
 use certificates::{Certificate, SignedVote};
-use evidence::{CertificateVotes, Keeper, KeptCertificate, VoteKeeper};
-use shared_values::Shared;
 use std::alloc::{AllocError, Global};
 use std::collections::BTreeMap;
 use std::sync::{Mutex, Wait};
-use vote_board::{Board, BoardNaming};
 
 /// Headers that stand in memory once. Of two different headers of one id the first stays here.
 #[derive(Drop)]

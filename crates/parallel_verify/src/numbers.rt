@@ -3,9 +3,9 @@
 ghost use Rattle.std.specs.Prelude.{◌≡◌, IfOk, []};
 ghost use Rattle.boxcar.specs.Table.{Shelves, Shows};
 
+use audit_evidence::{CertificateVotes, KeptCertificate, Mark};
+use base_shared::Shared;
 use boxcar::Pushed;
-use evidence::{CertificateVotes, KeptCertificate, Mark};
-use shared_values::Shared;
 use std::alloc::AllocError;
 use std::marker::{Brand, PhantomData};
 use std::sync::Wait;

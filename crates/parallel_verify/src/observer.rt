@@ -1,7 +1,7 @@
 //! Who is shown the frames of a source as they come.
 
 ghost use Rattle.std.specs.Prelude.{◌++◌, ◌∷◌, [], ℕ, List, Option, None, Some, ⊤};
-ghost use Rattle.wire.specs.Payloads.{IsPayload};
+ghost use Rattle.base_wire.specs.Payloads.{IsPayload};
 ghost use Rattle.log_format.specs.declared.status.Status.{Status as StatusValue};
 
 use log_format::Status;

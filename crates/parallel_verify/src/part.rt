@@ -1,10 +1,10 @@
 //! What the thread of a source gives.
 
+use audit_evidence::{KeptCertificate, Mark, SourceReport};
+use base_shared::Shared;
 use blocks::NamedHeader;
 use certificates::SignedVote;
-use evidence::{KeptCertificate, Mark, SourceReport};
 use log_transfer::Failure;
-use shared_values::Shared;
 use std::marker::Model;
 
 /// What one source names: headers by rising id, votes that stand alone and rise, and certificates, none of which was checked,

@@ -2,9 +2,9 @@
 
 ghost use Rattle.std.specs.Prelude.{◌≡◌, ◌<◌, [], Some, IfErr, IfOk, false};
 ghost use Rattle.blocks.specs.Genesis.{genesis_of};
-ghost use Rattle.evidence.specs.Evidence.{IsReportOf};
-ghost use Rattle.evidence.specs.Gathering.{Grows, IsGatheringRefusal};
-ghost use Rattle.evidence.specs.Logs.{LogHasHeader, LogNamesVote, ReceivedLog};
+ghost use Rattle.audit_evidence.specs.Evidence.{IsReportOf};
+ghost use Rattle.audit_evidence.specs.Gathering.{Grows, IsGatheringRefusal};
+ghost use Rattle.audit_evidence.specs.Logs.{LogHasHeader, LogNamesVote, ReceivedLog};
 ghost use Rattle.log_transfer.specs.Places.{HasCause, MayTry};
 ghost use Rattle.parallel_verify.specs.Collections.{IsLogFrom};
 ghost use Rattle.parallel_verify.specs.Parts.{IsGathered};
@@ -14,8 +14,8 @@ use crate::observer::Observer;
 use crate::part::{Ending, Part};
 use crate::source::Source;
 use crate::steps::Steps;
+use audit_evidence::{EvidenceRefusal, Gathered, Keeper, Mark, SourceReport};
 use blocks::{CommitteeView, NamedHeader};
-use evidence::{EvidenceRefusal, Gathered, Keeper, Mark, SourceReport};
 use log_transfer::{Connector, FetchError, Pull, Step};
 use std::alloc::Global;
 

@@ -2,7 +2,7 @@
 
 ghost use Rattle.std.specs.Prelude.{◌≡◌, ◌++◌, ◌∷◌, [], ℕ, List, Some};
 ghost use Rattle.blocks.specs.Headers.{Header as HeaderValue};
-ghost use Rattle.evidence.specs.Logs.{SpellsEntry};
+ghost use Rattle.audit_evidence.specs.Logs.{SpellsEntry};
 ghost use Rattle.parallel_verify.specs.Steps.{AreReplayed, step_in};
 
 use blocks::{HEADER_LEN, Header, NamedHeader};

@@ -5,8 +5,8 @@ ghost use Rattle.std.specs.List.{AllZip};
 ghost use Rattle.parallel_verify.specs.Sources.{IsEvidenceOfTexts, IsRefusalOfTexts, IsLogOf};
 
 use crate::SourceText;
+use audit_evidence::{Evidence, EvidenceRefusal, SourceLog, evidence_of_logs};
 use blocks::CommitteeView;
-use evidence::{Evidence, EvidenceRefusal, SourceLog, evidence_of_logs};
 use log_format::Frames;
 use std::alloc::{AllocError, Global};
 

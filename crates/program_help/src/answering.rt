@@ -1,8 +1,8 @@
 //! What is answered.
 
 ghost use Rattle.std.specs.Prelude.{◌≡◌, ◌≢◌, IfErr, IfOk, OnErr, OnOk};
-ghost use Rattle.streams.specs.Streams.{Wrote, WrotePart};
-ghost use Rattle.printed_lines.specs.Printed.{Told};
+ghost use Rattle.base_streams.specs.Streams.{Wrote, WrotePart};
+ghost use Rattle.base_text.specs.Printed.{Told};
 ghost use Rattle.program_parts.specs.FaultLines.{fault_line, no_fault_line};
 ghost use Rattle.program_parts.specs.Writes.{CountsOutput, CountsWrites};
 ghost use Rattle.program_parts.specs.declared.no_fault.NoFault.{NoFault as OwnFaultValue};
@@ -11,10 +11,10 @@ ghost use Rattle.program_help.specs.Helps.{IsHelpFault, answer_text, version_lin
 
 use crate::asking::Asked;
 use crate::help::{Help, VERSION};
+use base_streams::Sink;
+use base_wire::append;
 use program_parts::{NoFault, ProgramFault, exit_status, write_out};
 use std::alloc::{AllocError, Global};
-use streams::Sink;
-use wire::append;
 
 /// Tells what the program is asked, and answers its exit status: 0 where that was written to `out`, else 2, where a first part of it
 /// was at the most, and then the fault's line goes to `faults`, which is else left alone. A fault is of memory, or of `out` where a

@@ -1,6 +1,6 @@
 -- The line of each fault of a program.
 use Rattle.std.specs.Prelude.{ℕ, List, [], ◌++◌, codes, decimal}
-use Rattle.printed_lines.specs.Printed.{file_line, committee_line}
+use Rattle.base_text.specs.Printed.{file_line, committee_line, printed}
 use Rattle.program_parts.specs.declared.no_fault.NoFault.{NoFault}
 use Rattle.program_parts.specs.declared.program_fault.ProgramFault.{ProgramFault}
 use Rattle.program_parts.specs.declared.program_fault.ProgramFault.TheVariants.{Usage, Memory, File, Committee, Output, Own}
@@ -24,3 +24,7 @@ no_fault_line fault = codes "fault usage\n"
 abbrev pub source_fault_line : SourceFault → List ℕ
 source_fault_line (Word i) = codes "fault source " ++ decimal i ++ codes "\n"
 source_fault_line Collision = codes "fault collision\n"
+
+-- "fault usage WORD": the first word that is wrong
+abbrev pub wrong_word_line : List ℕ → List ℕ
+wrong_word_line word = codes "fault usage " ++ (printed word ++ codes "\n")

@@ -1,4 +1,4 @@
-pub use Rattle.printed_lines.specs.Printed
+pub use Rattle.base_text.specs.Printed
 pub mod FaultLines
 pub mod Faults
 pub mod Writes

@@ -1,6 +1,6 @@
 -- Which faults say that a write to the sink failed.
 use Rattle.std.specs.Prelude.{◌≡◌, ◌≢◌, ℕ, Result, Ok, Err}
-use Rattle.streams.specs.Counting.{one_more}
+use Rattle.base_streams.specs.Counting.{one_more}
 use Rattle.program_parts.specs.declared.program_fault.ProgramFault.{ProgramFault}
 use Rattle.program_parts.specs.declared.program_fault.ProgramFault.TheVariants.{Output}
 

@@ -1,13 +1,13 @@
 //! How a program writes, and how it ends.
 
 ghost use Rattle.std.specs.Prelude.{◌≡◌, IfErr, IfOk, OnErr, OnOk};
-ghost use Rattle.streams.specs.Streams.{Wrote, WrotePart};
-ghost use Rattle.printed_lines.specs.Printed.{Told};
+ghost use Rattle.base_streams.specs.Streams.{Wrote, WrotePart};
+ghost use Rattle.base_text.specs.Printed.{Told};
 ghost use Rattle.program_parts.specs.FaultLines.{fault_line};
 ghost use Rattle.program_parts.specs.Writes.{CountsWrites};
 
 use crate::program_fault::{FaultLine, ProgramFault};
-use streams::{Sink, write_all};
+use base_streams::{Sink, write_all};
 
 /// The exit status of a program that gave up.
 pub const FAULT: u8 = 2;

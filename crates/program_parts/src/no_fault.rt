@@ -3,7 +3,7 @@
 ghost use Rattle.program_parts.specs.FaultLines.{no_fault_line};
 
 use crate::program_fault::FaultLine;
-use streams::{Fault, Sink, write_all};
+use base_streams::{Fault, Sink, write_all};
 
 /// No fault of its own: nobody makes one. Its line would be that of `Usage`, so that the lines of such a program are just
 /// those that every program may print.

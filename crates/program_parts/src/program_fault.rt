@@ -2,17 +2,17 @@
 
 ghost use Rattle.std.specs.IoError.{error_kind};
 ghost use Rattle.std.specs.Prelude.{◌≡◌, ◌≢◌, ℕ, List, OnOk, OnErr};
-ghost use Rattle.streams.specs.Counting.{Counts};
-ghost use Rattle.streams.specs.Streams.{Wrote, WrotePart};
-ghost use Rattle.printed_lines.specs.Printed.{Told};
+ghost use Rattle.base_streams.specs.Counting.{Counts};
+ghost use Rattle.base_streams.specs.Streams.{Wrote, WrotePart};
+ghost use Rattle.base_text.specs.Printed.{Told};
 ghost use Rattle.program_parts.specs.FaultLines.{fault_line};
 
 use crate::fault::InputFault;
+use base_streams::{Fault, Sink, write_all};
+use base_text::{committee_fault, write_file_fault};
 use blocks::CommitteeRefusal;
-use printed_lines::{committee_fault, write_file_fault};
 use std::alloc::{AllocError, AllocFailed};
 use std::io::{Error, ErrorKind};
-use streams::{Fault, Sink, write_all};
 
 /// Why a program gives up. Each has exit status 2.
 #[derive(Clone, Copy, Debug)]

@@ -4,9 +4,9 @@ ghost use Rattle.std.specs.Prelude.{◌≡◌, ◌++◌, codes, decimal};
 ghost use Rattle.program_parts.specs.FaultLines.{source_fault_line};
 
 use crate::program_fault::FaultLine;
+use base_streams::{Fault, Sink, write_all};
+use base_text::Line;
 use itoa::Buffer;
-use printed_lines::Line;
-use streams::{Fault, Sink, write_all};
 
 /// Why sources of logs give no evidence.
 #[derive(Clone, Copy, Debug, PartialEq, Eq)]

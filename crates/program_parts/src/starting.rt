@@ -6,12 +6,12 @@ ghost use Rattle.program_parts.specs.Faults.{IsMemoryOr};
 use crate::ending::exit_status;
 use crate::no_fault::NoFault;
 use crate::program_fault::ProgramFault;
+use base_streams::StdSink;
 use std::env;
 use std::env::Env;
 use std::fs::{File, Files};
 use std::io::{Stderr, Stdout};
 use std::process::ExitCode;
-use streams::StdSink;
 
 /// A file that has nothing to read, and takes nothing where it is opened to be read.
 const NOTHING: &str = "/dev/null";

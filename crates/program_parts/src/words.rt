@@ -5,7 +5,7 @@ ghost use Rattle.program_parts.specs.Words.{HasNoColonFrom, IsAddress, IsHost, I
 ghost use Rattle.program_parts.specs.declared.words.Origin.{Origin as OriginValue};
 ghost use Rattle.program_parts.specs.declared.words.SourceWord.{SourceWord as SourceValue};
 
-use printed_lines::number_in;
+use base_text::number_in;
 
 /// The number below 65,536 that a word spells in its one spelling: digits alone, and no leading zero.
 pub fn number(word: &str) -> Option<u16>

@@ -6,7 +6,7 @@ use Rattle.std.proofs.lemmas.Slice.Zip.{all_zipped_more}
 use Rattle.blocks.specs.Replica.{Stored}
 use Rattle.stable_log.specs.declared.disk.Disk.{Ghosts}
 use Rattle.vote_desk.specs.declared.reply.Receipt.{Receipt}
-use Rattle.replica_answers.proofs.Receipts.{kept_by_growth}
+use Rattle.replica_requests.proofs.Receipts.{kept_by_growth}
 use Rattle.replica_command.specs.Dealing.{AreWorked, IsAnswered}
 use Rattle.replica_command.specs.LineReceipts.{HasLineReceipt, receipts_after_line}
 use Rattle.replica_command.specs.declared.worker.Answered.{Answered}

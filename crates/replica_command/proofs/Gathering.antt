@@ -10,12 +10,12 @@ use Rattle.std.proofs.lemmas.Option.{same_Some, slice_get-get_or}
 use Rattle.std.proofs.lemmas.Result.{IfOk-at_ok}
 use Rattle.blocks.specs.Replica.{Stored}
 use Rattle.stable_log.specs.declared.disk.Disk.{Ghosts}
-use Rattle.streams.specs.Streams.{Wrote}
-use Rattle.streams.proofs.Writing.{wrote_both}
+use Rattle.base_streams.specs.Streams.{Wrote}
+use Rattle.base_streams.proofs.Writing.{wrote_both}
 use Rattle.vote_desk.specs.Receipts.{receipts_of}
 use Rattle.vote_desk.specs.declared.reply.Receipt.{Receipt}
-use Rattle.replica_lines.specs.declared.outcome.LineOutcome.{LineOutcome}
-use Rattle.replica_lines.specs.declared.request.LineRequest.{LineRequest}
+use Rattle.replica_requests.specs.declared.outcome_line.LineOutcome.{LineOutcome}
+use Rattle.replica_requests.specs.declared.request_line.LineRequest.{LineRequest}
 use Rattle.replica_command.specs.Dealing.{AreWorked, IsAnswered, IsRequestIn}
 use Rattle.replica_command.specs.LineReceipts.{HasLineReceipt}
 use Rattle.replica_command.specs.StayAnswers.{IsStayAnswer}

@@ -2,10 +2,10 @@
 use Rattle.std.proofs.Common.{List}
 use Rattle.std.specs.List.{Contains}
 use Rattle.vote_desk.specs.declared.reply.Receipt.{Receipt}
-use Rattle.replica_answers.specs.SessionReceipts.{ReceiptsGrow}
-use Rattle.replica_answers.proofs.Receipts.{grow_after, grow_none, has_receipt_after, has_receipt_among_more}
-use Rattle.replica_lines.specs.declared.outcome.LineOutcome.{LineOutcome}
-use Rattle.replica_lines.specs.declared.outcome.LineOutcome.TheVariants.{Came, BadLine}
+use Rattle.replica_requests.specs.SessionReceipts.{ReceiptsGrow}
+use Rattle.replica_requests.proofs.Receipts.{grow_after, grow_none, has_receipt_after, has_receipt_among_more}
+use Rattle.replica_requests.specs.declared.outcome_line.LineOutcome.{LineOutcome}
+use Rattle.replica_requests.specs.declared.outcome_line.LineOutcome.TheVariants.{Came, BadLine}
 use Rattle.replica_command.specs.LineReceipts.{HasLineReceipt, receipts_after_line}
 
 pub grow_after_line : (receipts : List Receipt) (o : LineOutcome) → ReceiptsGrow receipts (receipts_after_line receipts o)

@@ -4,10 +4,10 @@ use Rattle.std.specs.List.{slice_get}
 use Rattle.std.proofs.lemmas.Grind.{flat_map-append}
 use Rattle.std.proofs.lemmas.List.{append-nil, length_push}
 use Rattle.std.proofs.lemmas.Option.{none-some, same_Some}
-use Rattle.streams.specs.Streams.{Wrote}
-use Rattle.streams.proofs.Writing.{wrote_nothing, wrote_both}
-use Rattle.replica_lines.specs.OutcomeLines.{answer_line}
-use Rattle.replica_lines.specs.declared.outcome.LineOutcome.{LineOutcome}
+use Rattle.base_streams.specs.Streams.{Wrote}
+use Rattle.base_streams.proofs.Writing.{wrote_nothing, wrote_both}
+use Rattle.replica_requests.specs.OutcomeLines.{answer_line}
+use Rattle.replica_requests.specs.declared.outcome_line.LineOutcome.{LineOutcome}
 use Rattle.replica_command.specs.Dealing.{IsOutcomeAt}
 use Rattle.replica_command.specs.StayAnswers.{both_endings, ending_of, ending_of_all}
 use Rattle.replica_command.specs.StayText.{IsPrinted, answers}

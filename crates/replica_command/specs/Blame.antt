@@ -1,6 +1,6 @@
 -- Which faults say that a write to the sink failed.
 use Rattle.std.specs.Prelude.{◌≡◌, ◌≢◌, ℕ, Result, Ok, Err}
-use Rattle.streams.specs.Counting.{one_more}
+use Rattle.base_streams.specs.Counting.{one_more}
 use Rattle.replica_command.specs.declared.fault.ReplicaFault.{ReplicaFault as ReplicaFaultValue}
 use Rattle.replica_command.specs.declared.fault.ReplicaFault.TheVariants.{Output}
 

@@ -4,8 +4,8 @@ use Rattle.std.specs.List.{All, AllZip, Contains, slice_get}
 use Rattle.blocks.specs.Replica.{Stored}
 use Rattle.stable_log.specs.declared.disk.Disk.{Ghosts}
 use Rattle.vote_desk.specs.declared.reply.Receipt.{Receipt}
-use Rattle.replica_lines.specs.declared.outcome.LineOutcome.{LineOutcome}
-use Rattle.replica_lines.specs.declared.request.LineRequest.{LineRequest}
+use Rattle.replica_requests.specs.declared.outcome_line.LineOutcome.{LineOutcome}
+use Rattle.replica_requests.specs.declared.request_line.LineRequest.{LineRequest}
 use Rattle.replica_command.specs.LineReceipts.{HasLineReceipt}
 use Rattle.replica_command.specs.StayAnswers.{IsStayAnswer}
 use Rattle.replica_command.specs.declared.worker.Answered.{Answered}

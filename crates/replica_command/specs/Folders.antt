@@ -1,6 +1,6 @@
 -- The files of a replica's folder.
 use Rattle.std.specs.Prelude.{ℕ, List, codes}
-use Rattle.key_files.specs.KeyFiles.{file_name}
+use Rattle.replica_files.specs.KeyFiles.{file_name}
 use Rattle.replica_command.specs.declared.fault.ReplicaFile.{ReplicaFile as ReplicaFileValue}
 use Rattle.replica_command.specs.declared.fault.ReplicaFile.TheVariants.{Lock, Key, PutBack, DiskFailed}
 

@@ -1,9 +1,9 @@
 -- The receipts of a session, and the outcomes of lines that it was told.
 use Rattle.std.specs.Prelude.{List, ⊤}
 use Rattle.vote_desk.specs.declared.reply.Receipt.{Receipt}
-use Rattle.replica_answers.specs.SessionReceipts.{HasReceipt, receipts_after}
-use Rattle.replica_lines.specs.declared.outcome.LineOutcome.{LineOutcome}
-use Rattle.replica_lines.specs.declared.outcome.LineOutcome.TheVariants.{Came, BadLine}
+use Rattle.replica_requests.specs.SessionReceipts.{HasReceipt, receipts_after}
+use Rattle.replica_requests.specs.declared.outcome_line.LineOutcome.{LineOutcome}
+use Rattle.replica_requests.specs.declared.outcome_line.LineOutcome.TheVariants.{Came, BadLine}
 
 -- the receipt of a vote that was given out is among these
 abbrev pub HasLineReceipt : List Receipt → LineOutcome → Type 0

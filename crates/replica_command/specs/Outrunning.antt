@@ -1,6 +1,6 @@
 -- Votes of a log under one-time keys that an index store did not reserve.
 use Rattle.std.specs.Prelude.{◌≡◌, ℕ, ◌+◌, ◌*◌, ◌<◌, ◌≤◌, List, Some, IsSomeAnd, slice_get}
-use Rattle.wire.specs.Pieces.{number_at}
+use Rattle.base_wire.specs.Pieces.{number_at}
 use Rattle.certificates.specs.Votes.{IsGoodVote}
 use Rattle.certificates.specs.declared.vote.SignedVote.{SignedVote}
 use Rattle.key_index_store.specs.declared.store.TheConstants.{INDICES}

@@ -3,12 +3,12 @@ use Rattle.std.specs.Prelude.{◌≡◌, ◌≢◌, ℕ, List, [], ◌∷◌}
 use Rattle.blocks.specs.Replica.{Stored}
 use Rattle.stable_log.specs.declared.disk.Disk.{Ghosts}
 use Rattle.vote_desk.specs.declared.desk_error.DeskError.TheVariants as desk
-use Rattle.replica_answers.specs.Answers.{IsAnswerTo}
-use Rattle.replica_answers.specs.declared.outcome.Outcome.TheVariants as came
-use Rattle.replica_lines.specs.declared.outcome.LineOutcome.{LineOutcome}
-use Rattle.replica_lines.specs.declared.outcome.LineOutcome.TheVariants as line
-use Rattle.replica_lines.specs.declared.request.LineRequest.{LineRequest}
-use Rattle.replica_lines.specs.declared.request.LineRequest.TheVariants as asks
+use Rattle.replica_requests.specs.Answers.{IsAnswerTo}
+use Rattle.replica_requests.specs.declared.outcome.Outcome.TheVariants as came
+use Rattle.replica_requests.specs.declared.outcome_line.LineOutcome.{LineOutcome}
+use Rattle.replica_requests.specs.declared.outcome_line.LineOutcome.TheVariants as line
+use Rattle.replica_requests.specs.declared.request_line.LineRequest.{LineRequest}
+use Rattle.replica_requests.specs.declared.request_line.LineRequest.TheVariants as asks
 use Rattle.replica_command.specs.declared.staying.Ending.{Ending}
 use Rattle.replica_command.specs.declared.staying.Ending.TheVariants.{Done, Stopped}
 

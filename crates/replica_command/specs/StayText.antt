@@ -3,12 +3,12 @@ use Rattle.std.specs.Prelude.{◌≡◌, ◌<◌, ◌-◌, ◌^◌, ℕ, List, �
 use Rattle.std.specs.List.{All, AllZip, flat_map, slice_get}
 use Rattle.blocks.specs.Replica.{Stored}
 use Rattle.stable_log.specs.declared.disk.Disk.{Ghosts}
-use Rattle.streams.specs.Streams.{Wrote}
+use Rattle.base_streams.specs.Streams.{Wrote}
 use Rattle.vote_desk.specs.declared.reply.Receipt.{Receipt}
-use Rattle.replica_lines.specs.LineReading.{IsWhatWasRead}
-use Rattle.replica_lines.specs.OutcomeLines.{answer_line}
-use Rattle.replica_lines.specs.declared.outcome.LineOutcome.{LineOutcome}
-use Rattle.replica_lines.specs.declared.request.LineRequest.{LineRequest}
+use Rattle.replica_requests.specs.LineReading.{IsWhatWasRead}
+use Rattle.replica_requests.specs.OutcomeLines.{answer_line}
+use Rattle.replica_requests.specs.declared.outcome_line.LineOutcome.{LineOutcome}
+use Rattle.replica_requests.specs.declared.request_line.LineRequest.{LineRequest}
 use Rattle.replica_command.specs.Dealing.{IsOutcomeAt}
 use Rattle.replica_command.specs.LineReceipts.{HasLineReceipt}
 use Rattle.replica_command.specs.StayAnswers.{IsStayAnswer, ending_of_all}

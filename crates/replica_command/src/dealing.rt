@@ -5,7 +5,7 @@ ghost use Rattle.std.specs.List.{All};
 ghost use Rattle.replica_command.specs.Dealing.{IsOutcomeAt, IsRequestIn};
 
 use crate::worker::{Asked, Done, Work};
-use replica_lines::{LineOutcome, LineRequest};
+use replica_requests::{LineOutcome, LineRequest};
 use std::alloc::{AllocError, Global};
 use vote_desk::{DeskNaming, Session};
 

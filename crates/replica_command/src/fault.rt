@@ -4,9 +4,8 @@ ghost use Rattle.std.specs.Prelude.{◌≡◌, ◌≤◌, length};
 ghost use Rattle.replica_command.specs.Folders.{name_in_folder};
 ghost use Rattle.replica_command.specs.StoreFaults.{fault_of_indices, fault_of_log};
 
-use key_files::KeyFile;
 use key_index_store::IndexError;
-use put_back_file::{DISK_FAILED, PUT_BACK};
+use replica_files::{DISK_FAILED, KeyFile, PUT_BACK};
 use std::alloc::{AllocError, AllocFailed};
 use vote_log::LogError;
 

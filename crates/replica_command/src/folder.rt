@@ -2,19 +2,18 @@
 
 ghost use Rattle.std.specs.Prelude.{◌≡◌, ◌≢◌, ◌≤◌, IfErr, IfSome, OnOk, false, length};
 ghost use Rattle.blocks.specs.Headers.{IsGenesis};
-ghost use Rattle.wire.specs.declared.limits.TheConstants.{MOST_KEYS};
+ghost use Rattle.base_wire.specs.declared.limits.TheConstants.{MOST_KEYS};
 ghost use Rattle.replica_command.specs.Outrunning.{NoneOutruns};
 
 use crate::fault::{ReplicaFault, ReplicaFile, fault_of_indices, fault_of_log};
 use crate::outrunning::log_outruns;
+use base_wire::KeyNumber;
 use blocks::{CommitteeView, Header};
-use key_files::KeyFile;
 use key_index_store::{INDICES, IndexError, IndexStore};
 use lmots::{PRIVATE_SEED_LEN, PrivateSeed};
 use lms_tree::SigningTree;
-use parallel_keys::generate_parallel;
-use program_parts::{InputFault, read_at_most};
-use safe_files::is_nothing_at;
+use program_parts::{InputFault, is_nothing_at, read_at_most};
+use replica_files::{KeyFile, generate_parallel};
 use stable_log::{Disk, FileDisk};
 use std::alloc::Global;
 use std::fs::{File, Files, OpenOptions, Permissions};
@@ -24,7 +23,6 @@ use std::os::unix::fs::{OpenOptionsExt, PermissionsExt};
 use std::thread::Threads;
 use vote_desk::Parts;
 use vote_log::VoteLog;
-use wire::KeyNumber;
 
 /// The mode of a file that its owner alone may read and write.
 const OWNER_ALONE: u32 = 0o600;

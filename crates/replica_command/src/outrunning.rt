@@ -3,13 +3,13 @@
 ghost use Rattle.std.specs.Prelude.{◌≡◌, ◌≤◌, ◌↔◌, IfOk, IfSome, IsTrue, false, length};
 ghost use Rattle.replica_command.specs.Outrunning.{index_of, NoneOutruns, Outruns, SomeOutruns};
 
+use base_wire::u32_at;
 use blocks::CommitteeView;
 use certificates::{SignedVote, check_vote};
 use key_index_store::INDICES;
 use log_format::Entry;
 use stable_log::Disk;
 use vote_log::{LogError, VoteLog};
-use wire::u32_at;
 
 /// Whether the log has a vote of the replica that verifies under its keys in the committee, at an index that is not below the
 /// boundary. Signatures of such indices alone are checked. As `VoteLog::entry` refuses; the log stays as it is.

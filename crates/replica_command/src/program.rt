@@ -2,15 +2,16 @@
 
 ghost use Rattle.std.specs.Prelude.{◌≡◌, ◌≤◌, List, IfOk, length};
 ghost use Rattle.vote_desk.specs.Receipts.{AreReceipts};
-ghost use Rattle.replica_lines.specs.declared.request.LineRequest.{LineRequest as RequestValue};
+ghost use Rattle.replica_requests.specs.declared.request_line.LineRequest.{LineRequest as RequestValue};
 ghost use Rattle.replica_command.specs.Blame.{BlamesOutput};
 ghost use Rattle.replica_command.specs.StayText.{AreRequestsRead, IsStayPrinted};
 
 use crate::fault::ReplicaFault;
 use crate::folder::ReplicaFolder;
 use crate::staying::{StayEnd, stay};
+use base_streams::{Feed, Sink};
 use blocks::CommitteeView;
-use replica_lines::{LineRequest, read_requests};
+use replica_requests::{LineRequest, read_requests};
 use stable_log::{Disk, FileDisk};
 use std::alloc::Global;
 use std::fs::{File, Files};
@@ -18,7 +19,6 @@ use std::marker::Brand;
 use std::sync::Wait;
 use std::sync::ledger::Blank;
 use std::thread::Threads;
-use streams::{Feed, Sink};
 use vote_desk::Parts;
 
 /// A replica after its run: what its stay left, and the lock of its folder, which is held as long as this lives.

@@ -3,10 +3,10 @@
 ghost use Rattle.std.specs.Prelude.{◌≡◌, ◌≢◌, ◌≤◌, IfErr, IfOk, OnOk, length, map, take, vec_len};
 ghost use Rattle.std.specs.List.{AllZip};
 ghost use Rattle.std.specs.List.Sorted.{IsPermutation};
-ghost use Rattle.streams.specs.Streams.{Wrote};
+ghost use Rattle.base_streams.specs.Streams.{Wrote};
 ghost use Rattle.vote_desk.specs.Receipts.{AreReceipts, receipts_of};
-ghost use Rattle.replica_lines.specs.OutcomeLines.{answer_line};
-ghost use Rattle.replica_lines.specs.declared.outcome.LineOutcome.{LineOutcome as OutcomeValue};
+ghost use Rattle.replica_requests.specs.OutcomeLines.{answer_line};
+ghost use Rattle.replica_requests.specs.declared.outcome_line.LineOutcome.{LineOutcome as OutcomeValue};
 ghost use Rattle.replica_command.specs.StayAnswers.{both_endings, ending_of};
 ghost use Rattle.replica_command.specs.Dealing.{AreWorked, IsOutcomeAt};
 ghost use Rattle.replica_command.specs.StayText.{IsPrinted, IsStayPrinted, closed_line};
@@ -16,18 +16,17 @@ ghost use Rattle.replica_command.specs.StayFaults.{IsStayFault, IsWorkFault};
 use crate::dealing::{deal, outcome_at};
 use crate::fault::ReplicaFault;
 use crate::worker::{Done, Work};
+use base_streams::{Sink, write_all};
+use base_text::Line;
 use blocks::CommitteeView;
 use itoa::Buffer;
-use printed_lines::Line;
-use replica_answers::Outcome;
-use replica_lines::{LineOutcome, LineRequest, write_outcome};
+use replica_requests::{LineOutcome, LineRequest, Outcome, write_outcome};
 use stable_log::Disk;
 use std::alloc::{AllocError, Global};
 use std::sync::Wait;
 use std::sync::ledger::Blank;
 use std::thread;
 use std::thread::Threads;
-use streams::{Sink, write_all};
 use vote_desk::{Closed, Desk, DeskError, DeskNaming, Parts, Session, StartError};
 
 /// What a stay leaves.

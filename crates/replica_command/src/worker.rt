@@ -7,8 +7,7 @@ ghost use Rattle.replica_command.specs.Dealing.{AreWorked};
 
 use blocks::CommitteeView;
 use certificates::LmsVerifier;
-use replica_answers::{Outcome, answer};
-use replica_lines::{LineOutcome, LineRequest};
+use replica_requests::{LineOutcome, LineRequest, Outcome, answer};
 use stable_log::Disk;
 use std::alloc::{AllocError, Global};
 use std::sync::Wait;

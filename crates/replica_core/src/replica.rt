@@ -6,7 +6,7 @@ ghost use Rattle.blocks.specs.Chains.{IsChain};
 ghost use Rattle.blocks.specs.Headers.{Header as HeaderValue, IsGenesis, NamesParent};
 ghost use Rattle.blocks.specs.Replay.{IsOnLock, replay};
 ghost use Rattle.blocks.specs.Replica.{Raise, Vote, after, first_state, timed_out};
-ghost use Rattle.wire.specs.declared.limits.TheConstants.{MOST_ENTRIES};
+ghost use Rattle.base_wire.specs.declared.limits.TheConstants.{MOST_ENTRIES};
 ghost use Rattle.replica_core.specs.Admission.{HasPlace, IsAdmissible, IsCoreRefusal};
 ghost use Rattle.replica_core.specs.Cores.{IsHeaderTree, IsSameCore, restarted_with};
 ghost use Rattle.replica_core.specs.Marks.{HasNoMarked, HasNoMarkedIn, IsFirstMarked, IsFirstMarkedIn};

@@ -1,11 +1,11 @@
 //! Runs scenarios of the checker: the script on standard input, over the files of `data`.
 #![tactic(auto)]
 
-use check_command::run_program;
+use base_streams::MemorySink;
+use program_check::run_program;
 use runs_script::{FailingFiles, Failure, run_script};
 use std::fs::{File, Files};
 use std::io;
-use streams::MemorySink;
 
 // The checker, also where memory is refused.
 fn run_named<R: Files<File = File> + AllocGlobal>(

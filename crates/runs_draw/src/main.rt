@@ -1,13 +1,13 @@
 //! Runs scenarios of the program that draws pictures: the script on standard input, over the files of `data`.
 #![tactic(auto)]
 
-use draw_command::run_draw;
+use base_streams::MemorySink;
+use program_draw::run_draw;
 use runs_script::run_script;
 use std::fs::{File, Files};
 use std::io;
 use std::sync::Wait;
 use std::thread::Threads;
-use streams::MemorySink;
 
 // The program that draws pictures alone.
 fn run_named<R: Files<File = File> + Threads + Wait + Sync + AllocGlobal>(

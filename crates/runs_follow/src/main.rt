@@ -1,8 +1,8 @@
 //! Runs scenarios of the program that follows a handover: the script on standard input, over the files of `data`.
 #![tactic(auto)]
 
-use follow_command::run_follow;
-use lineage_command::{asks_for_lineage, run_lineage};
+use base_streams::{MemorySink, write_all};
+use program_follow::{asks_for_lineage, run_follow, run_lineage};
 use program_parts::FAULT;
 use runs_script::run_script;
 use std::fs::{File, Files};
@@ -11,7 +11,6 @@ use std::net::{Net, TcpListener, TcpStream};
 use std::sync::Wait;
 use std::thread::Threads;
 use std::time::Clock;
-use streams::{MemorySink, write_all};
 
 // The program that follows a handover alone.
 fn run_named<

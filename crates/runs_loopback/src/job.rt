@@ -1,7 +1,9 @@
 //! Runs of the tool, and of the checker.
 
-use check_command::run_program;
-use key_files::KnownSeed;
+use base_streams::{MemoryFeed, MemorySink};
+use program_check::run_program;
+use program_tool::{Extras, SystemFiles, ToolHost, run_tool};
+use replica_files::KnownSeed;
 use std::alloc::Global;
 use std::fs::{File, Files};
 use std::net::{Net, TcpListener, TcpStream};
@@ -9,8 +11,6 @@ use std::sync::Wait;
 use std::thread::Threads;
 use std::time::{Clock, Duration};
 use std::{fs, io, thread};
-use streams::{MemoryFeed, MemorySink};
-use tool_commands::{Extras, Host, SystemFiles, run_tool};
 
 /// How often a connection is tried until a replica listens.
 const MOST_KNOCKS: u32 = 600;
@@ -108,7 +108,7 @@ impl Job<'_> {
         let alloc = rt.alloc();
         let (words, input) = self.call(rt)?;
         let words = strings(alloc, &words)?;
-        let host = Host {
+        let host = ToolHost {
             files: rt,
             rt,
             alloc,

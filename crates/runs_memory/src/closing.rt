@@ -5,13 +5,13 @@ ghost use Rattle.std.specs.Prelude.{◌≡◌};
 use crate::outcome::Outcome;
 use crate::replica::{Block, are_numbered, checked, committee, new_parts};
 use crate::stage::announce;
+use base_streams::Sink;
 use blocks::CommitteeView;
 use stable_log::MemoryDisk;
 use std::marker::Brand;
 use std::sync::Wait;
 use std::sync::ledger::Blank;
 use std::thread::Threads;
-use streams::Sink;
 use vote_desk::{Answer, Closed, Desk, DeskError, DeskNaming, Parts, Session};
 
 const SESSIONS: u8 = 3;

@@ -9,13 +9,13 @@ use crate::replica::{
     restarted,
 };
 use crate::stage::announce;
+use base_streams::Sink;
 use blocks::CommitteeView;
 use stable_log::MemoryDisk;
 use std::marker::Brand;
 use std::sync::Wait;
 use std::sync::ledger::Blank;
 use std::thread::Threads;
-use streams::Sink;
 use vote_desk::{Answer, Closed, Desk, DeskError, DeskNaming, Parts, Reply, Session, StartError};
 
 /// The log's bytes after the run, by their digest: an independent program made them.

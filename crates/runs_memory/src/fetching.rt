@@ -2,11 +2,11 @@
 
 use crate::outcome::Outcome;
 use crate::stage::announce;
-use fixtures::exports::nine_entries;
+use base_streams::Sink;
 use log_format::Status;
 use log_transfer::{Fetched, MemoryConnector, Payload, fetch};
 use std::alloc::{AllocError, Global};
-use streams::Sink;
+use test_fixtures::exports::nine_entries;
 
 // The bytes of the magic, of a frame's length, and of a frame: its length and a payload of 1,704 bytes.
 const MAGIC: usize = 4;

@@ -11,13 +11,13 @@ mod replica;
 mod scenario;
 mod stage;
 
+use base_streams::{Sink, StdSink, write_all};
 use outcome::Outcome;
 use scenario::{SCENARIOS, Scenario, run};
 use std::env;
 use std::process::ExitCode;
 use std::sync::Wait;
 use std::thread::Threads;
-use streams::{Sink, StdSink, write_all};
 
 /// The exit status where words name no scenario.
 const USAGE: u8 = 2;

@@ -5,15 +5,15 @@ ghost use Rattle.std.specs.Prelude.{◌≡◌, IfOk};
 use crate::outcome::Outcome;
 use blocks::{CommitteeView, Header};
 use certificates::{Certificate, CertificateRefusal, CheckedBlock, LmsVerifier, check_block};
-use fixtures::{certificates as texts, core_blocks, verdicts};
 use key_index_store::{IndexError, IndexStore};
 use lmots::PrivateSeed;
-use parallel_keys::generate_parallel;
 use replica_core::Stored;
+use replica_files::generate_parallel;
 use sha2::{Digest, Sha256};
 use stable_log::MemoryDisk;
 use std::alloc::Global;
 use std::thread::Threads;
+use test_fixtures::{certificates as texts, core_blocks, verdicts};
 use vote_desk::{Parts, Receipt};
 use vote_log::{LogError, VoteLog};
 

@@ -4,9 +4,9 @@ use crate::closing::{HandedIn, close_desk};
 use crate::delivering::{After, run_stays};
 use crate::fetching::fetch_in_two;
 use crate::outcome::Outcome;
+use base_streams::Sink;
 use std::sync::Wait;
 use std::thread::Threads;
-use streams::Sink;
 
 /// What is run.
 #[derive(Clone, Copy)]

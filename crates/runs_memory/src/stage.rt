@@ -1,6 +1,6 @@
 //! Where a scenario says that it is set up.
 
-use streams::{Sink, write_all};
+use base_streams::{Sink, write_all};
 
 /// Says that all is made that the scenario's calls are made on. `trials/refuse.c` counts the requests for memory from here
 /// on.

@@ -1,11 +1,11 @@
 //! Runs scenarios of a replica at the operator's tool: the script on standard input, over the files of `data`.
 #![tactic(auto)]
 
-use key_files::KnownSeed;
+use base_streams::{MemoryFeed, MemorySink};
+use program_tool::{Extras, SystemFiles, ToolHost, run_tool};
+use replica_files::KnownSeed;
 use runs_script::run_script;
 use std::io;
-use streams::{MemoryFeed, MemorySink};
-use tool_commands::{Extras, Host, SystemFiles, run_tool};
 
 fn main(rt: HostRuntime) -> io::Result<()> {
     run_script(
@@ -13,7 +13,7 @@ fn main(rt: HostRuntime) -> io::Result<()> {
         &|name: &str, words: &[String], input: &[u8], out: &mut MemorySink, faults: &mut MemorySink| {
             match (name, input.to_vec(rt.alloc())) {
                 ("hs_tool", Ok(input)) => {
-                    let host = Host {
+                    let host = ToolHost {
                         files: &rt,
                         rt: &rt,
                         alloc: rt.alloc(),

@@ -2,10 +2,10 @@
 
 use crate::file_commands::answer;
 use crate::line::{Line, line_of};
+use base_streams::MemorySink;
 use std::fs::{File, Files};
 use std::io::Write;
 use std::{fs, io};
-use streams::MemorySink;
 
 /// Runs the script on standard input, and prints a transcript: each line behind `> `, and then what it did. Comments
 /// (`#`) and empty lines are printed as they are. What fails says so, and the script goes on.

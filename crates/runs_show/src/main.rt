@@ -1,12 +1,12 @@
 //! Runs scenarios of the program that shows files: the script on standard input, over the files of `data`.
 #![tactic(auto)]
 
-use about_command::{asks_about, asks_for_lineage_sheet, run_about, run_lineage_sheet};
+use base_streams::MemorySink;
+use program_about::{asks_about, asks_for_lineage_sheet, run_about, run_lineage_sheet};
+use program_show::run_show;
 use runs_script::run_script;
-use show_command::run_show;
 use std::fs::{File, Files};
 use std::io;
-use streams::MemorySink;
 
 // The program that shows files alone.
 fn run_named<R: Files<File = File> + AllocGlobal>(

@@ -3,9 +3,11 @@
 
 mod frames;
 
-use check_command::run_program;
+use base_streams::{MemoryFeed, MemorySink, write_all};
 use frames::make_frames;
-use key_files::KnownSeed;
+use program_check::run_program;
+use program_tool::{Extras, FAULT, SystemFiles, ToolHost, run_tool};
+use replica_files::KnownSeed;
 use runs_script::{FailingFiles, Failure, run_script};
 use std::alloc::Global;
 use std::fs::{File, Files};
@@ -14,8 +16,6 @@ use std::net::{Net, TcpListener, TcpStream};
 use std::sync::Wait;
 use std::thread::Threads;
 use std::time::Clock;
-use streams::{MemoryFeed, MemorySink, write_all};
-use tool_commands::{Extras, FAULT, Host, SystemFiles, run_tool};
 
 // What the random source gives: the seed of replica 2 of the trial committee.
 const DRAWN: [u8; 48] = [
@@ -81,7 +81,7 @@ fn tool<
 where
     F::Dir: Send,
 {
-    let host = Host {
+    let host = ToolHost {
         files,
         rt,
         alloc,

@@ -5,7 +5,7 @@ use Rattle.blocks.specs.Replica.{Stored}
 use Rattle.certificates.specs.Certificates.{Certificate}
 use Rattle.stable_log.specs.declared.disk.Disk.{Ghosts}
 use Rattle.vote_desk.specs.declared.reply.Receipt.{Receipt}
-use Rattle.replica_answers.specs.declared.request.Request.TheVariants.{Block}
+use Rattle.replica_requests.specs.declared.request.Request.TheVariants.{Block}
 use Rattle.signer_answers.specs.Approvals.{Telling}
 use Rattle.signer_answers.specs.BlockAnswers.{IsBlockTold, IsSignerAnswer}
 use Rattle.signer_answers.specs.declared.told.Told.{Told}

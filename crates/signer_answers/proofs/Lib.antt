@@ -1,3 +1,6 @@
-pub mod Unvoted
-mod Looked
+pub mod Asked
 mod BlockTold
+mod Frames
+mod Looked
+mod OneFirst
+pub mod Unvoted

@@ -8,7 +8,7 @@ use Rattle.certificates.specs.declared.vote.SignedVote.{SignedVote}
 use Rattle.stable_log.specs.declared.disk.Disk.{Ghosts}
 use Rattle.vote_desk.specs.declared.reply.Receipt.{Receipt}
 use Rattle.vote_log.specs.declared.log_error.LogError.{LogError}
-use Rattle.own_votes.specs.Forgotten.{IsFirstForgotten, IsForgottenVote}
+use Rattle.replica_backups.specs.Forgotten.{IsFirstForgotten, IsForgottenVote}
 use Rattle.signer_answers.specs.Guards.{IsFoundIn, IsSpoilt, IsSpoiltBesideVote, votes_found}
 
 -- what is found of its votes beside the one that the log has

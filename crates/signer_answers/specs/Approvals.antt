@@ -2,9 +2,9 @@
 use Rattle.std.specs.Prelude.{◌≡◌, ◌≢◌, ◌⊎◌, ℕ, Bool, List, Option, Some, IfSome}
 use Rattle.blocks.specs.Committees.{IsCommittee}
 use Rattle.blocks.specs.Headers.{Header}
-use Rattle.handover.specs.Handovers.{IsHandover, handover_payload}
-use Rattle.renewals.specs.Renewals.{Renewal}
-use Rattle.renewals.specs.Renewing.{Renews}
+use Rattle.handover_blocks.specs.Handovers.{IsHandover, handover_payload}
+use Rattle.handover_renewals.specs.Renewals.{Renewal}
+use Rattle.handover_renewals.specs.Renewing.{Renews}
 
 -- what may be told of the committee that comes next: the payload of the block that hands over to it, or that none is approved; the
 -- payload of the one first block, in a chain that was gone over to; whether indices and room are spared for later; that the replica

@@ -2,7 +2,7 @@
 use Rattle.std.specs.Prelude.{◌≡◌, ◌≢◌, ◌≤◌, ◌⊎◌, ℕ, List, Option, true}
 use Rattle.blocks.specs.Headers.{Header}
 use Rattle.blocks.specs.Replica.{Stored}
-use Rattle.handover.specs.Handovers.{IsHandover, handover_mark}
+use Rattle.handover_blocks.specs.Handovers.{IsHandover, handover_mark}
 use Rattle.certificates.specs.BlockChecks.{IsBlockRefusal, IsChecked}
 use Rattle.certificates.specs.Certificates.{Certificate}
 use Rattle.replica_core.specs.Marks.{IsFirstMarkedIn}
@@ -22,11 +22,11 @@ use Rattle.vote_desk.specs.declared.reply.Answer.{Answer}
 use Rattle.vote_desk.specs.declared.reply.Answer.TheVariants.{Held}
 use Rattle.vote_desk.specs.declared.reply.Receipt.{Receipt}
 use Rattle.vote_desk.specs.declared.reply.Reply.{Reply}
-use Rattle.replica_answers.specs.declared.outcome.Outcome.{Outcome}
-use Rattle.replica_answers.specs.declared.outcome.Outcome.TheVariants as came
-use Rattle.replica_answers.specs.declared.request.Request.{Request}
-use Rattle.replica_answers.specs.declared.request.Request.TheVariants as asks
-use Rattle.replica_answers.specs.Answers.{IsAnswerTo, block_of}
+use Rattle.replica_requests.specs.declared.outcome.Outcome.{Outcome}
+use Rattle.replica_requests.specs.declared.outcome.Outcome.TheVariants as came
+use Rattle.replica_requests.specs.declared.request.Request.{Request}
+use Rattle.replica_requests.specs.declared.request.Request.TheVariants as asks
+use Rattle.replica_requests.specs.Answers.{IsAnswerTo, block_of}
 use Rattle.signer_answers.specs.Approvals.{IsApproved, IsWithheld, Telling}
 use Rattle.signer_answers.specs.Sparings.{last_spare, ordinary_spare}
 use Rattle.signer_answers.specs.Guards.{IsNotVotedBefore, IsUndecided, IsPutBack, IsRemembered, IsUnreadAs, IsUnreadable, IsVotedBefore}

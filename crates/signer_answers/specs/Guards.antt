@@ -19,8 +19,8 @@ use Rattle.vote_desk.specs.SomeDesk.{IsDeskOf, SomeDesk}
 use Rattle.vote_desk.specs.Votes.{AreFound, IsFoundAsOpened, IsNoneFoundBelow, IsVoteFound}
 use Rattle.vote_desk.specs.declared.desk_error.DeskError.{DeskError}
 use Rattle.vote_desk.specs.declared.reply.Receipt.{Receipt}
-use Rattle.own_votes.specs.Forgotten.{IsForgottenVote}
-use Rattle.own_votes.specs.OwnVotes.{ShowsForeignVote}
+use Rattle.replica_backups.specs.Forgotten.{IsForgottenVote}
+use Rattle.replica_backups.specs.OwnVotes.{ShowsForeignVote}
 use Rattle.signer_answers.specs.Showings.{IsOfCertificate}
 
 -- the votes that were found in a log

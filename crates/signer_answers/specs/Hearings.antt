@@ -6,7 +6,7 @@ use Rattle.vote_desk.specs.DeskRefusals.{IsStopped}
 use Rattle.vote_desk.specs.SomeDesk.{IsDeskOf, SomeDesk, SomeDeskMoves, TimesOut}
 use Rattle.vote_desk.specs.declared.desk_error.DeskError.{DeskError}
 use Rattle.vote_desk.specs.declared.desk_error.DeskError.TheVariants.{Memory, Stopped}
-use Rattle.asked_logs.specs.Enough.{AreEnough}
+use Rattle.signer_answers.specs.Enough.{AreEnough}
 
 -- the view above, if there is one
 abbrev pub next_view : ℕ → ℕ

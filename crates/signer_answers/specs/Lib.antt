@@ -1,8 +1,12 @@
+pub use Rattle.certificates.specs.BlockChecks
 pub mod Approvals
-pub mod Sparings
-pub mod Showings
-pub mod Guards
 pub mod BlockAnswers
-pub mod Tellings
-pub mod Lookings
+pub mod Enough
+pub mod Greatest
+pub mod Guards
 pub mod Hearings
+pub mod Lookings
+pub mod OtherChain
+pub mod Showings
+pub mod Sparings
+pub mod Tellings

@@ -11,8 +11,8 @@ use Rattle.stable_log.specs.declared.disk.Disk.{Ghosts}
 use Rattle.vote_log.specs.declared.log_error.LogError.{LogError}
 use Rattle.vote_log.specs.declared.log_error.LogError.TheVariants.{Memory}
 use Rattle.vote_desk.specs.declared.reply.Receipt.{Receipt}
-use Rattle.own_votes.specs.Forgotten.{IsFirstForgotten, IsForgottenVote}
-use Rattle.own_votes.specs.OwnVotes.{ShowsForeignVote}
+use Rattle.replica_backups.specs.Forgotten.{IsFirstForgotten, IsForgottenVote}
+use Rattle.replica_backups.specs.OwnVotes.{ShowsForeignVote}
 use Rattle.signer_answers.specs.Guards.{IsFoundIn, IsSound, IsSpoiltBesideVote, IsUnread, votes_found}
 
 module _ {D : Type 0} (disk : Ghosts D) (committee : List ℕ) (replica : ℕ) (opening : List Stored) where

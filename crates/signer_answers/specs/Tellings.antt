@@ -1,7 +1,7 @@
 -- What a caller has behind what it was told.
 use Rattle.std.specs.Prelude.{◌≡◌, ℕ, List, Option, None}
 use Rattle.vote_desk.specs.declared.reply.Receipt.{Receipt}
-use Rattle.replica_answers.specs.SessionReceipts.{HasReceipt, receipts_after}
+use Rattle.replica_requests.specs.SessionReceipts.{HasReceipt, receipts_after}
 use Rattle.signer_answers.specs.Showings.{HasShowing, Showing}
 use Rattle.signer_answers.specs.declared.told.Told.{Told}
 use Rattle.signer_answers.specs.declared.told.Told.TheVariants as told

@@ -2,11 +2,11 @@
 
 ghost use Rattle.std.specs.Prelude.{◌≡◌, ◌≢◌, ℕ, List, IfOk, IfSome, IsTrue, None, OnOk};
 ghost use Rattle.blocks.specs.Genesis.{chain_id_of};
-ghost use Rattle.light_proofs.specs.Proving.{ProvesHandover};
+ghost use Rattle.handover_light.specs.Proving.{ProvesHandover};
 ghost use Rattle.signer_answers.specs.Approvals.{Telling};
 
 use blocks::{CommitteeRefusal, CommitteeView, Id};
-use light_proofs::LightProof;
+use handover_light::LightProof;
 use std::alloc::AllocError;
 
 /// Why a signer does not go over to the committee of a file.

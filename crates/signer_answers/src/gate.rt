@@ -1,7 +1,7 @@
 //! Whether blocks and timeouts are taken yet.
 
 ghost use Rattle.std.specs.Prelude.{◌≡◌, IfErr, IfOk, IfSome, IsFalse, IsTrue, MatchOption, true};
-ghost use Rattle.asked_logs.specs.Enough.{AreEnough};
+ghost use Rattle.signer_answers.specs.Enough.{AreEnough};
 ghost use Rattle.signer_answers.specs.Hearings.{HasHeard, IsGivenUp, IsHearingRefusal};
 
 use crate::approver::Approver;

@@ -1,14 +1,14 @@
 //! Giving up on the views that others certify, before a gate opens.
 
 ghost use Rattle.std.specs.Prelude.{◌≡◌, IfErr, IfOk, MatchOption, OnOk};
-ghost use Rattle.asked_logs.specs.Enough.{AreEnough};
+ghost use Rattle.signer_answers.specs.Enough.{AreEnough};
 ghost use Rattle.signer_answers.specs.Hearings.{IsGivenUp, IsHearingRefusal, IsTimedOut};
 
 use crate::approver::Approver;
+use crate::are_enough;
 use crate::heard::Heard;
 use crate::keeper::Keeper;
 use crate::office::Office;
-use asked_logs::are_enough;
 use stable_log::Disk;
 use std::alloc::{AllocError, Global};
 use std::marker::{Model, PhantomData};

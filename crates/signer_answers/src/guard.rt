@@ -2,7 +2,7 @@
 
 ghost use Rattle.std.specs.Prelude.{◌≡◌, ◌↔◌, IfErr, IfOk, IsFalse, IsTrue, MatchOption, OnOk, [], ◌∷◌};
 ghost use Rattle.certificates.specs.BlockChecks.{IsChecked};
-ghost use Rattle.own_votes.specs.OwnVotes.{ShowsForeignVote};
+ghost use Rattle.replica_backups.specs.OwnVotes.{ShowsForeignVote};
 ghost use Rattle.vote_desk.specs.DeskRefusals.{from_log};
 ghost use Rattle.signer_answers.specs.Guards.{IsForgotten, IsFoundIn, IsNotVotedBefore, IsUndecided, IsPutBack, IsRemembered, IsSound, IsSpoilt, IsUnread, IsUnreadAs, IsUnreadable, IsVotedBefore, votes_found};
 
@@ -12,7 +12,7 @@ use crate::office::Office;
 use crate::shown::Shown;
 use blocks::{Ballot, CommitteeView, NamedHeader};
 use certificates::{CheckedBlock, check_vote};
-use own_votes::shows_foreign_vote;
+use replica_backups::shows_foreign_vote;
 use stable_log::Disk;
 use std::sync::Wait;
 use vote_desk::{DeskError, DeskNaming, Receipt};

@@ -1,15 +1,16 @@
-//! What a signer answers to a block or a timeout. A block that hands the ledger over to another committee is voted for only
-//! where that committee is approved, and no block is delivered whose certificate shows that the log was put back to a backup.
-//! Logs of others may be looked through for what shows it, before blocks are taken. Calls may wait for the desk's lock; needs no
-//! threads, files or network.
+//! What a signer answers to a block or a timeout. It votes for a block that hands the ledger over only if the next committee is
+//! approved, and delivers no block whose certificate shows that its log was put back to a backup. It may look through others' logs
+//! for what shows that, before it takes blocks. Calls may wait for the desk's lock; needs no threads, files or network.
 #![tactic(auto)]
 
 mod answering;
 mod approver;
 mod caller;
+mod enough;
 mod found;
 mod gate;
 mod giving_up;
+mod greatest;
 mod guard;
 mod heard;
 mod keeper;
@@ -17,6 +18,7 @@ mod laws;
 mod looking;
 mod office;
 mod opened;
+mod other_chain;
 mod put_back;
 mod renewed;
 mod shown;
@@ -26,13 +28,16 @@ mod told;
 pub use answering::answer;
 pub use approver::{Approver, NextFault, NextKeys, NoSuccessor, OverFault, Progress};
 pub use caller::Caller;
+pub use enough::{are_enough, can_be_enough};
 pub use gate::Gate;
+pub use greatest::greatest_certified;
 pub use heard::Heard;
 pub use keeper::Keeper;
 pub use laws::a_forgotten_vote_is_not_the_callers;
 pub use looking::look_through;
 pub use office::Office;
 pub use opened::Opened;
+pub use other_chain::is_of_other_chain;
 pub use put_back::PutBack;
 pub use renewed::{MOST_RENEWED, Renewed};
 pub use shown::Shown;

@@ -4,7 +4,7 @@ ghost use Rattle.std.specs.Prelude.{◌≡◌, ◌↔◌, IfErr, IfOk, IfSome, I
 ghost use Rattle.std.specs.List.{All};
 ghost use Rattle.certificates.specs.Certificates.{vote_of};
 ghost use Rattle.certificates.specs.Votes.{ballot_of};
-ghost use Rattle.own_votes.specs.Forgotten.{IsFirstForgotten, IsForgottenVote};
+ghost use Rattle.replica_backups.specs.Forgotten.{IsFirstForgotten, IsForgottenVote};
 ghost use Rattle.signer_answers.specs.Guards.{IsForgottenOn, votes_found};
 ghost use Rattle.signer_answers.specs.Lookings.{EntryShows, EntryShowsNone, FrameShows, FrameShowsNone, IsFirstShown, IsLookingRefusal, IsOwnRefusal, OwnVoteShows, OwnVoteShowsNone, ShowNone, ShowsForgotten, ShowsNone};
 ghost use Rattle.signer_answers.specs.Showings.{IsOfEither};
@@ -17,7 +17,7 @@ use crate::shown::Shown;
 use blocks::{Ballot, CommitteeView};
 use certificates::{Certificate, SignedVote};
 use log_format::{Entry, EntryRefusal, Frames};
-use own_votes::{first_forgotten_vote, has_foreign_vote, is_forgotten_vote};
+use replica_backups::{first_forgotten_vote, has_foreign_vote, is_forgotten_vote};
 use stable_log::Disk;
 use std::alloc::Global;
 use std::sync::Wait;

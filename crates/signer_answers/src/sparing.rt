@@ -1,7 +1,7 @@
 //! Which blocks are not voted for, and what is spared for later by the others.
 
 ghost use Rattle.std.specs.Prelude.{◌≡◌, ◌≤◌, IsFalse, IsTrue, MatchOption, Some};
-ghost use Rattle.handover.specs.Handovers.{IsHandover, handover_mark};
+ghost use Rattle.handover_blocks.specs.Handovers.{IsHandover, handover_mark};
 ghost use Rattle.replica_core.specs.Marks.{HasNoMarkedIn, IsFirstMarkedIn};
 ghost use Rattle.signer_answers.specs.Approvals.{IsApproved, IsOtherFirst, IsUnapproved, IsWithheld, MayBegin, MayFollow};
 ghost use Rattle.signer_answers.specs.Sparings.{last_spare, ordinary_spare, reserve_left, reserve_of};
@@ -13,7 +13,7 @@ use crate::approver::Approver;
 use crate::keeper::Keeper;
 use crate::office::Office;
 use blocks::Header;
-use handover::{HANDOVER_MARK, is_handover};
+use handover_blocks::{HANDOVER_MARK, is_handover};
 use stable_log::Disk;
 use std::sync::Wait;
 use vote_desk::{DeskNaming, Left};

@@ -1,7 +1,7 @@
 //! What a caller is told of a request.
 
 use blocks::{Ballot, Id};
-use replica_answers::Outcome;
+use replica_requests::Outcome;
 use vote_desk::Receipt;
 use vote_log::LogError;
 

@@ -5,14 +5,14 @@ use Rattle.std.proofs.lemmas.List.{append_cancel_left, length-append}
 use Rattle.byteorder.specs.Endian.{big_bytes}
 use Rattle.http.specs.declared.request.Request.{Request}
 use Rattle.http.specs.Request.{body_of}
-use Rattle.wire.specs.Pieces.{number_at, piece}
-use Rattle.wire.proofs.Numbers.{behind, front, number_again}
+use Rattle.base_wire.specs.Pieces.{number_at, piece}
+use Rattle.base_wire.proofs.Numbers.{behind, front, number_again}
 use Rattle.certificates.specs.Votes.{vote_text}
 use Rattle.certificates.specs.declared.vote.SignedVote.{SignedVote}
 use Rattle.certificates.specs.declared.vote.TheConstants.{VOTE_LEN}
-use Rattle.replica_answers.specs.Requests.{IsOfBlock}
-use Rattle.replica_answers.specs.declared.request.Request.{Request as Asked}
-use Rattle.replica_answers.specs.declared.request.Request.TheVariants as asks
+use Rattle.replica_requests.specs.Requests.{IsOfBlock}
+use Rattle.replica_requests.specs.declared.request.Request.{Request as Asked}
+use Rattle.replica_requests.specs.declared.request.Request.TheVariants as asks
 use Rattle.signer_calls.specs.Asking.{ARequestHasOneReading, BlocksAsked, EndorseAsked, HasContentType, HasGoodTarget, HasNoOrigin, HasRightMethod, IsAdmitted, IsAskedAs, IsAskedAt, IsAskedOf, IsAskedPlace, IsHeldTo, IsRefusedAt, IsThere, NamesHost, OverAsked, OverFrom, PartAsked, PassesDoor, RenewAsked, SuccessorAsked, TimeoutAsked, VoteAsked, query_in}
 use Rattle.signer_calls.specs.Places.{HasNoArgument, HasNoName, IsIdOf, IsNamedPlace, IsNumberOf, IsPlace, methods_of}
 use Rattle.signer_calls.specs.SpelledVotes.{IsVote, SpellsVote}
@@ -20,8 +20,8 @@ use Rattle.signer_calls.specs.declared.call.Call.{Call}
 use Rattle.signer_calls.specs.declared.call.Call.TheVariants as call
 use Rattle.signer_calls.specs.declared.call.CallRefusal.{CallRefusal}
 use Rattle.signer_calls.specs.declared.call.CallRefusal.TheVariants as refused
-use Rattle.signer_calls.specs.declared.place.Place.{Place}
-use Rattle.signer_calls.specs.declared.place.Place.TheVariants as place
+use Rattle.signer_calls.specs.declared.target.CallTarget.{CallTarget}
+use Rattle.signer_calls.specs.declared.target.CallTarget.TheVariants as place
 use Rattle.signer_calls.specs.declared.query.Query.{Query}
 use Rattle.signer_calls.specs.declared.rules.Rules.{Rules}
 use Rattle.signer_calls.proofs.BlockLists.{one_list}
@@ -33,7 +33,7 @@ use Rattle.signer_calls.proofs.Parameters.{one_query}
 -- ---- a path names one place
 
 -- the place that a name is of
-abbrev named : List ℕ → Place
+abbrev named : List ℕ → CallTarget
 named path =
     if bytes_eq path (codes "/block") then place.Block
     else if bytes_eq path (codes "/blocks") then place.Blocks
@@ -49,10 +49,10 @@ named path =
     else place.Metrics
 
 -- a place without an argument is that of its name, or there is none of that name
-abbrev IsNamed : List ℕ → Place → Type 0
+abbrev IsNamed : List ℕ → CallTarget → Type 0
 IsNamed path p = ((named path ≡ p) × (HasNoName path → ⊥)) ⊎ ((p ≡ place.Nowhere) × HasNoName path)
 
-is_named : (path : List ℕ) (p : Place) → IsNamedPlace path p → IsNamed path p
+is_named : (path : List ℕ) (p : CallTarget) → IsNamedPlace path p → IsNamed path p
 is_named path place.Block is = inl (ap named is, λ none. none.block is)
 is_named path place.Blocks is = inl (ap named is, λ none. none.blocks is)
 is_named path place.Vote is = inl (ap named is, λ none. none.vote is)
@@ -71,7 +71,7 @@ is_named path (place.Timeout view) never = absurd never
 is_named path (place.VoteIn view) never = absurd never
 is_named path (place.Header id) never = absurd never
 
-one_named : (path : List ℕ) (p q : Place) → IsNamed path p → IsNamed path q → p ≡ q
+one_named : (path : List ℕ) (p q : CallTarget) → IsNamed path p → IsNamed path q → p ≡ q
 one_named path p q (inl (is, some)) (inl (is', some')) = sym is ∙ is'
 one_named path p q (inl (is, some)) (inr (is', none')) = absurd (some none')
 one_named path p q (inr (is, none)) (inl (is', some')) = absurd (some' none)
@@ -90,17 +90,17 @@ one_id digits None (Some j) none (is_id, is) = absurd (none j is_id is)
 one_id digits None None none none' = refl
 
 -- how a path names a place: with an argument behind one of three words, or without
-abbrev Names : List ℕ → Place → Type 0
+abbrev Names : List ℕ → CallTarget → Type 0
 Names path p =
     ((view : Option ℕ) × (digits : List ℕ) × (p ≡ place.Timeout view) × (path ≡ codes "/timeout/" ++ digits) × IsNumberOf digits view)
     ⊎ (((view : Option ℕ) × (digits : List ℕ) × (p ≡ place.VoteIn view) × (path ≡ codes "/vote/" ++ digits) × IsNumberOf digits view)
     ⊎ (((id : Option (List ℕ)) × (digits : List ℕ) × (p ≡ place.Header id) × (path ≡ codes "/block/" ++ digits) × IsIdOf digits id)
     ⊎ (HasNoArgument path × IsNamed path p)))
 
-without : (path : List ℕ) (p : Place) → HasNoArgument path × IsNamedPlace path p → Names path p
+without : (path : List ℕ) (p : CallTarget) → HasNoArgument path × IsNamedPlace path p → Names path p
 without path p (none, is) = inr (inr (inr (none, is_named path p is)))
 
-names : (path : List ℕ) (p : Place) → IsPlace path p → Names path p
+names : (path : List ℕ) (p : CallTarget) → IsPlace path p → Names path p
 names path (place.Timeout view) (digits, at, is) = inl (view, digits, refl, at, is)
 names path (place.VoteIn view) (digits, at, is) = inr (inl (view, digits, refl, at, is))
 names path (place.Header id) (digits, at, is) = inr (inr (inl (id, digits, refl, at, is)))
@@ -129,7 +129,7 @@ timeout_or_block path a b at at' = let seconds : 116 ≡ 98 = ap (λ (l : List �
 vote_or_block : (path a b : List ℕ) → path ≡ codes "/vote/" ++ a → path ≡ codes "/block/" ++ b → ⊥
 vote_or_block path a b at at' = let seconds : 118 ≡ 98 = ap (λ (l : List ℕ). get_or l 1 0) (sym at ∙ at') in omega (arith, seconds)
 
-one_of_names : (path : List ℕ) (p q : Place) → Names path p → Names path q → p ≡ q
+one_of_names : (path : List ℕ) (p q : CallTarget) → Names path p → Names path q → p ≡ q
 one_of_names path p q (inl (v, d, is, at, of)) (inl (w, e, is', at', of')) =
     let same = append_cancel_left (codes "/timeout/") d e (sym at ∙ at') in
     is ∙ ap (λ (n : Option ℕ). place.Timeout n) (one_number e v w (subst (λ (t : List ℕ). IsNumberOf t v) same of) of') ∙ sym is'
@@ -153,21 +153,21 @@ one_of_names path p q (inr (inr (inr (none, of)))) (inr (inl (w, e, is', at', of
 one_of_names path p q (inr (inr (inr (none, of)))) (inr (inr (inl (j, e, is', at', of')))) = absurd (none.block e at')
 one_of_names path p q (inr (inr (inr (none, of)))) (inr (inr (inr (none', of')))) = one_named path p q of of'
 
-one_place : (path : List ℕ) (p q : Place) → IsPlace path p → IsPlace path q → p ≡ q
+one_place : (path : List ℕ) (p q : CallTarget) → IsPlace path p → IsPlace path q → p ≡ q
 one_place path p q is is' = one_of_names path p q (names path p is) (names path q is')
 
 -- ---- a request asks one place
 
-one_asked_as : (rules : Rules) (r : Request (List ℕ)) (named p q : Place) → IsAskedAs rules r named p → IsAskedAs rules r named q → p ≡ q
+one_asked_as : (rules : Rules) (r : Request (List ℕ)) (named p q : CallTarget) → IsAskedAs rules r named p → IsAskedAs rules r named q → p ≡ q
 one_asked_as rules r named p q (inl (posts, is)) (inl (posts', is')) = is ∙ sym is'
 one_asked_as rules r named p q (inl (posts, is)) (inr (not, is')) = absurd (not posts)
 one_asked_as rules r named p q (inr (not, is)) (inl (posts, is')) = absurd (not posts)
 one_asked_as rules r named p q (inr (not, is)) (inr (not', is')) = is ∙ sym is'
 
-one_asked_place : (rules : Rules) (r : Request (List ℕ)) (p q : Place) → IsAskedPlace rules r p → IsAskedPlace rules r q → p ≡ q
+one_asked_place : (rules : Rules) (r : Request (List ℕ)) (p q : CallTarget) → IsAskedPlace rules r p → IsAskedPlace rules r q → p ≡ q
 one_asked_place rules r p q (n, is, of) (m, is', of') =
     let same = one_place _ n m is is' in
-    one_asked_as rules r m p q (subst (λ (x : Place). IsAskedAs rules r x p) same of) of'
+    one_asked_as rules r m p q (subst (λ (x : CallTarget). IsAskedAs rules r x p) same of) of'
 
 -- ---- a body spells one block
 
@@ -320,7 +320,7 @@ one_renew body a b (inl (r, f, at, is)) (inr (none, is')) = absurd (none r f at)
 one_renew body a b (inr (none, is)) (inl (r, f, at, is')) = absurd (none r f at)
 one_renew body a b (inr (none, is)) (inr (none', is')) = is ∙ sym is'
 
-one_asked : (r : Request (List ℕ)) (p : Place) (q : Query) (a b : Call) → IsAskedAt r p q a → IsAskedAt r p q b → a ≡ b
+one_asked : (r : Request (List ℕ)) (p : CallTarget) (q : Query) (a b : Call) → IsAskedAt r p q a → IsAskedAt r p q b → a ≡ b
 one_asked r place.Block q a b (x, is, of) (y, is', of') = is ∙ ap (λ (z : Asked). call.Replica z) (one_block (body_of r) x y of of') ∙ sym is'
 one_asked r place.Blocks q a b of of' = one_blocks (body_of r) a b of of'
 one_asked r (place.Timeout (Some view)) q a b of of' = one_timeout view (body_of r) a b of of'
@@ -350,7 +350,7 @@ one_held rules committee chain before a b (inl (well, another, is)) (inr (not, i
 one_held rules committee chain before a b (inr (not, is)) (inl (well, another, is')) = absurd (not well another)
 one_held rules committee chain before a b (inr (not, is)) (inr (not', is')) = is ∙ sym is'
 
-one_asked_of : (rules : Rules) (committee : List ℕ) (r : Request (List ℕ)) (p : Place) (a b : Call) → IsAskedOf rules committee r p a → IsAskedOf rules committee r p b → a ≡ b
+one_asked_of : (rules : Rules) (committee : List ℕ) (r : Request (List ℕ)) (p : CallTarget) (a b : Call) → IsAskedOf rules committee r p a → IsAskedOf rules committee r p b → a ≡ b
 one_asked_of rules committee r p a b (inl (q, x, named, asked, held)) (inl (q', y, named', asked', held')) =
     let same = one_query (query_in r) q q' named named' in
     let calls = one_asked r p q' x y (subst (λ (z : Query). IsAskedAt r p z x) same asked) asked' in
@@ -372,7 +372,7 @@ one_first Holds Behind Behind' of a b last (inl (is, fails)) (inr (holds, behind
 one_first Holds Behind Behind' of a b last (inr (holds, behind)) (inl (is, fails)) = absurd (fails holds)
 one_first Holds Behind Behind' of a b last (inr (holds, behind)) (inr (holds', behind')) = last behind behind'
 
-module _ (rules : Rules) (r : Request (List ℕ)) (p : Place) where
+module _ (rules : Rules) (r : Request (List ℕ)) (p : CallTarget) where
   abbrev AtContentType : CallRefusal → Type 0
   AtContentType x = (x ≡ refused.ContentType) × (HasContentType rules r p → ⊥)
 
@@ -438,11 +438,11 @@ module _ (rules : Rules) (r : Request (List ℕ)) (p : Place) where
 
 -- ---- the whole
 
-abbrev Reads : Rules → List ℕ → Request (List ℕ) → Place → Call → Type 0
+abbrev Reads : Rules → List ℕ → Request (List ℕ) → CallTarget → Call → Type 0
 Reads rules committee r p a =
     (IsAdmitted rules r p × IsAskedOf rules committee r p a) ⊎ ((refusal : CallRefusal) × (a ≡ call.Refused refusal) × IsRefusedAt rules r p refusal)
 
-one_of_place : (rules : Rules) (committee : List ℕ) (r : Request (List ℕ)) (p : Place) (a b : Call) → Reads rules committee r p a → Reads rules committee r p b → a ≡ b
+one_of_place : (rules : Rules) (committee : List ℕ) (r : Request (List ℕ)) (p : CallTarget) (a b : Call) → Reads rules committee r p a → Reads rules committee r p b → a ≡ b
 one_of_place rules committee r p a b (inl (admitted, asked)) (inl (admitted', asked')) = one_asked_of rules committee r p a b asked asked'
 one_of_place rules committee r p a b (inl (admitted, asked)) (inr (x, is, at)) = absurd (not_both rules r p x admitted at)
 one_of_place rules committee r p a b (inr (x, is, at)) (inl (admitted, asked)) = absurd (not_both rules r p x admitted at)
@@ -452,4 +452,4 @@ one_of_place rules committee r p a b (inr (x, is, at)) (inr (y, is', at')) =
 pub one_reading : ARequestHasOneReading
 one_reading rules committee r a b x y =
     let same = one_asked_place rules r x.place y.place x.is y.is in
-    one_of_place rules committee r y.place a b (subst (λ (p : Place). Reads rules committee r p a) same x.reads) y.reads
+    one_of_place rules committee r y.place a b (subst (λ (p : CallTarget). Reads rules committee r p a) same x.reads) y.reads

@@ -3,8 +3,8 @@ use Rattle.std.proofs.Common.{◌≡◌, ◌<◌, ◌≤◌, ◌+◌, ◌-◌, �
 use Rattle.std.proofs.lemmas.List.{length-append, length-drop, length-take-le}
 use Rattle.std.proofs.lemmas.List.Folds.{drop_split}
 use Rattle.byteorder.specs.Endian.{big_bytes}
-use Rattle.wire.specs.Pieces.{AreBytes, number_at}
-use Rattle.wire.proofs.Numbers.{behind, front, number_again, number_below, piece-number_at, taken}
+use Rattle.base_wire.specs.Pieces.{AreBytes, number_at}
+use Rattle.base_wire.proofs.Numbers.{behind, front, number_again, number_below, piece-number_at, taken}
 use Rattle.signer_calls.specs.Pairs.{SpellsNoPair, SpellsPair}
 
 -- the number that a body begins with is the length of the renewal

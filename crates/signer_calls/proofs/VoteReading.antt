@@ -2,8 +2,8 @@
 use Rattle.std.proofs.Common.{◌≡◌, ◌<◌, ℕ, zero, suc, List, [], ◌∷◌, ◌++◌, arith, length, refl, sym}
 use Rattle.std.specs.Prelude.{slice_index}
 use Rattle.byteorder.specs.Endian.{big_bytes}
-use Rattle.wire.specs.Pieces.{AreBytes, number_at, piece}
-use Rattle.wire.proofs.Numbers.{cut_last, piece-number_at, taken}
+use Rattle.base_wire.specs.Pieces.{AreBytes, number_at, piece}
+use Rattle.base_wire.proofs.Numbers.{cut_last, piece-number_at, taken}
 
 -- the one byte at a place
 one_at : (bytes : List ℕ) (at : ℕ) → at < length bytes → piece 1 bytes at ≡ slice_index bytes at ∷ []

@@ -7,10 +7,10 @@ use Rattle.http.specs.declared.request.Request.{Request}
 use Rattle.http.specs.Request.{body_of, head_of}
 use Rattle.http_header.specs.HeaderMap.{ContainsKey}
 use Rattle.http_uri.specs.Uri.{uri_authority, uri_path, uri_query, uri_scheme}
-use Rattle.replica_answers.specs.Requests.{IsOfBlock}
-use Rattle.replica_answers.specs.declared.request.Request.{Request as Asked}
-use Rattle.replica_answers.specs.declared.request.Request.TheVariants as asks
-use Rattle.host_rule.specs.HostRules.{HasGoodHost}
+use Rattle.replica_requests.specs.Requests.{IsOfBlock}
+use Rattle.replica_requests.specs.declared.request.Request.{Request as Asked}
+use Rattle.replica_requests.specs.declared.request.Request.TheVariants as asks
+use Rattle.base_hosts.specs.HostRules.{HasGoodHost}
 use Rattle.signer_calls.specs.BlockLists.{SpellsBlocks, SpellsNoBlocks}
 use Rattle.signer_calls.specs.Doors.{HasBytesType}
 use Rattle.signer_calls.specs.LogParts.{part_of}
@@ -23,28 +23,28 @@ use Rattle.signer_calls.specs.declared.call.Call.{Call}
 use Rattle.signer_calls.specs.declared.call.Call.TheVariants as call
 use Rattle.signer_calls.specs.declared.call.CallRefusal.{CallRefusal}
 use Rattle.signer_calls.specs.declared.call.CallRefusal.TheVariants as refused
-use Rattle.signer_calls.specs.declared.place.Methods.{Methods}
-use Rattle.signer_calls.specs.declared.place.Methods.TheVariants.{Post, Get}
-use Rattle.signer_calls.specs.declared.place.Place.{Place}
-use Rattle.signer_calls.specs.declared.place.Place.TheVariants as place
+use Rattle.signer_calls.specs.declared.target.Methods.{Methods}
+use Rattle.signer_calls.specs.declared.target.Methods.TheVariants.{Post, Get}
+use Rattle.signer_calls.specs.declared.target.CallTarget.{CallTarget}
+use Rattle.signer_calls.specs.declared.target.CallTarget.TheVariants as place
 use Rattle.signer_calls.specs.declared.query.Query.{Query}
 use Rattle.signer_calls.specs.declared.rules.Rules.{Rules}
 
 -- ---- the place
 
 -- what is posted at `/successor` of a signer that goes over is a renewal
-pub record PostsRenewal (rules : Rules) (r : Request (List ℕ)) (named : Place) : Type 0 where
+pub record PostsRenewal (rules : Rules) (r : Request (List ℕ)) (named : CallTarget) : Type 0 where
   pub renews : rules.renews ≡ true
   pub successor : named ≡ place.Successor
   pub method : (head_of r).method ≡ codes "POST"
 
 -- as what the place that the path names is asked
-abbrev pub IsAskedAs : Rules → Request (List ℕ) → (named asked : Place) → Type 0
+abbrev pub IsAskedAs : Rules → Request (List ℕ) → (named asked : CallTarget) → Type 0
 IsAskedAs rules r named asked = (PostsRenewal rules r named × (asked ≡ place.Renewal)) ⊎ ((PostsRenewal rules r named → ⊥) × (asked ≡ named))
 
 -- the place that a request asks
-abbrev pub IsAskedPlace : Rules → Request (List ℕ) → Place → Type 0
-IsAskedPlace rules r asked = (named : Place) × IsPlace (uri_path (head_of r).uri) named × IsAskedAs rules r named asked
+abbrev pub IsAskedPlace : Rules → Request (List ℕ) → CallTarget → Type 0
+IsAskedPlace rules r asked = (named : CallTarget) × IsPlace (uri_path (head_of r).uri) named × IsAskedAs rules r named asked
 
 -- ---- the tests
 
@@ -52,7 +52,7 @@ abbrev pub query_in : Request (List ℕ) → Option (List ℕ)
 query_in r = uri_query (head_of r).uri
 
 -- the target is a path, with a query only where one is named, and then such a one; where it has an id, that is one
-pub record HasGoodTarget (r : Request (List ℕ)) (p : Place) : Type 0 where
+pub record HasGoodTarget (r : Request (List ℕ)) (p : CallTarget) : Type 0 where
   pub scheme : uri_scheme (head_of r).uri ≡ None
   pub authority : uri_authority (head_of r).uri ≡ None
   pub query : HasGoodQuery (queries_of p) (query_in r)
@@ -66,17 +66,17 @@ NamesHost rules r = rules.over_tcp ≡ true → HasGoodHost rules.hosts.items (h
 abbrev pub HasNoOrigin : Rules → Request (List ℕ) → Type 0
 HasNoOrigin rules r = rules.over_tcp ≡ true → ContainsKey (head_of r).headers (codes "origin") → ⊥
 
-pub record PassesDoor (rules : Rules) (r : Request (List ℕ)) (p : Place) : Type 0 where
+pub record PassesDoor (rules : Rules) (r : Request (List ℕ)) (p : CallTarget) : Type 0 where
   pub target : HasGoodTarget r p
   pub host : NamesHost rules r
   pub origin : HasNoOrigin rules r
 
 -- nothing is posted where one can only read
-abbrev pub IsNotPosted : Request (List ℕ) → Place → Type 0
+abbrev pub IsNotPosted : Request (List ℕ) → CallTarget → Type 0
 IsNotPosted r p = (is_posted (methods_of p) ≡ false) × ((head_of r).method ≢ codes "POST")
 
 -- there is such a call here
-pub record IsThere (rules : Rules) (r : Request (List ℕ)) (p : Place) : Type 0 where
+pub record IsThere (rules : Rules) (r : Request (List ℕ)) (p : CallTarget) : Type 0 where
   pub somewhere : is_nowhere p ≡ false
   pub read : rules.reads_only ≡ true → IsNotPosted r p
   pub renews : is_of_renewal p ≡ true → rules.renews ≡ true
@@ -85,22 +85,22 @@ abbrev pub IsOneOf : Methods → List ℕ → Type 0
 IsOneOf Post method = method ≡ codes "POST"
 IsOneOf Get method = (method ≡ codes "GET") ⊎ (method ≡ codes "HEAD")
 
-abbrev pub HasRightMethod : Request (List ℕ) → Place → Type 0
+abbrev pub HasRightMethod : Request (List ℕ) → CallTarget → Type 0
 HasRightMethod r p = IsOneOf (methods_of p) (head_of r).method
 
 -- over TCP what is posted is bytes
-abbrev pub HasContentType : Rules → Request (List ℕ) → Place → Type 0
+abbrev pub HasContentType : Rules → Request (List ℕ) → CallTarget → Type 0
 HasContentType rules r p = rules.over_tcp ≡ true → is_posted (methods_of p) ≡ true → HasBytesType (head_of r).headers
 
 -- the request passes the tests that come before its arguments
-pub record IsAdmitted (rules : Rules) (r : Request (List ℕ)) (p : Place) : Type 0 where
+pub record IsAdmitted (rules : Rules) (r : Request (List ℕ)) (p : CallTarget) : Type 0 where
   pub door : PassesDoor rules r p
   pub there : IsThere rules r p
   pub method : HasRightMethod r p
   pub content_type : HasContentType rules r p
 
 -- it fails this test, and passes those before
-abbrev pub IsRefusedAt : Rules → Request (List ℕ) → Place → CallRefusal → Type 0
+abbrev pub IsRefusedAt : Rules → Request (List ℕ) → CallTarget → CallRefusal → Type 0
 IsRefusedAt rules r p refused.Target = HasGoodTarget r p → ⊥
 IsRefusedAt rules r p refused.Host = HasGoodTarget r p × (NamesHost rules r → ⊥)
 IsRefusedAt rules r p refused.Origin = HasGoodTarget r p × NamesHost rules r × (HasNoOrigin rules r → ⊥)
@@ -164,7 +164,7 @@ RenewAsked body asked =
     ⊎ (SpellsNoPair body × (asked ≡ call.Refused refused.Length))
 
 -- what is asked of a place by a request that is admitted, and whose query names this
-abbrev pub IsAskedAt : Request (List ℕ) → Place → Query → Call → Type 0
+abbrev pub IsAskedAt : Request (List ℕ) → CallTarget → Query → Call → Type 0
 IsAskedAt r place.Block query asked = (block : Asked) × (asked ≡ call.Replica block) × IsOfBlock (body_of r) block
 IsAskedAt r place.Blocks query asked = BlocksAsked (body_of r) asked
 IsAskedAt r (place.Timeout (Some view)) query asked = TimeoutAsked view (body_of r) asked
@@ -207,7 +207,7 @@ IsHeldTo rules committee chain before after =
     ⊎ ((IsOfChain before → IsAnother rules committee chain → ⊥) × (after ≡ before))
 
 -- .. so what a request that is admitted asks of the committee's signer at a place; or a parameter of its query is wrong
-abbrev pub IsAskedOf : Rules → List ℕ → Request (List ℕ) → Place → Call → Type 0
+abbrev pub IsAskedOf : Rules → List ℕ → Request (List ℕ) → CallTarget → Call → Type 0
 IsAskedOf rules committee r p asked =
     ((query : Query) × (before : Call) × IsQuery (query_in r) query × IsAskedAt r p query before × IsHeldTo rules committee query.chain before asked)
     ⊎ (((query : Query) → IsQuery (query_in r) query → ⊥) × (asked ≡ call.Refused refused.Number))
@@ -216,7 +216,7 @@ IsAskedOf rules committee r p asked =
 
 -- the request asks a place, and a signer of the committee for this there, or is refused at the first test that it fails
 pub record AsksFor (rules : Rules) (committee : List ℕ) (r : Request (List ℕ)) (asked : Call) : Type 0 where
-  pub place : Place
+  pub place : CallTarget
   pub is : IsAskedPlace rules r place
   pub reads : (IsAdmitted rules r place × IsAskedOf rules committee r place asked)
       ⊎ ((refusal : CallRefusal) × (asked ≡ call.Refused refusal) × IsRefusedAt rules r place refusal)

@@ -2,7 +2,7 @@
 use Rattle.std.specs.Prelude.{◌≡◌, IsSomeAnd, codes}
 use Rattle.http_header.specs.FieldValue.{FieldValue}
 use Rattle.http_header.specs.HeaderMap.{Entries, get_all}
-use Rattle.host_rule.specs.HostRules.{single_of}
+use Rattle.base_hosts.specs.HostRules.{single_of}
 
 -- there is one `Content-Type`, that of bytes
 abbrev pub HasBytesType : Entries FieldValue → Type 0

@@ -1,12 +1,12 @@
 -- What the path of a call names.
 use Rattle.std.specs.Prelude.{◌≡◌, ◌≢◌, ◌<◌, ◌^◌, ◌++◌, ℕ, Bool, true, false, List, Option, Some, None, codes, decimal, length}
 use Rattle.hex.specs.Hex.{IsBytes, encode_lower}
-use Rattle.signer_calls.specs.declared.place.Place.{Place}
-use Rattle.signer_calls.specs.declared.place.Place.TheVariants.{Block, Blocks, Timeout, Vote, Certificate, Over, Endorse, Renewal, VoteIn, Header, Successor, Log, Status, Live, Health, Metrics, Nowhere}
-use Rattle.signer_calls.specs.declared.place.Methods.{Methods}
-use Rattle.signer_calls.specs.declared.place.Methods.TheVariants.{Post, Get}
-use Rattle.signer_calls.specs.declared.place.Queries.{Queries}
-use Rattle.signer_calls.specs.declared.place.Queries.TheVariants.{Nothing, Chain, Payload, Part}
+use Rattle.signer_calls.specs.declared.target.CallTarget.{CallTarget}
+use Rattle.signer_calls.specs.declared.target.CallTarget.TheVariants.{Block, Blocks, Timeout, Vote, Certificate, Over, Endorse, Renewal, VoteIn, Header, Successor, Log, Status, Live, Health, Metrics, Nowhere}
+use Rattle.signer_calls.specs.declared.target.Methods.{Methods}
+use Rattle.signer_calls.specs.declared.target.Methods.TheVariants.{Post, Get}
+use Rattle.signer_calls.specs.declared.target.Queries.{Queries}
+use Rattle.signer_calls.specs.declared.target.Queries.TheVariants.{Nothing, Chain, Payload, Part}
 
 -- the digits print this number of 64 bits, or none
 abbrev pub IsNumberOf : List ℕ → Option ℕ → Type 0
@@ -38,7 +38,7 @@ pub record HasNoName (path : List ℕ) : Type 0 where
   pub metrics : path ≢ codes "/metrics"
 
 -- a place without an argument
-abbrev pub IsNamedPlace : List ℕ → Place → Type 0
+abbrev pub IsNamedPlace : List ℕ → CallTarget → Type 0
 IsNamedPlace path Block = path ≡ codes "/block"
 IsNamedPlace path Blocks = path ≡ codes "/blocks"
 IsNamedPlace path Vote = path ≡ codes "/vote"
@@ -61,14 +61,14 @@ pub record HasNoArgument (path : List ℕ) : Type 0 where
   pub block : (rest : List ℕ) → path ≢ codes "/block/" ++ rest
 
 -- what a path names, with its argument as it is printed
-abbrev pub IsPlace : List ℕ → Place → Type 0
+abbrev pub IsPlace : List ℕ → CallTarget → Type 0
 IsPlace path (Timeout view) = (digits : List ℕ) × (path ≡ codes "/timeout/" ++ digits) × IsNumberOf digits view
 IsPlace path (VoteIn view) = (digits : List ℕ) × (path ≡ codes "/vote/" ++ digits) × IsNumberOf digits view
 IsPlace path (Header id) = (digits : List ℕ) × (path ≡ codes "/block/" ++ digits) × IsIdOf digits id
 IsPlace path place = HasNoArgument path × IsNamedPlace path place
 
 -- by which methods a place is asked
-abbrev pub methods_of : Place → Methods
+abbrev pub methods_of : CallTarget → Methods
 methods_of Block = Post
 methods_of Blocks = Post
 methods_of (Timeout view) = Post
@@ -84,7 +84,7 @@ is_posted Post = true
 is_posted Get = false
 
 -- what a query may name there: what tells which chain it is of takes none
-abbrev pub queries_of : Place → Queries
+abbrev pub queries_of : CallTarget → Queries
 queries_of Log = Part
 queries_of Successor = Payload
 queries_of Block = Chain
@@ -100,17 +100,17 @@ queries_of (Header id) = Chain
 queries_of _ = Nothing
 
 -- whether it names a block by what is no id
-abbrev pub has_no_id : Place → Bool
+abbrev pub has_no_id : CallTarget → Bool
 has_no_id (Header None) = true
 has_no_id _ = false
 
 -- whether it is there only where the signer goes over from one committee to the next
-abbrev pub is_of_renewal : Place → Bool
+abbrev pub is_of_renewal : CallTarget → Bool
 is_of_renewal Over = true
 is_of_renewal Endorse = true
 is_of_renewal Renewal = true
 is_of_renewal _ = false
 
-abbrev pub is_nowhere : Place → Bool
+abbrev pub is_nowhere : CallTarget → Bool
 is_nowhere Nowhere = true
 is_nowhere _ = false

@@ -3,8 +3,8 @@ use Rattle.std.specs.Prelude.{◌≡◌, ◌⊎◌, ◌<◌, ◌^◌, ◌++◌, 
 use Rattle.std.specs.List.{Contains}
 use Rattle.hex.specs.Hex.{encode_lower}
 use Rattle.signer_calls.specs.Places.{IsId}
-use Rattle.signer_calls.specs.declared.place.Queries.{Queries}
-use Rattle.signer_calls.specs.declared.place.Queries.TheVariants as takes
+use Rattle.signer_calls.specs.declared.target.Queries.{Queries}
+use Rattle.signer_calls.specs.declared.target.Queries.TheVariants as takes
 use Rattle.signer_calls.specs.declared.query.Parameter.{Parameter}
 use Rattle.signer_calls.specs.declared.query.Parameter.TheVariants.{Chain, First, Most, Payload}
 use Rattle.signer_calls.specs.declared.query.Query.{Query}

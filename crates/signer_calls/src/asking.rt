@@ -12,16 +12,16 @@ use crate::door::has_bytes_type;
 use crate::log_part::part_of;
 use crate::over_body::{OverBody, over_body_in};
 use crate::pair::pair_in;
-use crate::place::{Methods, Place, Queries, behind, id_in, is_same, place_of};
 use crate::query::{Query, named_in, names_payload};
 use crate::rules::Rules;
+use crate::target::{CallTarget, Methods, Queries, behind, id_in, is_same, place_of};
 use crate::vote_reading::vote_in;
+use base_hosts::has_good_host;
 use blocks::{CommitteeView, Id};
 use bytes::Bytes;
 use certificates::{Certificate, CertificateRefusal};
-use host_rule::has_good_host;
 use http::Request;
-use replica_answers::{Request as Asked, block_in};
+use replica_requests::{Request as Asked, block_in};
 use std::alloc::{AllocError, Global};
 
 /// What a request asks of this committee's signer, or the first thing that is wrong with it: `AllocError` where memory was refused.
@@ -42,21 +42,21 @@ pub fn call_of(
 }
 
 // The place that a request asks.
-fn asked_place(rules: &Rules, request: &Request<Bytes>) -> Place
+fn asked_place(rules: &Rules, request: &Request<Bytes>) -> CallTarget
     ensures { IsAskedPlace rules.now request.now result }
 {
     let named = place_of(request.uri().path().as_bytes());
     if posts_renewal(rules, request, named) {
-        return Place::Renewal;
+        return CallTarget::Renewal;
     }
     named
 }
 
-fn posts_renewal(rules: &Rules, request: &Request<Bytes>, named: Place) -> bool
+fn posts_renewal(rules: &Rules, request: &Request<Bytes>, named: CallTarget) -> bool
     ensures { IsTrue result ↔ PostsRenewal rules.now request.now named }
 {
     match named {
-        Place::Successor => rules.renews && has_method(request, b"POST"),
+        CallTarget::Successor => rules.renews && has_method(request, b"POST"),
         _ => false,
     }
 }
@@ -65,7 +65,7 @@ fn posts_renewal(rules: &Rules, request: &Request<Bytes>, named: Place) -> bool
 fn refused_at(
     rules: &Rules,
     request: &Request<Bytes>,
-    place: Place,
+    place: CallTarget,
 ) -> Result<Option<CallRefusal>, AllocError>
     ensures { IfOk result (λ refused. MatchOption refused (IsAdmitted rules.now request.now place)
         (IsRefusedAt rules.now request.now place)) }
@@ -82,7 +82,11 @@ fn refused_at(
     Ok(refused_behind_door(rules, request, place))
 }
 
-fn refused_behind_door(rules: &Rules, request: &Request<Bytes>, place: Place) -> Option<CallRefusal>
+fn refused_behind_door(
+    rules: &Rules,
+    request: &Request<Bytes>,
+    place: CallTarget,
+) -> Option<CallRefusal>
     requires { PassesDoor rules.now request.now place }
     ensures { MatchOption result (IsAdmitted rules.now request.now place)
         (IsRefusedAt rules.now request.now place) }
@@ -105,7 +109,7 @@ fn asked_of(
     rules: &Rules,
     committee: &CommitteeView,
     request: &Request<Bytes>,
-    place: Place,
+    place: CallTarget,
 ) -> Result<Call, AllocError>
     requires { IsAdmitted rules.now request.now place }
     ensures { IfOk result (IsAskedOf rules.now committee.now request.now place) }
@@ -122,7 +126,7 @@ fn asked_at(
     alloc: Global,
     rules: &Rules,
     request: &Request<Bytes>,
-    place: Place,
+    place: CallTarget,
     query: &Query,
 ) -> Result<Call, AllocError>
     requires { IsAdmitted rules.now request.now place }
@@ -130,23 +134,25 @@ fn asked_at(
 {
     let body = request.body().as_slice();
     match place {
-        Place::Block => Ok(Call::Replica(block_in(alloc, body)?)),
-        Place::Blocks => blocks_asked(alloc, request.body()),
-        Place::Timeout(Some(view)) if body.is_empty() => Ok(Call::Replica(Asked::Timeout(view))),
-        Place::Timeout(Some(_)) => Ok(Call::Refused(CallRefusal::Length)),
-        Place::Vote => Ok(vote_asked(body)),
-        Place::Certificate => certificate_asked(alloc, body),
-        Place::Over => over_asked(&query.chain, request.body()),
-        Place::Endorse => Ok(endorse_asked(body)),
-        Place::Renewal => renew_asked(request.body()),
-        Place::VoteIn(Some(view)) => Ok(Call::VoteIn(view)),
-        Place::Header(Some(id)) => Ok(Call::Header(id)),
-        Place::Successor => Ok(successor_asked(query)),
-        Place::Log => Ok(part_asked(query)),
-        Place::Status => Ok(Call::Status),
-        Place::Live => Ok(Call::Live),
-        Place::Health => Ok(Call::Health),
-        Place::Metrics => Ok(Call::Metrics),
+        CallTarget::Block => Ok(Call::Replica(block_in(alloc, body)?)),
+        CallTarget::Blocks => blocks_asked(alloc, request.body()),
+        CallTarget::Timeout(Some(view)) if body.is_empty() => Ok(Call::Replica(Asked::Timeout(
+            view,
+        ))),
+        CallTarget::Timeout(Some(_)) => Ok(Call::Refused(CallRefusal::Length)),
+        CallTarget::Vote => Ok(vote_asked(body)),
+        CallTarget::Certificate => certificate_asked(alloc, body),
+        CallTarget::Over => over_asked(&query.chain, request.body()),
+        CallTarget::Endorse => Ok(endorse_asked(body)),
+        CallTarget::Renewal => renew_asked(request.body()),
+        CallTarget::VoteIn(Some(view)) => Ok(Call::VoteIn(view)),
+        CallTarget::Header(Some(id)) => Ok(Call::Header(id)),
+        CallTarget::Successor => Ok(successor_asked(query)),
+        CallTarget::Log => Ok(part_asked(query)),
+        CallTarget::Status => Ok(Call::Status),
+        CallTarget::Live => Ok(Call::Live),
+        CallTarget::Health => Ok(Call::Health),
+        CallTarget::Metrics => Ok(Call::Metrics),
         _ => Ok(Call::Refused(CallRefusal::Number)),
     }
 }
@@ -269,7 +275,7 @@ fn is_another(rules: &Rules, committee: &CommitteeView, chain: &Option<Id>) -> b
 
 // ---- the tests
 
-fn has_good_target(request: &Request<Bytes>, place: Place) -> bool
+fn has_good_target(request: &Request<Bytes>, place: CallTarget) -> bool
     ensures { IsTrue result ↔ HasGoodTarget request.now place }
 {
     let uri = request.uri();
@@ -283,7 +289,7 @@ fn has_good_target(request: &Request<Bytes>, place: Place) -> bool
 }
 
 // Whether a query is one that is named for the place.
-fn has_good_query(place: Place, query: Option<&str>) -> bool
+fn has_good_query(place: CallTarget, query: Option<&str>) -> bool
     ensures { IsTrue result ↔ HasGoodQuery (queries_of place) (option_copied query.entry) }
 {
     match place.queries() {
@@ -327,7 +333,7 @@ fn has_no_origin(rules: &Rules, request: &Request<Bytes>) -> bool
     !rules.over_tcp || !request.headers().contains_key("origin")
 }
 
-fn is_there(rules: &Rules, request: &Request<Bytes>, place: Place) -> bool
+fn is_there(rules: &Rules, request: &Request<Bytes>, place: CallTarget) -> bool
     ensures { IsTrue result ↔ IsThere rules.now request.now place }
 {
     if place.is_nowhere() {
@@ -339,7 +345,7 @@ fn is_there(rules: &Rules, request: &Request<Bytes>, place: Place) -> bool
     !rules.reads_only || !(place.is_posted() || has_method(request, b"POST"))
 }
 
-fn has_right_method(request: &Request<Bytes>, place: Place) -> bool
+fn has_right_method(request: &Request<Bytes>, place: CallTarget) -> bool
     ensures { IsTrue result ↔ HasRightMethod request.now place }
 {
     match place.methods() {
@@ -354,7 +360,7 @@ fn has_method(request: &Request<Bytes>, method: &[u8]) -> bool
     is_same(request.method().as_str().as_bytes(), method)
 }
 
-fn has_content_type(rules: &Rules, request: &Request<Bytes>, place: Place) -> bool
+fn has_content_type(rules: &Rules, request: &Request<Bytes>, place: CallTarget) -> bool
     ensures { IsTrue result ↔ HasContentType rules.now request.now place }
 {
     !rules.over_tcp || !place.is_posted() || has_bytes_type(request.headers())

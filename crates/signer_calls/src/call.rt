@@ -5,12 +5,12 @@ ghost use Rattle.signer_calls.specs.CallRefusals.{call_refusal_name, call_refusa
 
 use crate::block_list::BlockList;
 use crate::log_part::LogPart;
-use crate::place::Methods;
+use crate::target::Methods;
 use blocks::Id;
 use bytes::Bytes;
 use certificates::{Certificate, CertificateRefusal, SignedVote};
 use http::StatusCode;
-use replica_answers::Request;
+use replica_requests::Request;
 
 /// What a call to go over names: the chain that is left, the file of the committee that follows, its renewal, and what shows that the
 /// handover to it is committed, if not the blocks that this signer was handed.

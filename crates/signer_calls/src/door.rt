@@ -3,8 +3,8 @@
 ghost use Rattle.std.specs.Prelude.{◌↔◌, IsTrue};
 ghost use Rattle.signer_calls.specs.Doors.{HasBytesType};
 
-use crate::place::is_same;
-use host_rule::single;
+use crate::target::is_same;
+use base_hosts::single;
 use http::HeaderMap;
 
 /// Whether there is one `Content-Type`, that of bytes.

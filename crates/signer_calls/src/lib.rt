@@ -9,9 +9,9 @@ mod laws;
 mod log_part;
 mod over_body;
 mod pair;
-mod place;
 mod query;
 mod rules;
+mod target;
 mod vote_reading;
 
 pub use asking::call_of;
@@ -19,5 +19,5 @@ pub use block_list::{BlockList, MOST_BLOCKS_AT_ONCE};
 pub use call::{Call, CallRefusal, Over, Renewing};
 pub use laws::{a_committees_file_is_read_as_one, a_request_has_one_reading};
 pub use log_part::{LogPart, MOST_ENTRIES_AT_ONCE};
-pub use place::{Methods, Place, id_in};
 pub use rules::Rules;
+pub use target::{CallTarget, Methods, id_in};

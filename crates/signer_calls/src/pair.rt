@@ -4,9 +4,9 @@ ghost use Rattle.std.specs.Prelude.{◌≡◌, ◌≤◌, IfOk, MatchOption, dro
 ghost use Rattle.signer_calls.specs.Pairs.{SpellsNoPair, SpellsPair};
 
 use crate::call::Renewing;
+use base_wire::u32_at;
 use bytes::Bytes;
 use std::alloc::AllocError;
-use wire::u32_at;
 
 /// Where the renewal of a body begins: the four bytes before it are its length.
 const RENEWAL_AT: usize = 4;

@@ -4,9 +4,9 @@ ghost use Rattle.std.specs.Prelude.{◌≡◌, ◌↔◌, ◌++◌, ◌∷◌, �
 ghost use Rattle.std.specs.List.{Contains};
 ghost use Rattle.signer_calls.specs.Queries.{AreThreeMore, AreTwoMore, HasGoodQuery, IsOfPayload, IsOneMore, IsParameter, IsQuery, no_query, with_parameter};
 
-use crate::place::{Queries, behind, id_in};
+use crate::target::{Queries, behind, id_in};
+use base_text::number_in;
 use blocks::Id;
-use printed_lines::number_in;
 
 /// What a query names.
 #[derive(Clone, Copy)]

@@ -4,8 +4,8 @@ ghost use Rattle.std.specs.Prelude.{◌≡◌, ◌≢◌, MatchOption, length};
 ghost use Rattle.certificates.specs.declared.vote.TheConstants.{VOTE_LEN as LENGTH_OF_A_VOTE};
 ghost use Rattle.signer_calls.specs.SpelledVotes.{SpellsVote};
 
+use base_wire::{array_at, u16_at, u64_at};
 use certificates::{SignedVote, VOTE_LEN};
-use wire::{array_at, u16_at, u64_at};
 
 // The vote that the bytes spell: each 1,495 bytes spell one.
 pub(crate) fn vote_in(bytes: &[u8]) -> Option<SignedVote>

@@ -1,8 +1,8 @@
 -- What was printed where a signer gives up.
 use Rattle.std.proofs.Common.{◌≡◌, ℕ, List, [], ◌++◌, Option, Some, None, refl, sym, ap, subst, ◌∙◌, length, arith}
-use Rattle.streams.specs.Streams.{Wrote, WrotePart}
-use Rattle.streams.proofs.Writing.{wrote_both, wrote_nothing, wrote_part}
-use Rattle.printed_lines.proofs.Pieces.{part_of_front, part_behind}
+use Rattle.base_streams.specs.Streams.{Wrote, WrotePart}
+use Rattle.base_streams.proofs.Writing.{wrote_both, wrote_nothing, wrote_part}
+use Rattle.base_text.proofs.Pieces.{part_of_front, part_behind}
 use Rattle.std.proofs.lemmas.List.{take_all}
 use Rattle.program_parts.specs.declared.program_fault.ProgramFault.TheVariants as program
 use Rattle.program_parts.specs.Writes.{CountsOutput}

@@ -1,7 +1,7 @@
 -- From a stay at the desk to a run of the signer.
 use Rattle.std.proofs.Common.{◌≡◌, ℕ, List, Option, Result, Ok, Err, OnOk, OnErr, IfOk, IfErr, refl, length}
 use Rattle.stable_log.specs.declared.disk.Disk.{Ghosts}
-use Rattle.streams.specs.Streams.{Wrote, WrotePart}
+use Rattle.base_streams.specs.Streams.{Wrote, WrotePart}
 use Rattle.vote_desk.specs.declared.parts.Closed.{Closed}
 use Rattle.program_parts.specs.declared.program_fault.ProgramFault.TheVariants as program
 use Rattle.signer_command.specs.Ends.{Fault, IsGivenUp, IsRun, IsStay, ended_of}

@@ -1,7 +1,7 @@
 -- Which committee a signer votes to hand over to, and which first block it votes for in a chain that was handed over to.
 use Rattle.std.specs.Prelude.{◌≡◌, ◌++◌, ℕ, List, Option, Some, None, codes, option_map, take}
 use Rattle.std.specs.Borrow.{Bor}
-use Rattle.successor_files.specs.Successors.{IsSuccessorPayload}
+use Rattle.handover_steps.specs.Successors.{IsSuccessorPayload}
 
 -- none without a path; else the payload of a file that is a committee's, and has no key of this one or of an earlier one but for kept
 -- slots, or none

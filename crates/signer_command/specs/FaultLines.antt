@@ -2,9 +2,9 @@
 use Rattle.std.specs.Prelude.{ℕ, List, ◌++◌, codes, decimal}
 use Rattle.std.specs.Borrow.{Bor}
 use Rattle.hex.specs.Hex.{encode_lower}
-use Rattle.lineage_folder.specs.declared.fault.LineageFault.{LineageFault}
-use Rattle.lineage_folder.specs.declared.fault.LineageFault.TheVariants as lineage
-use Rattle.printed_lines.specs.Printed.{file_line, printed}
+use Rattle.handover_folder.specs.declared.fault.LineageFault.{LineageFault}
+use Rattle.handover_folder.specs.declared.fault.LineageFault.TheVariants as lineage
+use Rattle.base_text.specs.Printed.{file_line, printed}
 use Rattle.program_parts.specs.declared.program_fault.ProgramFault.{ProgramFault}
 use Rattle.program_parts.specs.declared.program_fault.ProgramFault.TheVariants as program
 use Rattle.replica_command.specs.Folders.{name_in_folder}
@@ -14,6 +14,7 @@ use Rattle.replica_command.specs.declared.fault.ReplicaFault.{ReplicaFault}
 use Rattle.replica_command.specs.declared.fault.ReplicaFault.TheVariants as replica
 use Rattle.signer_command.specs.declared.fault.SignerFault.{SignerFault}
 use Rattle.signer_command.specs.declared.fault.SignerFault.TheVariants.{FileIn, Store, Receipts, DiskFailed, Socket, Listen, Threads, Lineage, Endless, Word}
+use Rattle.program_parts.specs.FaultLines.{wrong_word_line}
 
 -- a file behind its folder
 abbrev pub name_behind : ReplicaFile → List ℕ
@@ -36,10 +37,6 @@ store_fault_line number = codes "fault store " ++ decimal number ++ codes "\n"
 abbrev pub lineage_line : List ℕ → List ℕ
 lineage_line chain = codes "fault lineage " ++ encode_lower chain ++ codes "\n"
 
--- "fault usage WORD"
-abbrev pub word_line : List ℕ → List ℕ
-word_line word = codes "fault usage " ++ (printed word ++ codes "\n")
-
 -- of those that this program alone has
 abbrev pub own_line : SignerFault → List ℕ
 own_line (FileIn folder it) = file_in_folder_line folder.now it
@@ -51,7 +48,7 @@ own_line Listen = codes "fault listen\n"
 own_line Threads = codes "fault threads\n"
 own_line (Lineage chain) = lineage_line chain
 own_line Endless = codes "fault lineage\n"
-own_line (Word word) = word_line word.now
+own_line (Word word) = wrong_word_line word.now
 
 -- of a folder of chains
 abbrev pub fault_of_lineage : Bor (List ℕ) → LineageFault → ProgramFault SignerFault

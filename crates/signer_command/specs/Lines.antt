@@ -1,7 +1,7 @@
 -- What a signer prints.
 use Rattle.std.specs.Prelude.{◌≡◌, ℕ, List, [], ◌++◌, Option, Some, None, codes, decimal}
-use Rattle.streams.specs.Counting.{one_more}
-use Rattle.streams.specs.Streams.{Wrote, WrotePart}
+use Rattle.base_streams.specs.Counting.{one_more}
+use Rattle.base_streams.specs.Streams.{Wrote, WrotePart}
 use Rattle.signer_command.specs.declared.announcing.Announced.{Announced}
 use Rattle.signer_command.specs.declared.announcing.Announced.TheVariants.{NotBegun, Unsaid, Over}
 

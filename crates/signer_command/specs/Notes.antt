@@ -1,8 +1,8 @@
 -- What is told of a call that was answered.
 use Rattle.std.specs.Prelude.{◌≡◌, ◌↔◌, ◌≤◌, ◌-◌, Bool, true, false, ℕ, List, ◌++◌, Some, codes, decimal, length}
 use Rattle.std.specs.List.{slice_get}
-use Rattle.printed_lines.specs.Printed.{printed}
-use Rattle.signing_service.specs.declared.witness.Seen.{Seen}
+use Rattle.base_text.specs.Printed.{printed}
+use Rattle.signer_service.specs.declared.witness.Seen.{Seen}
 
 -- the body is whole, of at most 80 bytes, and ends in a line feed
 pub record IsShortLine (seen : Seen) : Type 0 where

@@ -1,7 +1,7 @@
 -- Endorsements under one-time keys that an index store did not reserve.
 use Rattle.std.specs.Prelude.{ℕ, ◌+◌, ◌*◌, ◌≤◌, List}
-use Rattle.wire.specs.Pieces.{number_at}
-use Rattle.next_keys.specs.Endorsements.{IsGoodEndorsement, signature_in, signing_key_in}
+use Rattle.base_wire.specs.Pieces.{number_at}
+use Rattle.handover_keys.specs.Endorsements.{IsGoodEndorsement, signature_in, signing_key_in}
 use Rattle.key_index_store.specs.declared.store.TheConstants.{INDICES}
 
 -- the index of an endorsement: that of its one-time key, behind those of the keys before; a signature begins with it

@@ -1,7 +1,7 @@
 -- What answers a request for a piece of a step.
 use Rattle.std.specs.Prelude.{◌≡◌, ◌≢◌, ℕ, List, false}
-use Rattle.chain_request.specs.StepRequests.{IsStepRequest, step_request_text}
-use Rattle.chain_request.specs.declared.step.StepRequest.{StepRequest}
+use Rattle.log_request.specs.StepRequests.{IsStepRequest, step_request_text}
+use Rattle.log_request.specs.declared.step.StepRequest.{StepRequest}
 use Rattle.log_handout.specs.declared.reply.Reply.TheVariants.{NoLog}
 use Rattle.stable_log.specs.declared.file_disk.FileDisk.{FileDisk}
 use Rattle.signer_command.specs.declared.handing_out.Answering.{Answering}

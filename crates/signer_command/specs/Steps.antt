@@ -1,11 +1,11 @@
 -- A piece of the step by which a chain was left, as it is handed out. docs/FORMATS.md, 'Request for a piece of a step'.
 use Rattle.std.specs.Prelude.{◌≡◌, ◌<◌, ◌≤◌, ◌+◌, ◌++◌, ℕ, List, Option, Some, None, codes, drop, length, min, take}
 use Rattle.byteorder.specs.Endian.{big_bytes}
-use Rattle.chain_request.specs.StepRequests.{IsStepRequest, step_request_text}
-use Rattle.chain_request.specs.declared.step.StepPiece.{StepPiece}
-use Rattle.chain_request.specs.declared.step.StepPiece.TheVariants.{File, Renewal, LightProof}
-use Rattle.chain_request.specs.declared.step.StepRequest.{StepRequest}
-use Rattle.lineage_folder.specs.Names.{chain_folder}
+use Rattle.log_request.specs.StepRequests.{IsStepRequest, step_request_text}
+use Rattle.log_request.specs.declared.step.StepPiece.{StepPiece}
+use Rattle.log_request.specs.declared.step.StepPiece.TheVariants.{File, Renewal, LightProof}
+use Rattle.log_request.specs.declared.step.StepRequest.{StepRequest}
+use Rattle.handover_folder.specs.Names.{chain_folder}
 
 -- the name of the file of a piece
 abbrev pub piece_name : StepPiece → List ℕ

@@ -1,18 +1,18 @@
 //! What a signer says while its threads work, and when it ends.
 
 ghost use Rattle.std.specs.Prelude.{◌≡◌, ◌++◌, IfOk, Option, OnErr, OnOk, codes, option_map, string_bytes};
-ghost use Rattle.streams.specs.Counting.{Counts};
-ghost use Rattle.streams.specs.Streams.{Wrote, WrotePart};
+ghost use Rattle.base_streams.specs.Counting.{Counts};
+ghost use Rattle.base_streams.specs.Streams.{Wrote, WrotePart};
 ghost use Rattle.signer_command.specs.Lines.{IsAnnounced, listening_line, listening_line_if, listening_text};
 ghost use Rattle.signer_command.specs.Sockets.{places_of};
 
-use crate::listening::Place;
+use crate::listening::ListeningSocket;
 use crate::pool::Start;
 use crate::stay::Sockets;
+use base_streams::{Feed, Sink, write_all};
 use std::alloc::{AllocError, Global};
 use std::sync::Wait;
 use std::time::Clock;
-use streams::{Feed, Sink, write_all};
 
 /// What came of announcing a signer.
 #[derive(Clone, Copy, Debug, PartialEq, Eq)]
@@ -88,7 +88,7 @@ pub(crate) fn text_of(alloc: Global, sockets: &Sockets) -> Result<Vec<u8>, Alloc
     Ok(text)
 }
 
-fn put_line(text: &mut Vec<u8>, name: &[u8], place: &Place) -> Result<(), AllocError>
+fn put_line(text: &mut Vec<u8>, name: &[u8], place: &ListeningSocket) -> Result<(), AllocError>
     ensures { OnOk result (text.new.items
         ≡ text.old.items ++ listening_line name.now (string_bytes place.now.name)) }
 {
@@ -100,7 +100,11 @@ fn put_line(text: &mut Vec<u8>, name: &[u8], place: &Place) -> Result<(), AllocE
 }
 
 // The line of another place, if there is one.
-fn put_line_if(text: &mut Vec<u8>, name: &[u8], place: &Option<Place>) -> Result<(), AllocError>
+fn put_line_if(
+    text: &mut Vec<u8>,
+    name: &[u8],
+    place: &Option<ListeningSocket>,
+) -> Result<(), AllocError>
     ensures { OnOk result (text.new.items ≡ text.old.items ++ listening_line_if name.now
         (option_map (λ p. string_bytes p.name) place.now)) }
 {

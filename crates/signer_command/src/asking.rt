@@ -3,14 +3,16 @@
 use crate::dialing::{Addresses, Dialer};
 use crate::heard::{Telling, Word};
 use crate::pace::tick;
-use crate::pool::Shop;
-use asked_logs::is_of_other_chain;
-use chain_dialing::{ChainDialer, ChainServer, Heard};
+use crate::pool::PoolShared;
+use base_streams::Sink;
+use base_wire::MOST_ENTRIES;
 use log_format::{Frames, Status};
+use log_reading::{Answer, End, FrameDigest, MOST_FRAMES_ASKED, ask, digest_of};
+use log_request::{ChainDialer, ChainServer, Heard};
 use log_transfer::{MOST_OF_A_STREAM, ServerConnector};
 use program_parts::{Origin, SourceWord};
-use signing_service::{Approver, Keeper, Witness, look_through};
-use source_reading::{Answer, End, FrameDigest, MOST_FRAMES_ASKED, ask, digest_of};
+use signer_answers::is_of_other_chain;
+use signer_service::{Approver, Keeper, Witness, look_through};
 use stable_log::Disk;
 use std::alloc::{AllocError, Global};
 use std::fs::{File, Files};
@@ -20,10 +22,8 @@ use std::sync::Wait;
 use std::thread;
 use std::thread::Threads;
 use std::time::{Clock, Duration};
-use streams::Sink;
 use vote_desk::DeskNaming;
 use vote_log::LogError;
-use wire::MOST_ENTRIES;
 
 /// How long a source is left alone, in ticks of a quarter of a second: a second while blocks wait for it, else a minute.
 const SHORT_PAUSE: u32 = 4;
@@ -96,7 +96,7 @@ impl<
     D: Disk,
     K: Approver + Keeper,
     W: Witness,
-> Shop<'_, '_, N, T, S, D, K, W> {
+> PoolShared<'_, '_, N, T, S, D, K, W> {
     /// Reads a source again and again until the signer ends, or its log is found to be put back.
     pub(crate) fn ask_on(&self, number: usize) {
         let Some(source) = self.room.words.sources.get(number) else {

@@ -2,8 +2,8 @@
 
 ghost use Rattle.std.specs.Prelude.{false};
 
+use base_sockets::{PatientStream, dial};
 use log_transfer::{CONNECT_SECONDS, Dial};
-use patient_sockets::{PatientStream, dial};
 use std::io;
 use std::net::{Net, SocketAddr, TcpStream, ToSocketAddrs};
 use std::sync::atomic::AtomicBool;

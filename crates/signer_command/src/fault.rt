@@ -3,19 +3,19 @@
 ghost use Rattle.std.specs.Prelude.{◌≡◌, ◌≢◌, ◌↔◌, ◌≤◌, ◌+◌, ◌++◌, length};
 ghost use Rattle.arrayvec.specs.ArrayVec.{array_vec_len};
 ghost use Rattle.std.specs.Prelude.{OnErr, OnOk};
-ghost use Rattle.streams.specs.Counting.{Counts};
-ghost use Rattle.streams.specs.Streams.{Wrote, WrotePart};
-ghost use Rattle.signer_command.specs.FaultLines.{disk_line, fault_in_folder, file_in_folder_line, fault_of_lineage, lineage_line, name_behind, own_line, store_fault_line, word_line};
+ghost use Rattle.base_streams.specs.Counting.{Counts};
+ghost use Rattle.base_streams.specs.Streams.{Wrote, WrotePart};
+ghost use Rattle.signer_command.specs.FaultLines.{disk_line, fault_in_folder, file_in_folder_line, fault_of_lineage, lineage_line, name_behind, own_line, store_fault_line};
 ghost use Rattle.signer_command.specs.declared.fault.TheConstants.{LINEAGE_LINE};
 
 use arrayvec::ArrayVec;
+use base_streams::{Sink, write_all};
+use base_text::{Line, id_digits, write_file_fault, write_printed};
 use blocks::Id;
+use handover_folder::LineageFault;
 use itoa::Buffer;
-use lineage_folder::LineageFault;
-use printed_lines::{Line, id_digits, write_file_fault, write_printed};
-use program_parts::{FaultLine, ProgramFault};
+use program_parts::{FaultLine, ProgramFault, write_wrong_word};
 use replica_command::{ReplicaFault, ReplicaFile};
-use streams::{Sink, write_all};
 
 /// How many bytes the line of a fault of a chain's folder has room for.
 const LINEAGE_LINE: usize = 80;
@@ -52,7 +52,7 @@ pub enum SignerFault<'a> {
 impl FaultLine for SignerFault<'_> {
     ghost line = { own_line };
 
-    fn write_line<W: Sink>(&self, out: &mut W) -> Result<(), streams::Fault> {
+    fn write_line<W: Sink>(&self, out: &mut W) -> Result<(), base_streams::Fault> {
         match self {
             SignerFault::FileIn(folder, file) => write_file_in_folder(out, folder, *file),
             SignerFault::Store(number) => write_all(out, store_fault(*number).as_bytes()),
@@ -63,7 +63,7 @@ impl FaultLine for SignerFault<'_> {
             SignerFault::Threads => write_all(out, b"fault threads\n"),
             SignerFault::Lineage(chain) => write_all(out, &lineage_fault(chain)),
             SignerFault::Endless => write_all(out, b"fault lineage\n"),
-            SignerFault::Word(word) => write_word(out, word),
+            SignerFault::Word(word) => write_wrong_word(out, word),
         }
     }
 }
@@ -73,7 +73,7 @@ fn write_file_in_folder<W: Sink>(
     out: &mut W,
     folder: &str,
     file: ReplicaFile,
-) -> Result<(), streams::Fault>
+) -> Result<(), base_streams::Fault>
     ensures ok { OnOk result (Wrote (W.text out.old) (W.text out.new)
         (file_in_folder_line folder.now file)) }
     ensures err { OnErr result (WrotePart (W.text out.old) (W.text out.new)
@@ -87,7 +87,11 @@ fn write_file_in_folder<W: Sink>(
 }
 
 // "fault disk PATH", with what stands behind the path and the line feed.
-fn write_disk_fault<W: Sink>(out: &mut W, path: &str, behind: &[u8]) -> Result<(), streams::Fault>
+fn write_disk_fault<W: Sink>(
+    out: &mut W,
+    path: &str,
+    behind: &[u8],
+) -> Result<(), base_streams::Fault>
     ensures ok { OnOk result (Wrote (W.text out.old) (W.text out.new)
         (disk_line path.now behind.now)) }
     ensures err { OnErr result (WrotePart (W.text out.old) (W.text out.new)
@@ -97,17 +101,6 @@ fn write_disk_fault<W: Sink>(out: &mut W, path: &str, behind: &[u8]) -> Result<(
     write_all(out, b"fault disk ")?;
     write_printed(out, path.as_bytes())?;
     write_all(out, behind)
-}
-
-// "fault usage WORD"
-fn write_word<W: Sink>(out: &mut W, word: &str) -> Result<(), streams::Fault>
-    ensures ok { OnOk result (Wrote (W.text out.old) (W.text out.new) (word_line word.now)) }
-    ensures err { OnErr result (WrotePart (W.text out.old) (W.text out.new) (word_line word.now)) }
-    ensures counted { Counts (W.failed out.old) (W.failed out.new) result }
-{
-    write_all(out, b"fault usage ")?;
-    write_printed(out, word.as_bytes())?;
-    write_all(out, b"\n")
 }
 
 // A file's name behind its folder's path.

@@ -1,13 +1,13 @@
 //! Whether a signer that goes over could go over to the committee of a file.
 
-use asked_logs::can_be_enough;
+use base_wire::KeyNumber;
 use blocks::CommitteeView;
-use key_files::KeyFile;
-use lineage_folder::{KeySet, LineageFolder, has_keys_of};
+use handover_folder::{KeySet, LineageFolder, has_keys_of};
 use lms_tree::PUBLIC_KEY_LEN;
 use program_parts::{SourceWord, read_at_most};
+use replica_files::KeyFile;
+use signer_answers::can_be_enough;
 use std::fs::{File, Files};
-use wire::KeyNumber;
 
 /// Why it could not.
 #[derive(Clone, Copy, Debug, PartialEq, Eq)]

@@ -1,18 +1,18 @@
 //! A log that is handed out to all who ask, while votes go on.
 
 ghost use Rattle.std.specs.Prelude.{◌≡◌, ◌↔◌, IfSome, IsFalse, IsTrue, length};
-ghost use Rattle.chain_request.specs.Gathering.{request_len};
-ghost use Rattle.chain_request.specs.StepRequests.{begins_step};
+ghost use Rattle.log_request.specs.Gathering.{request_len};
+ghost use Rattle.log_request.specs.StepRequests.{begins_step};
 ghost use Rattle.signer_command.specs.StepAnswers.{IsStepAnswer, IsStepOf};
 
 use crate::past::PastLog;
 use crate::step_file::StepFile;
+use base_sockets::{Bounds, Next, Rules, Talk};
 use blocks::Id;
-use chain_request::{Asked, ChainRequest, RequestBytes, StepBytes, StepRequest, asked_in};
-use lineage_folder::LineageFolder;
+use handover_folder::LineageFolder;
 use log_format::FrameRequest;
 use log_handout::Reply;
-use patient_sockets::{Bounds, Next, Rules, Talk};
+use log_request::{Asked, ChainRequest, RequestBytes, StepBytes, StepRequest, asked_in};
 use stable_log::{Disk, FileDisk};
 use std::alloc::Global;
 use std::fs::{File, Files};

@@ -1,9 +1,9 @@
 //! What was heard of the sources.
 
-use asked_logs::greatest_certified;
 use blocks::CommitteeView;
 use log_format::{Frames, Status};
-use signing_service::Heard;
+use signer_answers::greatest_certified;
+use signer_service::Heard;
 use std::alloc::{AllocError, Global};
 use std::sync::{Mutex, Wait};
 use std::time::{Clock, Instant};

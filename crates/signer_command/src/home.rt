@@ -11,20 +11,19 @@ use crate::marks::put_down;
 use crate::over::{fault_of_words, first_payload, payload_of, ready_for};
 use crate::pool::Start;
 use crate::successor::Successor;
+use base_streams::Sink;
 use blocks::{CommitteeView, Header, Id};
 use certificates::Certificate;
-use light_proofs::LightProof;
-use lineage_folder::{LineageFolder, Standing, has_keys_of};
-use put_back_file::{PUT_BACK, put_back_text};
+use handover_folder::{GoneOver, LineageFolder, Standing, has_keys_of};
+use handover_light::LightProof;
+use replica_files::{PUT_BACK, put_back_text};
 use sha2::{Digest, Sha256};
-use signing_service::{Approver, Keeper, NextFault, OverFault, Progress};
+use signer_service::{Approver, Keeper, NextFault, OverFault, Progress};
 use std::fs::{File, Files};
 use std::io;
 use std::sync::atomic::{AtomicBool, Ordering};
 use std::sync::{Mutex, Wait};
 use std::thread::Threads;
-use streams::Sink;
-use told_words::GoneOver;
 
 /// The file of the committee that may come next, the replica's folder, and what is ready there for the next chain.
 #[derive(Drop)]
@@ -108,8 +107,8 @@ impl<T: Wait + Files<File = File>, S: Sink> Home<'_, T, S> {
 
 impl<T: Threads + Wait + Files<File = File>, S: Sink> Approver for Home<'_, T, S> {
     ghost use Rattle.signer_command.specs.Approved.{IsApprovable, first_payload};
-    ghost use Rattle.next_keys.specs.Endorsements.{IsGoodEndorsement};
-    ghost use Rattle.successor_files.specs.Successors.{files_of};
+    ghost use Rattle.handover_keys.specs.Endorsements.{IsGoodEndorsement};
+    ghost use Rattle.handover_steps.specs.Successors.{files_of};
 
     ghost tells = { λ h. record {
       approves = IsApprovable (files_of h.successor.earlier.now) h.successor.committee.now h.successor.path;

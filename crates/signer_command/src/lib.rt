@@ -35,4 +35,4 @@ mod words;
 mod wrong_words;
 
 pub use fault::{Fault, SignerFault};
-pub use program::{DONE, Host, REFUSED, run_signer};
+pub use program::{DONE, REFUSED, SignerHost, run_signer};

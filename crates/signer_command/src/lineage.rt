@@ -8,19 +8,19 @@ use crate::fault::{Fault, SignerFault, in_folder, of_lineage};
 use crate::fitness::Means;
 use crate::notes::{Leftover, Notes};
 use crate::outrunning::{boundary_of, endorsement_outruns};
-use crate::program::{Host, disk_fault};
+use crate::program::{SignerHost, disk_fault};
 use crate::words::Words;
+use base_streams::Sink;
 use blocks::{CommitteeView, Id};
-use key_files::KeyFile;
+use handover_folder::{KeySet, LineageFault, LineageFolder, Standing};
 use key_index_store::{IndexError, IndexStore};
-use lineage_folder::{KeySet, LineageFault, LineageFolder, Standing};
 use replica_command::{ReplicaFault, ReplicaFile, ReplicaFolder};
+use replica_files::KeyFile;
 use stable_log::FileDisk;
 use std::alloc::Global;
 use std::fs::{File, Files};
 use std::sync::Wait;
 use std::thread::Threads;
-use streams::Sink;
 use vote_desk::Parts;
 use vote_log::VoteLog;
 
@@ -67,7 +67,7 @@ pub(crate) fn folder_of<'a, T: Files<File = File>>(
 
 /// What a signer stands on whose folder began with the committee of this file, of which the folder's lock is held.
 pub(crate) fn stand_in<'a, T: Files<File = File> + Threads + Wait + Sync, S: Sink>(
-    host: &Host<'_, T>,
+    host: &SignerHost<'_, T>,
     words: &Words<'a>,
     notes: &Notes<'_, T, S>,
     first: Vec<u8>,
@@ -89,7 +89,7 @@ pub(crate) fn stand_in<'a, T: Files<File = File> + Threads + Wait + Sync, S: Sin
 /// Removes what no chain needs any more where a signer stands that goes over: seeds, and, if the words say so, logs; nothing while the
 /// lineage is still to be compared. A later removal makes up for one that fails or is cut short.
 pub(crate) fn clear_behind<T: Files<File = File> + Wait, S: Sink>(
-    host: &Host<'_, T>,
+    host: &SignerHost<'_, T>,
     words: &Words<'_>,
     notes: &Notes<'_, T, S>,
     at: &Standing,
@@ -124,7 +124,7 @@ fn clear<T: Files<File = File> + Wait, S: Sink>(
 
 // Which chain it stands in. Where words could not be read since a disk failed that is written down, as under a desk.
 fn standing<'a, T: Files<File = File> + Wait, S: Sink>(
-    host: &Host<'_, T>,
+    host: &SignerHost<'_, T>,
     words: &Words<'a>,
     notes: &Notes<'_, T, S>,
     first: Vec<u8>,
@@ -160,7 +160,7 @@ fn standing<'a, T: Files<File = File> + Wait, S: Sink>(
 
 // The keys, their indices and the log of the chain where it stands, and the lock of the keys' folder.
 fn opened_at<'a, T: Files<File = File> + Threads + Wait + Sync, S: Sink>(
-    host: &Host<'_, T>,
+    host: &SignerHost<'_, T>,
     words: &Words<'a>,
     notes: &Notes<'_, T, S>,
     at: &Standing,
@@ -184,7 +184,7 @@ fn opened_at<'a, T: Files<File = File> + Threads + Wait + Sync, S: Sink>(
 }
 
 fn try_open<T: Files<File = File> + Threads + Wait + Sync>(
-    host: &Host<'_, T>,
+    host: &SignerHost<'_, T>,
     words: &Words<'_>,
     committee: &CommitteeView<'_>,
     at: &Standing,

@@ -1,8 +1,7 @@
 //! A caller's stream, which is given up where the caller takes too long or the signer ends.
 
 use crate::pace::Pace;
-use patient_calls::CallsRead;
-use patient_sockets::{Hold, read_held, write_held};
+use base_sockets::{CallsRead, Hold, read_held, write_held};
 use std::cell::Cell;
 use std::io;
 use std::io::{ErrorKind, Read, Write};
@@ -63,12 +62,12 @@ impl<C: Clock> Hold for UntilTaken<'_, '_, C> {
 
 /// What a caller sends.
 #[derive(Drop)]
-pub(crate) struct Asking<'a, C: Clock> {
+pub(crate) struct CallerBytes<'a, C: Clock> {
     pub link: &'a Link<'a, C>,
     pub calls: CallsRead,
 }
 
-impl<C: Clock> Asking<'_, C> {
+impl<C: Clock> CallerBytes<'_, C> {
     // Notes what came.
     fn follow(&mut self, bytes: &[u8]) -> io::Result<()> {
         let has_ended = self.calls.follow(bytes)?;
@@ -79,7 +78,7 @@ impl<C: Clock> Asking<'_, C> {
     }
 }
 
-impl<C: Clock> Read for Asking<'_, C> {
+impl<C: Clock> Read for CallerBytes<'_, C> {
     fn read(&mut self, buffer: &mut [u8]) -> io::Result<usize> {
         if self.link.is_refused.get() {
             return Ok(0);

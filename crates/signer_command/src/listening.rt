@@ -3,7 +3,7 @@
 ghost use Rattle.std.specs.Prelude.{◌≡◌, IfOk, true};
 ghost use Rattle.signer_command.specs.Ruled.{is_heard_over_tcp};
 
-use patient_sockets::{bind, bind_at_home, set_ticks};
+use base_sockets::{bind, bind_at_home, set_ticks};
 use std::alloc::Global;
 use std::fs::File;
 use std::io;
@@ -71,7 +71,7 @@ impl Listener {
 
 /// A socket that takes connections, and where it is, as it is printed.
 #[derive(Drop)]
-pub(crate) struct Place {
+pub(crate) struct ListeningSocket {
     pub listener: Listener,
     pub name: String,
 }
@@ -83,7 +83,7 @@ pub(crate) fn listen<R: Net<Listener = TcpListener, Stream = TcpStream>>(
     alloc: Global,
     words: &str,
     address: &str,
-) -> io::Result<Place> {
+) -> io::Result<ListeningSocket> {
     place_of(alloc, words, bind(rt, address)?)
 }
 
@@ -93,7 +93,7 @@ pub(crate) fn listen_at_home<R: Net<Listener = TcpListener, Stream = TcpStream>>
     alloc: Global,
     words: &str,
     address: &str,
-) -> io::Result<Place>
+) -> io::Result<ListeningSocket>
     ensures { IfOk result (λ place. is_heard_over_tcp place.listener ≡ true) }
 {
     let listener = bind_at_home(rt, address)?;
@@ -101,12 +101,12 @@ pub(crate) fn listen_at_home<R: Net<Listener = TcpListener, Stream = TcpStream>>
     place_of(alloc, words, listener)
 }
 
-fn place_of(alloc: Global, words: &str, listener: TcpListener) -> io::Result<Place>
+fn place_of(alloc: Global, words: &str, listener: TcpListener) -> io::Result<ListeningSocket>
     ensures { IfOk result (λ place. is_heard_over_tcp place.listener ≡ true) }
 {
     let got = listener.local_addr()?;
     let name = format!(in alloc; "{words}{got}")?;
-    Ok(Place {
+    Ok(ListeningSocket {
         listener: Listener::Tcp(listener),
         name,
     })

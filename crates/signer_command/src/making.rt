@@ -1,8 +1,8 @@
 //! The replica's next keys, which one thread of a stay makes beside the votes.
 
 ghost use Rattle.std.specs.Prelude.{◌≡◌, ◌≤◌, IfOk, IfSome};
-ghost use Rattle.wire.specs.declared.limits.TheConstants.{MOST_KEYS};
-ghost use Rattle.next_keys.specs.Endorsements.{IsGoodEndorsement};
+ghost use Rattle.base_wire.specs.declared.limits.TheConstants.{MOST_KEYS};
+ghost use Rattle.handover_keys.specs.Endorsements.{IsGoodEndorsement};
 
 use crate::next::{Keys, Made};
 use crate::notes::Notes;
@@ -10,14 +10,15 @@ use crate::pace::tick;
 use crate::pool::Start;
 use crate::seeds::{public_keys_at, seeds_at};
 use crate::stay::Room;
+use base_streams::Sink;
+use base_wire::MOST_KEYS;
 use blocks::{CommitteeView, Id};
-use key_files::SystemSeeds;
-use key_sets::{Behind, Growth, Host, SetFault, grow_all, make_gently};
-use lineage_folder::{KeySet, LineageFault, LineageFolder};
+use handover_folder::{GoneOver, KeySet, LineageFault, LineageFolder, WordError, WordStore};
+use handover_keys::{bound_id, check_endorsement, write_next_keys};
 use lms_tree::{PublicKey, SigningTree};
-use next_keys::{bound_id, check_endorsement, write_next_keys};
-use safe_files::is_nothing_at;
-use signing_service::{NextFault, NextKeys};
+use program_parts::is_nothing_at;
+use replica_files::{Behind, Growth, KeyHost, SetFault, SystemSeeds, grow_all, make_gently};
+use signer_service::{NextFault, NextKeys};
 use stable_log::FileDisk;
 use std::alloc::{AllocError, Global};
 use std::fs::{File, Files};
@@ -26,9 +27,6 @@ use std::sync::{Mutex, Wait};
 use std::thread;
 use std::thread::Threads;
 use std::time::{Clock, Duration};
-use streams::Sink;
-use told_words::{GoneOver, WordError, WordStore};
-use wire::MOST_KEYS;
 
 /// How long the thread pauses behind each four one-time keys, of which a key has 1,024: a few times as long as it computes.
 const PAUSE_MILLISECONDS: u64 = 10;
@@ -340,7 +338,7 @@ impl<T: Threads + Wait + Clock + RandomSource + Files<File = File>, S: Sink> Mak
 
     // Draws and computes them, and makes their files. Others may have done so meanwhile: then theirs are the ones.
     fn make_anew(&self, place: &str) -> Result<(), AllocError> {
-        let host = Host {
+        let host = KeyHost {
             files: self.rt,
             rt: self.rt,
             alloc: self.alloc,

@@ -1,7 +1,7 @@
 //! Files that say to a later start what happened: it finds them, and is refused.
 
-use put_back_file::DISK_FAILED;
-use safe_files::{is_nothing_at, sync_folder_of};
+use program_parts::{is_nothing_at, sync_folder_of};
+use replica_files::DISK_FAILED;
 use std::alloc::Global;
 use std::fs::{File, Files, OpenOptions};
 use std::io;

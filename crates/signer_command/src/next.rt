@@ -3,9 +3,9 @@
 ghost use Rattle.std.specs.Prelude.{◌≡◌};
 
 use blocks::CommitteeView;
+use handover_keys::{EndorsementView, NextKeysView};
 use lms_tree::SigningTree;
-use next_keys::{EndorsementView, NextKeysView};
-use signing_service::{NextFault, NextKeys};
+use signer_service::{NextFault, NextKeys};
 use std::alloc::Global;
 
 /// What is known of them.

@@ -1,20 +1,20 @@
 //! What is told on standard error while calls are answered.
 
 ghost use Rattle.std.specs.Prelude.{◌≡◌, ◌↔◌, ◌++◌, IfOk, IsTrue, codes};
-ghost use Rattle.printed_lines.specs.Printed.{printed};
+ghost use Rattle.base_text.specs.Printed.{printed};
 ghost use Rattle.signer_command.specs.Notes.{IsCallLine, IsShortLine, asking_line, unwritten_line};
 
 use crate::heard::Word;
 use crate::marks::{DiskFailedPlaces, MarkAt};
+use base_streams::{MemorySink, Sink, write_all};
+use base_text::write_printed;
 use blocks::Ballot;
 use itoa::Buffer;
-use printed_lines::write_printed;
-use signing_service::{Event, Seen, Witness, put_back_line};
+use signer_service::{Event, Seen, Witness, put_back_line};
 use std::alloc::{AllocError, Global};
 use std::fs::{File, Files};
 use std::sync::atomic::{AtomicBool, Ordering};
 use std::sync::{Mutex, Wait};
-use streams::{MemorySink, Sink, write_all};
 
 /// How long a body may be that is told itself.
 const LONGEST_BODY: usize = 80;

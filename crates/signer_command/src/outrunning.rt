@@ -4,13 +4,13 @@
 ghost use Rattle.std.specs.Prelude.{◌≡◌, ◌↔◌, ◌≤◌, ◌+◌, ◌*◌, IsTrue, false, length, min};
 ghost use Rattle.key_index_store.specs.declared.store.TheConstants.{INDICES};
 ghost use Rattle.signer_command.specs.Outrunning.{EndorsementOutruns};
-ghost use Rattle.wire.specs.Pieces.{number_at};
+ghost use Rattle.base_wire.specs.Pieces.{number_at};
 
+use base_wire::u32_at;
 use blocks::CommitteeView;
+use handover_keys::check_endorsement;
 use key_index_store::{INDICES, IndexStore};
-use next_keys::check_endorsement;
 use stable_log::Disk;
-use wire::u32_at;
 
 /// The boundary of an index store that is not stopped: it gave no index from this one on, of those that its keys have.
 pub(crate) fn boundary_of<D: Disk>(index: &IndexStore<D>) -> u32

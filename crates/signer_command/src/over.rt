@@ -1,29 +1,29 @@
 //! What is made ready before a signer says that it goes over.
 
 ghost use Rattle.std.specs.Prelude.{◌≡◌, ◌++◌, option_map, take};
-ghost use Rattle.handover.specs.Handovers.{handover_mark};
+ghost use Rattle.handover_blocks.specs.Handovers.{handover_mark};
 ghost use Rattle.signer_command.specs.Approved.{first_payload, first_text};
 
 use crate::home::Home;
 use crate::lineage::{Goods, Next};
+use base_streams::Sink;
+use base_wire::put;
 use blocks::{CommitteeView, Id};
-use handover::HANDOVER_MARK;
-use key_files::KeyFile;
-use lineage_folder::{KeySet, LineageFault, has_keys_of};
+use handover_blocks::HANDOVER_MARK;
+use handover_folder::{KeySet, LineageFault, has_keys_of};
+use handover_renewals::{Renewal, RenewalFormRefusal, renews};
 use lmots::PrivateSeed;
 use lms_tree::SigningTree;
-use renewals::{Renewal, RenewalFormRefusal, renews};
+use program_parts::is_nothing_at;
 use replica_command::{ReplicaFault, ReplicaFile, ReplicaFolder, Stores};
-use safe_files::is_nothing_at;
-use signing_service::OverFault;
+use replica_files::KeyFile;
+use signer_service::OverFault;
 use std::alloc::Global;
 use std::fs::{File, Files};
 use std::sync::Wait;
 use std::thread;
 use std::thread::{JoinHandle, Threads};
-use streams::Sink;
 use vote_desk::Parts;
-use wire::put;
 
 /// With what the payload begins of the first block of a chain that was handed over to.
 const FIRST_MARK: &[u8; 4] = b"HSO1";

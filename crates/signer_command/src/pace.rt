@@ -1,6 +1,6 @@
 //! How long a caller may take.
 
-pub(crate) use patient_sockets::tick;
+pub(crate) use base_sockets::tick;
 use std::io;
 use std::time::{Clock, Duration, Instant};
 

@@ -1,13 +1,13 @@
 //! The log of a chain that the signer went over from, as it is handed out.
 
-use chain_request::ChainRequest;
-use lineage_folder::{LOG, LineageFolder};
+use base_streams::MemorySink;
+use base_wire::LONGEST_PAYLOAD;
+use handover_folder::{LOG, LineageFolder};
 use log_export::{begin_export, end_export, send_frame};
+use log_request::ChainRequest;
 use stable_log::{FileDisk, Journal};
 use std::alloc::{AllocError, Global};
 use std::fs::{File, Files};
-use streams::MemorySink;
-use wire::LONGEST_PAYLOAD;
 
 /// What comes next of it.
 #[derive(Clone, Copy, PartialEq, Eq)]

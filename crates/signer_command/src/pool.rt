@@ -4,22 +4,25 @@ ghost use Rattle.std.specs.Prelude.{◌≡◌, true};
 
 use crate::handing_out::{LogTalk, Past};
 use crate::heard::Hearing;
-use crate::link::{Answering, Asking, Link};
-use crate::listening::{Listener, Place};
+use crate::link::{Answering, CallerBytes, Link};
+use crate::listening::{Listener, ListeningSocket};
 use crate::making::Maker;
 use crate::pace::{Pace, tick};
 use crate::reading::{LONGEST_POST, MOST_OF_A_CALL, Reader, SHORT, config};
 use crate::stay::{Room, THREADS_BESIDE};
 use crate::{handing_out, reading};
+use base_sockets::{
+    CallTalk, CallsRead, Rules as CrowdRules, ShortFirst, Talk, connections_at, most_open_files,
+    talk_to_all,
+};
+use base_streams::Sink;
 use blocks::CommitteeView;
-use good_votes::SideBySide;
+use handover_folder::LineageFolder;
 use http_server::Connection;
-use lineage_folder::LineageFolder;
-use patient_calls::{CallTalk, CallsRead, ShortFirst};
-use patient_sockets::{Rules as CrowdRules, Talk, connections_at, most_open_files, talk_to_all};
-use signing_service::{
+use signer_service::{
     Approver, Gate, Keeper, Office, Reception, Signer, Sources, Witness, serve_calls,
 };
+use signer_votes::SideBySide;
 use stable_log::Disk;
 use std::alloc::{AllocError, Global};
 use std::cell::Cell;
@@ -32,7 +35,6 @@ use std::sync::atomic::{AtomicBool, AtomicU32, Ordering};
 use std::thread::Threads;
 use std::time::{Clock, Duration};
 use std::{io, thread};
-use streams::Sink;
 use vote_desk::{DeskNaming, Session};
 
 /// How long the threads of a pool are waited for to start, in looks a hundredth of a second apart.
@@ -57,7 +59,7 @@ pub(crate) enum Job<N: DeskNaming> {
 
 /// What the threads share.
 #[derive(Drop)]
-pub(crate) struct Shop<
+pub(crate) struct PoolShared<
     'a,
     'h,
     N: DeskNaming,
@@ -167,7 +169,7 @@ pub(crate) fn work_all<
     K: Approver + Keeper + Send + Sync,
     W: Witness + Sync,
 >(
-    shop: &Shop<'_, '_, N, T, S, D, K, W>,
+    shop: &PoolShared<'_, '_, N, T, S, D, K, W>,
     jobs: Option<Vec<Job<N>>>,
 ) -> Result<Vec<Option<Session<N>>>, AllocError>
 where
@@ -195,7 +197,7 @@ impl<
     D: Disk,
     K: Approver + Keeper,
     W: Witness,
-> Shop<'_, '_, N, T, S, D, K, W> {
+> PoolShared<'_, '_, N, T, S, D, K, W> {
     // Takes connections until the signer ends.
     fn work(&self, job: Job<N>) -> Option<Session<N>> {
         let _before = self.start.begun.fetch_add(1, Ordering::SeqCst);
@@ -242,9 +244,9 @@ impl<
     D: Disk,
     K: Approver + Keeper,
     W: Witness,
-> Shop<'_, '_, N, T, S, D, K, W> {
+> PoolShared<'_, '_, N, T, S, D, K, W> {
     // Hands out the log to many at once.
-    fn hand_out(&self, place: &Place) {
+    fn hand_out(&self, place: &ListeningSocket) {
         let rules = handing_out::rules(self.connections());
         let mut talk = LogTalk {
             rt: self.rt,
@@ -274,7 +276,7 @@ impl<
     }
 
     // Talks over the connections of a place until the signer ends.
-    fn talk_at<L: Talk>(&self, place: &Place, rules: &CrowdRules, talk: &mut L) {
+    fn talk_at<L: Talk>(&self, place: &ListeningSocket, rules: &CrowdRules, talk: &mut L) {
         if let Listener::Tcp(listener) = &place.listener {
             talk_to_all(
                 self.rt,
@@ -317,7 +319,7 @@ impl<
             is_refused: Cell::new(false),
             ending: &self.start.ending,
         };
-        let mut asking = Asking {
+        let mut asking = CallerBytes {
             link: &link,
             calls: CallsRead::new(self.alloc),
         };
@@ -344,7 +346,7 @@ fn take_calls<
     D: Disk,
     K: Approver + Keeper,
     W: Witness,
->(shop: &'x Shop<'x, '_, N, T, S, D, K, W>, session: Session<N>) -> Session<N> {
+>(shop: &'x PoolShared<'x, '_, N, T, S, D, K, W>, session: Session<N>) -> Session<N> {
     let mut signer = Signer::new(
         shop.rt,
         shop.alloc,
@@ -387,7 +389,11 @@ fn take_reads<
     D: Disk,
     K: Approver + Keeper,
     W: Witness,
->(shop: &'x Shop<'x, '_, N, T, S, D, K, W>, place: &Place, session: Session<N>) -> Session<N> {
+>(
+    shop: &'x PoolShared<'x, '_, N, T, S, D, K, W>,
+    place: &ListeningSocket,
+    session: Session<N>,
+) -> Session<N> {
     let rules = reading::rules(shop.connections());
     let mut talk = ShortFirst {
         calls: CallTalk {

@@ -1,8 +1,8 @@
 //! A signer from its words to its end.
 
 ghost use Rattle.std.specs.Prelude.{◌≡◌, ◌≢◌, ◌≤◌, ◌⊎◌, ◌++◌, ◌∷◌, [], IfErr, IfOk, OnErr, OnOk, codes, false, length, string_bytes, true};
-ghost use Rattle.streams.specs.Streams.{Wrote, WrotePart};
-ghost use Rattle.printed_lines.specs.Printed.{Told};
+ghost use Rattle.base_streams.specs.Streams.{Wrote, WrotePart};
+ghost use Rattle.base_text.specs.Printed.{Told};
 ghost use Rattle.program_parts.specs.FaultLines.{fault_line};
 ghost use Rattle.program_parts.specs.Writes.{CountsOutput, CountsWrites};
 ghost use Rattle.signer_command.specs.Ends.{Fault as FaultValue, IsBacked, IsEndBehind, IsGivenUp, IsLate, IsRun, IsStay, disk_fault, ended_of, fault_status, status_of};
@@ -16,7 +16,7 @@ ghost use Rattle.signer_command.specs.declared.program.Ended.TheVariants.{Done, 
 use crate::announcing::{Announced, Crew, announce, text_of};
 use crate::fault::{Fault, SignerFault, in_folder};
 use crate::lineage::{Stand, stand_in};
-use crate::listening::{Place, listen, listen_at_home};
+use crate::listening::{ListeningSocket, listen, listen_at_home};
 use crate::marks::{DiskFailedPlaces, MarkAt};
 use crate::notes::Notes;
 use crate::pool::Start;
@@ -24,13 +24,14 @@ use crate::socket_file::{Callers, SocketFault, is_too_long, listen_at};
 use crate::stay::{Sockets, THREADS_BESIDE, threads_of};
 use crate::staying::{Halls, stay_on};
 use crate::words::{Where, Words, read_words};
-use asked_logs::can_be_enough;
+use base_streams::{Feed, Sink};
+use base_text::Line;
 use blocks::CommitteeView;
 use itoa::Buffer;
-use printed_lines::Line;
 use program_parts::{FAULT, ProgramFault, parse_committee, read_committee, write_out};
 use replica_command::{ReplicaFile, ReplicaFolder};
-use signing_service::Rules;
+use signer_answers::can_be_enough;
+use signer_service::Rules;
 use stable_log::{Disk, FileDisk};
 use std::alloc::{AllocError, Global};
 use std::fs::{File, Files};
@@ -42,7 +43,6 @@ use std::sync::Wait;
 use std::thread::Threads;
 use std::time::{Clock, Duration};
 use std::{fs, io, thread};
-use streams::{Feed, Sink};
 use vote_desk::Closed;
 
 /// The input ended, and no disk had failed.
@@ -60,7 +60,7 @@ const PATIENCE_MILLISECONDS: u64 = 100;
 
 /// What a signer works with.
 #[derive(Drop)]
-pub struct Host<'a, T> {
+pub struct SignerHost<'a, T> {
     /// Files, threads, locks, a clock, sockets and random bytes.
     pub rt: &'a T,
     /// Memory.
@@ -112,7 +112,14 @@ pub fn run_signer<
     W: Sink,
     E: Sink,
     S: Sink + Send,
->(host: &Host<'_, T>, words: &[String], input: &mut R, out: &mut W, faults: &mut E, notes: S) -> u8
+>(
+    host: &SignerHost<'_, T>,
+    words: &[String],
+    input: &mut R,
+    out: &mut W,
+    faults: &mut E,
+    notes: S,
+) -> u8
 where
     T::Dir: Send,
     ensures status { (result ≡ 0) ⊎ (result ≡ 2) ⊎ (result ≡ 4) }
@@ -163,7 +170,7 @@ fn run<
     W: Sink,
     S: Sink + Send,
 >(
-    host: &Host<'_, T>,
+    host: &SignerHost<'_, T>,
     words: &'a [String],
     input: &mut R,
     out: &mut W,
@@ -229,7 +236,7 @@ fn see_sources<'a>(
 
 // What the words ask for, and the bytes of the committee's file.
 fn asked<'a, T: Files<File = File>>(
-    host: &Host<'_, T>,
+    host: &SignerHost<'_, T>,
     words: &'a [String],
 ) -> Result<(Words<'a>, Vec<u8>), Fault<'a>>
     ensures { IfErr result (λ fault. fault ≢ ProgramFault.Output) }
@@ -282,7 +289,7 @@ fn stand_by<
     W: Sink,
     S: Sink + Send,
 >(
-    host: &Host<'_, T>,
+    host: &SignerHost<'_, T>,
     words: &Words<'a>,
     committee: Vec<u8>,
     notes: &Notes<'_, T, S>,
@@ -428,7 +435,7 @@ fn opened<
         + Sync,
     S: Sink,
 >(
-    host: &Host<'_, T>,
+    host: &SignerHost<'_, T>,
     words: &Words<'a>,
     committee: Vec<u8>,
     notes: &Notes<'_, T, S>,
@@ -470,7 +477,7 @@ fn socket_named<'a>(words: &Words<'a>) -> Option<&'a str> {
 
 // Whether nothing beside the socket says that a disk failed. What stands in the folder is seen with its lock.
 fn see_no_failure_beside<'a, T: Files<File = File>>(
-    host: &Host<'_, T>,
+    host: &SignerHost<'_, T>,
     words: &Words<'a>,
 ) -> Result<(), Fault<'a>>
     ensures { IfErr result (λ fault. fault ≢ ProgramFault.Output) }
@@ -538,7 +545,7 @@ pub(crate) fn sessions_of(words: &Words<'_>) -> u8
 fn sockets_of<
     'a,
     T: Files<File = File> + Net<Listener = TcpListener, Stream = TcpStream> + RandomSource,
->(host: &Host<'_, T>, words: &Words<'a>) -> Result<Sockets, Fault<'a>>
+>(host: &SignerHost<'_, T>, words: &Words<'a>) -> Result<Sockets, Fault<'a>>
     ensures ruled { IfOk result (AreRuled words.now) }
     ensures refused { IfErr result (λ fault. fault ≢ ProgramFault.Output) }
 {
@@ -602,9 +609,9 @@ fn add(names: &mut Vec<String>, name: &String) -> Result<(), AllocError>
 }
 
 fn calls_at<'a, T: Files<File = File> + Net<Listener = TcpListener, Stream = TcpStream>>(
-    host: &Host<'_, T>,
+    host: &SignerHost<'_, T>,
     words: &Words<'a>,
-) -> Result<Place, Fault<'a>>
+) -> Result<ListeningSocket, Fault<'a>>
     ensures kind { IfOk result (λ place.
         is_heard_over_tcp place.listener ≡ is_asked_over_tcp words.now.listen) }
     ensures refused { IfErr result (λ fault. fault ≢ ProgramFault.Output) }
@@ -625,10 +632,10 @@ fn calls_at<'a, T: Files<File = File> + Net<Listener = TcpListener, Stream = Tcp
 
 // A Unix socket at a path, which the words name or which lies in the folder.
 fn socket_at<'a, T: Files<File = File> + Net<Listener = TcpListener, Stream = TcpStream>>(
-    host: &Host<'_, T>,
+    host: &SignerHost<'_, T>,
     words: &Words<'a>,
     path: String,
-) -> Result<Place, Fault<'a>>
+) -> Result<ListeningSocket, Fault<'a>>
     ensures name { IfOk result (λ place. string_bytes place.name
         ≡ codes "unix:" ++ string_bytes path) }
     ensures kind { IfOk result (λ place. is_heard_over_tcp place.listener ≡ false) }
@@ -641,7 +648,7 @@ fn socket_at<'a, T: Files<File = File> + Net<Listener = TcpListener, Stream = Tc
     };
     let name = format!(in host.alloc; "unix:{path}")?;
     match listen_at(host.rt, host.alloc, &path, callers) {
-        Ok(listener) => Ok(Place { listener, name }),
+        Ok(listener) => Ok(ListeningSocket { listener, name }),
         Err(SocketFault::TooLong) => Err(Fault::Own(SignerFault::Listen)),
         Err(SocketFault::Memory) => Err(Fault::Memory),
         Err(SocketFault::Taken) => Err(taken(words)),
@@ -659,9 +666,9 @@ fn taken<'a>(words: &Words<'a>) -> Fault<'a>
 }
 
 fn place_if<'a, T: Net<Listener = TcpListener, Stream = TcpStream>>(
-    host: &Host<'_, T>,
+    host: &SignerHost<'_, T>,
     address: Option<&'a str>,
-) -> Result<Option<Place>, Fault<'a>>
+) -> Result<Option<ListeningSocket>, Fault<'a>>
     ensures { IfErr result (λ fault. fault ≢ ProgramFault.Output) }
 {
     match address {
@@ -672,9 +679,9 @@ fn place_if<'a, T: Net<Listener = TcpListener, Stream = TcpStream>>(
 
 // Listens where only this machine reaches.
 fn heard_at_home<'a, T: Net<Listener = TcpListener, Stream = TcpStream>>(
-    host: &Host<'_, T>,
+    host: &SignerHost<'_, T>,
     address: &'a str,
-) -> Result<Place, Fault<'a>>
+) -> Result<ListeningSocket, Fault<'a>>
     ensures kind { IfOk result (λ place. is_heard_over_tcp place.listener ≡ true) }
     ensures refused { IfErr result (λ fault. fault ≢ ProgramFault.Output) }
 {
@@ -684,7 +691,7 @@ fn heard_at_home<'a, T: Net<Listener = TcpListener, Stream = TcpStream>>(
     }
 }
 
-fn heard<'a>(place: io::Result<Place>) -> Result<Place, Fault<'a>>
+fn heard<'a>(place: io::Result<ListeningSocket>) -> Result<ListeningSocket, Fault<'a>>
     ensures { IfErr result (λ fault. fault ≢ ProgramFault.Output) }
 {
     match place {

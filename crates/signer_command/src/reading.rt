@@ -2,13 +2,12 @@
 
 ghost use Rattle.std.specs.Prelude.{◌≡◌, true};
 
-use good_votes::Checker;
+use base_sockets::{Answerer, Bounds, Rules};
 use http_server::{Config, Connection};
 use http1::Limits;
-use patient_calls::Answerer;
-use patient_sockets::{Bounds, Rules};
 use signer_calls::MOST_BLOCKS_AT_ONCE;
-use signing_service::{Approver, Keeper, Signer, Witness, serve_calls};
+use signer_service::{Approver, Keeper, Signer, Witness, serve_calls};
+use signer_votes::Checker;
 use stable_log::Disk;
 use std::alloc::Global;
 use std::hash::RandomState;

@@ -1,15 +1,15 @@
 //! The files of a key set.
 
 ghost use Rattle.std.specs.Prelude.{◌≤◌};
-ghost use Rattle.wire.specs.declared.limits.TheConstants.{MOST_KEYS};
+ghost use Rattle.base_wire.specs.declared.limits.TheConstants.{MOST_KEYS};
 
-use key_files::KeyFile;
+use base_wire::KeyNumber;
 use lmots::{PRIVATE_SEED_LEN, PrivateSeed};
 use lms_tree::{PUBLIC_KEY_LEN, PublicKey};
 use program_parts::{InputFault, read_at_most};
+use replica_files::KeyFile;
 use std::alloc::{AllocError, Global};
 use std::fs::{File, Files};
-use wire::KeyNumber;
 
 /// The first public keys in a folder, so many, if all can be read.
 pub(crate) fn public_keys_at<F: Files<File = File>>(

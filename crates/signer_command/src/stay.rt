@@ -9,19 +9,18 @@ use crate::fault::{Fault, SignerFault};
 use crate::heard::Hearing;
 use crate::home::Home;
 use crate::lineage::Next;
-use crate::listening::Place;
+use crate::listening::ListeningSocket;
 use crate::making::Maker;
 use crate::notes::Notes;
-use crate::pool::{Job, Shop, Start, work_all};
+use crate::pool::{Job, PoolShared, Start, work_all};
 use crate::successor::Successor;
 use crate::words::Words;
+use base_streams::Sink;
 use blocks::CommitteeView;
-use good_votes::{GoodVotes, SideBySide};
-use lineage_folder::Standing;
+use handover_folder::Standing;
 use program_parts::SourceWord;
-use signing_service::{
-    Commits, Gate, Office, PutBack, Reception, Renewed, Rules, Sources, Tallies,
-};
+use signer_service::{Commits, Gate, Office, PutBack, Reception, Renewed, Rules, Sources, Tallies};
+use signer_votes::{GoodVotes, SideBySide};
 use stable_log::{Disk, FileDisk};
 use std::alloc::{AllocError, Global};
 use std::fs::{File, Files};
@@ -34,15 +33,14 @@ use std::sync::ledger::Blank;
 use std::sync::{Mutex, Wait};
 use std::thread::Threads;
 use std::time::{Clock, SystemTime, UNIX_EPOCH};
-use streams::Sink;
 use vote_desk::{Closed, Desk, DeskError, DeskNaming, Parts, Session, StartError};
 
 /// The sockets of a signer, and what the callers of each are let do.
 #[derive(Drop)]
 pub(crate) struct Sockets {
-    pub calls: Place,
-    pub reads: Option<Place>,
-    pub log: Option<Place>,
+    pub calls: ListeningSocket,
+    pub reads: Option<ListeningSocket>,
+    pub log: Option<ListeningSocket>,
     pub call_rules: Rules,
     pub read_rules: Rules,
     pub keys: RandomState,
@@ -142,7 +140,7 @@ fn shop_of<
     desk: &'x Desk<N, D>,
     shared: &'x Shared<'h, N, T, S, D>,
     checker: &'x SideBySide<'x, T>,
-) -> Shop<'x, 'h, N, T, S, D, Home<'h, T, S>, Notes<'h, T, S>>
+) -> PoolShared<'x, 'h, N, T, S, D, Home<'h, T, S>, Notes<'h, T, S>>
     requires ruled { AreRuled room.now.words.now room.now.sockets.now }
     requires committee { room.now.committee.now ≡ N.committee }
     requires replica { room.now.words.now.replica ≡ N.replica }
@@ -153,7 +151,7 @@ fn shop_of<
     ensures keeper { result.office.keeper.now ≡ shared.now.home }
     ensures put_back { result.office.put_back.now ≡ shared.now.put_back }
 {
-    Shop {
+    PoolShared {
         rt: room.rt,
         alloc: room.alloc,
         room,

@@ -9,12 +9,13 @@ use crate::fault::{Fault, SignerFault};
 use crate::lineage::{Goods, Next, Stand, clear_behind};
 use crate::notes::Notes;
 use crate::pool::Start;
-use crate::program::{Host, sessions_of};
+use crate::program::{SignerHost, sessions_of};
 use crate::stay::{Left, Room, Sockets, stay_once};
 use crate::words::Words;
+use base_streams::Sink;
+use base_text::id_digits;
 use blocks::CommitteeView;
-use lineage_folder::Standing;
-use printed_lines::id_digits;
+use handover_folder::Standing;
 use stable_log::FileDisk;
 use std::fs::{File, Files};
 use std::net::{Net, TcpListener, TcpStream};
@@ -22,13 +23,12 @@ use std::random::RandomSource;
 use std::sync::Wait;
 use std::thread::Threads;
 use std::time::Clock;
-use streams::Sink;
 use vote_desk::{Closed, Parts};
 
 /// What all stays of a signer have.
 #[derive(Drop)]
 pub(crate) struct Halls<'h, 'a, T: Wait, S: Sink> {
-    pub host: &'h Host<'h, T>,
+    pub host: &'h SignerHost<'h, T>,
     pub words: &'h Words<'a>,
     pub notes: &'h Notes<'h, T, S>,
     pub sockets: &'h Sockets,

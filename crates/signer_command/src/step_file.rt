@@ -4,8 +4,8 @@ ghost use Rattle.std.specs.Prelude.{◌≡◌, ◌≤◌, IfOk, IfSome, drop, le
 ghost use Rattle.signer_command.specs.Steps.{IsNextPart, piece_name, piece_path, step_reply};
 
 use crate::making::copy_of;
-use chain_request::{StepPiece, StepRequest};
-use lineage_folder::{LineageFolder, NEXT_FILE, NEXT_PROOF, NEXT_RENEWAL};
+use handover_folder::{LineageFolder, NEXT_FILE, NEXT_PROOF, NEXT_RENEWAL};
+use log_request::{StepPiece, StepRequest};
 use stable_log::{Disk, FileDisk};
 use std::alloc::{AllocError, Global};
 use std::fs::{File, Files};

@@ -2,20 +2,20 @@
 
 ghost use Rattle.std.specs.Prelude.{◌≡◌, ◌≢◌, IfErr, IfOk, IfSome, None};
 ghost use Rattle.signer_command.specs.Approved.{IsApprovable};
-ghost use Rattle.successor_files.specs.Successors.{IsSuccessorPayload, files_of};
+ghost use Rattle.handover_steps.specs.Successors.{IsSuccessorPayload, files_of};
 
 use crate::fitness::{Means, Unfit};
 use crate::notes::Notes;
 use crate::stay::Room;
+use base_streams::Sink;
 use blocks::CommitteeView;
-use lineage_folder::LineageFolder;
+use handover_folder::LineageFolder;
+use handover_steps::{SuccessorRefusal, successor_payload};
 use program_parts::{MOST_OF_A_SHORT_FILE, read_at_most};
 use std::alloc::Global;
 use std::fs::{File, Files};
 use std::io::ErrorKind;
 use std::sync::{Mutex, Wait};
-use streams::Sink;
-use successor_files::{SuccessorRefusal, successor_payload};
 
 /// What `--successor` names, if it does.
 #[derive(Drop)]

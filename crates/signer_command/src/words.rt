@@ -5,10 +5,10 @@ ghost use Rattle.signer_command.specs.WordFaults.{IsUsageFault, IsWordsFault};
 
 use crate::fault::{Fault, SignerFault};
 use crate::wrong_words::first_wrong;
+use base_text::number_in;
 use blocks::Id;
 use clap::error::ErrorKind;
 use clap::{Arg, ArgAction, ArgMatches, Command as Grammar, Error};
-use printed_lines::number_in;
 use program_parts::{ProgramFault, SourceWord, number};
 use signer_calls::id_in;
 use std::alloc::{AllocError, Global};

@@ -3,7 +3,7 @@
 ghost use Rattle.std.specs.Prelude.{◌≡◌, ◌↔◌, IsTrue};
 ghost use Rattle.signer_command.specs.WrongWords.{IsFirstWrong, IsGood, IsPlain, IsValue, is_dashed, is_place, is_switch, next_awaited, takes_of, word_in, next_named};
 
-use printed_lines::number_in;
+use base_text::number_in;
 use program_parts::{SourceWord, number};
 use signer_calls::id_in;
 
@@ -11,7 +11,7 @@ use signer_calls::id_in;
 #[derive(Clone, Copy)]
 pub(crate) enum Takes {
     /// `unix:PATH` or `tcp:ADDRESS`.
-    Place,
+    ListeningSocket,
     /// A name, a path or an address.
     Name,
     /// 1 to 64.
@@ -112,7 +112,7 @@ fn takes_of(word: &str) -> Option<Takes>
     ensures { result ≡ takes_of word.now }
 {
     if word == "--listen" {
-        Some(Takes::Place)
+        Some(Takes::ListeningSocket)
     } else if word == "--ask" {
         Some(Takes::Source)
     } else if word == "--sessions" {
@@ -151,7 +151,7 @@ fn is_value(takes: Takes, word: &str) -> bool
     ensures { IsTrue result ↔ IsValue takes word.now }
 {
     match takes {
-        Takes::Place => is_place(word),
+        Takes::ListeningSocket => is_place(word),
         Takes::Name => !word.is_empty() && !is_dashed(word),
         Takes::Sessions => match number(word) {
             Some(count) => 1 <= count && count <= 64,

@@ -4,7 +4,7 @@ use Rattle.std.proofs.lemmas.List.{take_at, map-append}
 use Rattle.std.proofs.lemmas.List.Elements.{All-push, All-weaker}
 use Rattle.stable_log.specs.Crash.{Only, LeavesOnly}
 use Rattle.stable_log.specs.Disk.{written}
-use Rattle.wire.specs.Payloads.{IsPayload}
+use Rattle.base_wire.specs.Payloads.{IsPayload}
 use Rattle.stable_log.specs.Image.{IsBeforeOrAfter, StandsFor, LeavesList, journal_text, staged_text}
 use Rattle.stable_log.specs.MemoryLaws.{length-written, torn_written}
 use Rattle.stable_log.specs.Places.{IsAtRest, IsPayloadStep, IsJournal, payloads_at, piece_at, with_text}

@@ -7,7 +7,7 @@ use Rattle.std.specs.List.{flat_map}
 use Rattle.byteorder.specs.Endian.{big_bytes}
 use Rattle.stable_log.specs.Crash.{Torn}
 use Rattle.stable_log.specs.Disk.{written}
-use Rattle.wire.specs.Payloads.{IsPayload}
+use Rattle.base_wire.specs.Payloads.{IsPayload}
 use Rattle.stable_log.specs.Image.{magic, payload_text, staged_text, journal_text, StandsFor, IsBeforeOrAfter}
 
 flat_map-append : (f : List ℕ → List ℕ) (xs : List (List ℕ)) (x : List ℕ) → flat_map f (xs ++ x ∷ []) ≡ flat_map f xs ++ f x

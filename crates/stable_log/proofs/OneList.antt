@@ -5,7 +5,7 @@ use Rattle.std.proofs.lemmas.List.Elements.{All-head, All-tail}
 use Rattle.std.specs.List.{flat_map}
 use Rattle.byteorder.specs.Endian.{big_bytes, big_number}
 use Rattle.byteorder.specs.Numbers.{big_number-reads_back}
-use Rattle.wire.specs.Payloads.{IsPayload}
+use Rattle.base_wire.specs.Payloads.{IsPayload}
 use Rattle.stable_log.specs.Image.{magic, payload_text, AnImageStandsForOneList, StandsFor}
 use Rattle.stable_log.specs.Places.{Holds, IsBrokenAt, IsClosedAt, IsRead, payloads_at}
 use Rattle.stable_log.specs.declared.reading.PayloadPlace.{PayloadPlace}

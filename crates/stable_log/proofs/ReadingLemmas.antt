@@ -4,7 +4,7 @@ use Rattle.std.proofs.lemmas.List.{take_at, drop_more, drop-drop, map-append, le
 use Rattle.std.proofs.lemmas.List.Elements.{All-push}
 use Rattle.byteorder.specs.Endian.{big_bytes}
 use Rattle.stable_log.specs.Crash.{Only}
-use Rattle.wire.specs.Payloads.{IsPayload}
+use Rattle.base_wire.specs.Payloads.{IsPayload}
 use Rattle.stable_log.specs.Image.{magic, payload_text, journal_text, StandsFor}
 use Rattle.stable_log.specs.Places.{IsClosedAt, IsPayloadAt, IsRead, IsJournal, ArePlaces, IsBrokenAt, IsPayloadRefusal, IsPayloadsRefusal, payloads_at, piece_at}
 use Rattle.stable_log.specs.declared.reading.PayloadPlace.{PayloadPlace}

@@ -2,8 +2,8 @@
 use Rattle.std.specs.Prelude.{ℕ, ◌≡◌, ◌≢◌, ◌≤◌, ◌++◌, ◌⊎◌, List, [], ◌∷◌, length, All}
 use Rattle.std.specs.List.{flat_map}
 use Rattle.byteorder.specs.Endian.{big_bytes}
-use Rattle.wire.specs.Payloads.{IsPayload}
-use Rattle.wire.specs.declared.limits.TheConstants.{MOST_ENTRIES}
+use Rattle.base_wire.specs.Payloads.{IsPayload}
+use Rattle.base_wire.specs.declared.limits.TheConstants.{MOST_ENTRIES}
 
 -- HSJ1 and four zero bytes
 abbrev pub magic : List ℕ

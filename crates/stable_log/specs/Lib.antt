@@ -1,5 +1,5 @@
-pub use Rattle.streams.specs.Counting
-pub use Rattle.streams.specs.Fuse
+pub use Rattle.base_streams.specs.Counting
+pub use Rattle.base_streams.specs.Fuse
 pub mod Crash
 pub mod Devices
 pub mod Disk

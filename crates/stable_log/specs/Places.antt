@@ -3,8 +3,8 @@ use Rattle.std.specs.Prelude.{ℕ, ◌≡◌, ◌≢◌, ◌≤◌, ◌<◌, ◌
 use Rattle.std.specs.List.{flat_map}
 use Rattle.stable_log.specs.Disk.{written}
 use Rattle.stable_log.specs.Crash.{Only, Torn}
-use Rattle.wire.specs.Payloads.{IsPayload}
-use Rattle.wire.specs.declared.limits.TheConstants.{LONGEST_PAYLOAD, MOST_ENTRIES}
+use Rattle.base_wire.specs.Payloads.{IsPayload}
+use Rattle.base_wire.specs.declared.limits.TheConstants.{LONGEST_PAYLOAD, MOST_ENTRIES}
 use Rattle.stable_log.specs.Image.{payload_text, journal_text, StandsFor}
 use Rattle.stable_log.specs.declared.reading.PayloadPlace.{PayloadPlace}
 use Rattle.stable_log.specs.declared.error.JournalError.{JournalError}

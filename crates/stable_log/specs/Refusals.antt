@@ -1,7 +1,7 @@
 -- When a journal refuses: for each call its first refusal whose case holds. `Memory` comes where a growth was
 -- refused, `Device` where the disk failed.
 use Rattle.std.specs.Prelude.{ℕ, ◌≡◌, ◌≢◌, ◌≤◌, ◌<◌, List, [], length, take, Option, IfSome, true, false}
-use Rattle.wire.specs.declared.limits.TheConstants.{LONGEST_PAYLOAD, MOST_ENTRIES}
+use Rattle.base_wire.specs.declared.limits.TheConstants.{LONGEST_PAYLOAD, MOST_ENTRIES}
 use Rattle.stable_log.specs.Image.{magic, StandsFor}
 use Rattle.stable_log.specs.State.{JournalState}
 use Rattle.stable_log.specs.declared.error.JournalError.{JournalError}

@@ -1,13 +1,13 @@
 //! Runs of calls of a disk.
 ghost use Rattle.std.specs.Prelude.{◌≡◌, ◌<◌, ◌≤◌, ◌+◌, ◌^◌, ℕ, List, take, drop, Some, IfSome, IsSome, ◌↔◌, option_map, length, IfOk, OnOk};
 ghost use Rattle.stable_log.specs.Disk.{written};
-ghost use Rattle.streams.specs.Counting.{Counts};
+ghost use Rattle.base_streams.specs.Counting.{Counts};
 ghost use Rattle.stable_log.specs.Crash.{Torn, Follows, Stepped, Only};
 ghost use Rattle.stable_log.specs.Devices.{AtAnyMoment, Untouched};
 ghost use Rattle.stable_log.specs.Places.{with_text, IsPayloadStep};
 
 use crate::Disk;
-use streams::Fault;
+use base_streams::Fault;
 
 // Writes a piece and syncs.
 pub(crate) fn write_synced<D: Disk>(disk: &mut D, at: u64, piece: &[u8]) -> Result<(), Fault>

@@ -1,10 +1,10 @@
 //! A disk: what a read gives, what a crash may leave, how often a call failed.
 ghost use Rattle.std.specs.Prelude.{◌≡◌, ◌≤◌, ◌+◌, ◌↔◌, List, ℕ, length, take, drop, IfOk, OnOk, IfSome, Option, option_map, IsSome};
 ghost use Rattle.stable_log.specs.Disk.{written};
-ghost use Rattle.streams.specs.Counting.{Counts};
+ghost use Rattle.base_streams.specs.Counting.{Counts};
 ghost use Rattle.stable_log.specs.Crash.{Torn, Follows, NoNew, Only, Elapses};
 
-use streams::Fault;
+use base_streams::Fault;
 
 /// A disk of bytes. It tells its bytes and what a crash may leave of them, or it tells nothing.
 ///

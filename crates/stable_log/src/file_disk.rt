@@ -1,12 +1,12 @@
 //! A file as a disk.
 ghost use Rattle.std.specs.Prelude.{◌≡◌, None};
-ghost use Rattle.streams.specs.Counting.{Counts};
+ghost use Rattle.base_streams.specs.Counting.{Counts};
 
 use crate::Disk;
+use base_streams::Fault;
 use std::fs::File;
 use std::io;
 use std::io::{Read, Seek, SeekFrom, Write};
-use streams::Fault;
 
 /// One file, open for reading and writing. Of what it holds nothing is told, since no contract speaks of a file.
 ///

@@ -1,7 +1,7 @@
 //! A list of payloads on a disk.
 ghost use Rattle.std.specs.Prelude.{◌≡◌, ◌≢◌, ◌<◌, ◌≤◌, ◌+◌, ◌++◌, ◌∷◌, [], ℕ, List, true, false, Some, IfSome, IsSome, ◌↔◌, option_map, length, slice_get, take, IfOk, IfErr, OnErr, OnOk, IsErrOf};
-ghost use Rattle.streams.specs.Counting.{HasFailed};
-ghost use Rattle.wire.specs.declared.limits.TheConstants.{LONGEST_PAYLOAD, MOST_ENTRIES};
+ghost use Rattle.base_streams.specs.Counting.{HasFailed};
+ghost use Rattle.base_wire.specs.declared.limits.TheConstants.{LONGEST_PAYLOAD, MOST_ENTRIES};
 ghost use Rattle.stable_log.specs.Crash.{Only, Torn, Follows};
 ghost use Rattle.stable_log.specs.Devices.{AtAnyMoment, Untouched};
 ghost use Rattle.stable_log.specs.Image.{empty_journal, staged_text, StandsFor, IsBeforeOrAfter, LeavesList};
@@ -11,10 +11,10 @@ ghost use Rattle.stable_log.specs.Refusals.{IsJournalCreateRefusal, IsJournalRec
 use crate::calls::{fill, fill_front, write_payload, write_synced};
 use crate::reading::{PayloadPlace, read_journal};
 use crate::{Disk, JournalError};
+use base_wire::{LONGEST_PAYLOAD, MOST_ENTRIES};
 use byteorder::{BigEndian, ByteOrder};
 use std::alloc::{AllocError, Global};
 use std::marker::Model;
-use wire::{LONGEST_PAYLOAD, MOST_ENTRIES};
 
 /// An append-only list of payloads of 1 to 65,536 bytes each, at most 4,096 of them, on a disk.
 ///

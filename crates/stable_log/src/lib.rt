@@ -11,10 +11,10 @@ mod laws;
 mod memory_disk;
 mod reading;
 
+pub use base_streams::Fault;
 pub use disk::Disk;
 pub use error::JournalError;
 pub use file_disk::FileDisk;
 pub use journal::Journal;
 pub use laws::an_image_stands_for_one_list;
 pub use memory_disk::{Choice, MemoryDisk};
-pub use streams::Fault;

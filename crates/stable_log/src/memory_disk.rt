@@ -1,14 +1,14 @@
 //! A disk in memory, for tests. It keeps its first bytes and each call since, from which its crash images follow.
 ghost use Rattle.std.specs.Prelude.{◌≡◌, ◌≤◌, ◌+◌, ◌-◌, ◌^◌, min, ℕ, Some, None, IfOk, IfSome, OnOk, OnErr, List, length, take, drop, [], ◌∷◌, ◌++◌, replicate};
 ghost use Rattle.stable_log.specs.Disk.{written};
-ghost use Rattle.streams.specs.Counting.{Counts, one_more};
+ghost use Rattle.base_streams.specs.Counting.{Counts, one_more};
 ghost use Rattle.stable_log.specs.Crash.{Torn, Only, Unwritten};
 ghost use Rattle.stable_log.specs.Memory.{disk_state, IsImageOf, WasImage};
 ghost use Rattle.stable_log.specs.MemoryLaws.{counts_now_of, only_now_of, as_read_of};
 
 use crate::Disk;
+use base_streams::{Fault, Fuse};
 use std::alloc::{AllocError, Global};
-use streams::{Fault, Fuse};
 
 // A call that changed the disk.
 #[derive(Drop)]
@@ -110,7 +110,7 @@ fn torn(
 }
 
 impl MemoryDisk {
-    ghost use Rattle.streams.specs.Fuse.{after_call, is_burning};
+    ghost use Rattle.base_streams.specs.Fuse.{after_call, is_burning};
     ghost use Rattle.stable_log.specs.MemoryParts.{calls_of, fuse_of, synced_of};
 
     /// A disk of these bytes, all of them synced, with no call, no failure and no fuse.

@@ -1,8 +1,8 @@
 //! Reads what a file stands for. Nothing here writes.
 ghost use Rattle.std.specs.Prelude.{◌≡◌, ◌≢◌, ◌<◌, ◌≤◌, ◌+◌, ℕ, List, IsTrue, ◌↔◌, MatchOption, take, drop, Some, IfSome, length, IfOk, IfErr, OnOk, IsErrOf};
 ghost use Rattle.byteorder.specs.Endian.{big_bytes};
-ghost use Rattle.streams.specs.Counting.{HasFailed};
-ghost use Rattle.wire.specs.declared.limits.TheConstants.{LONGEST_PAYLOAD, MOST_ENTRIES};
+ghost use Rattle.base_streams.specs.Counting.{HasFailed};
+ghost use Rattle.base_wire.specs.declared.limits.TheConstants.{LONGEST_PAYLOAD, MOST_ENTRIES};
 ghost use Rattle.stable_log.specs.Crash.{Only};
 ghost use Rattle.stable_log.specs.Devices.{Untouched};
 ghost use Rattle.stable_log.specs.Image.{magic};
@@ -11,8 +11,8 @@ ghost use Rattle.stable_log.specs.Refusals.{IsJournalRecoverRefusal};
 
 use crate::calls::{read, settle};
 use crate::{Disk, JournalError};
+use base_wire::{LONGEST_PAYLOAD, MOST_ENTRIES};
 use std::alloc::Global;
-use wire::{LONGEST_PAYLOAD, MOST_ENTRIES};
 
 // Where a payload stands in the file, and how long it is, in bytes.
 #[derive(Clone, Copy)]

@@ -7,10 +7,10 @@ ghost use Rattle.ancestry.specs.Known.{IsAloneAmong};
 
 use ancestry::Ancestry;
 use blocks::{Header, Id, NamedHeader};
-use fixtures::fork_headers as fork;
 use std::alloc::Global;
 use std::cmp::Ordering;
 use std::test::Fail;
+use test_fixtures::fork_headers as fork;
 
 fn stored(text: &[u8]) -> Result<NamedHeader, Fail> {
     let header = Header::from_bytes(text).ok();

@@ -1,12 +1,12 @@
 //! Commits of evidence from blocks and certificates of an independent program, under the stored committee.
 
 use crate::sources::{of_logs, stream, views};
+use audit_commits::{certified_chains, first_conflict, proved_commits};
 use blocks::NamedHeader;
-use commit_search::{certified_chains, first_conflict, proved_commits};
-use fixtures::{certificates, core_blocks};
 use parallel_verify::Evidence;
 use std::alloc::Global;
 use std::test::Fail;
+use test_fixtures::{certificates, core_blocks};
 
 // A block that raised the lock without a vote: its header, its parent's, and the parent's certificate.
 type Raised = [&'static [u8]; 3];

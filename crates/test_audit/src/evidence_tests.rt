@@ -1,11 +1,11 @@
 //! Evidence of stored entries, under the stored committee: bytes of an independent program.
 
 use crate::sources::{committee, of_logs, report, shows, stream};
-use fixtures::log_entries;
 use log_format::Status;
 use parallel_verify::Evidence;
 use std::alloc::Global;
 use std::test::Fail;
+use test_fixtures::log_entries;
 
 #[test]
 fn no_sources(rt: HostRuntime) -> Result<(), Fail> {

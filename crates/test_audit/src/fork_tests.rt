@@ -1,15 +1,15 @@
 //! Evidence of a fork, and votes that are verified together: bytes of an independent program.
 
 use crate::sources::{committee, gathered, report, shows, sources, stream};
+use audit_evidence::{Anew, Gathered, SourceLog};
+use base_shared::Shared;
 use blocks::NamedHeader;
 use certificates::SignedVote;
-use evidence::{Anew, Gathered, SourceLog};
-use fixtures::{fork_logs, log_entries};
 use log_format::{Frames, Status};
 use parallel_verify::{Evidence, SourceReport, SourceText, verify_all};
-use shared_values::Shared;
 use std::alloc::Global;
 use std::test::Fail;
+use test_fixtures::{fork_logs, log_entries};
 use vote_log::Entry;
 
 // The logs of replicas 0 and 3.

@@ -2,9 +2,9 @@
 
 use crate::sources::of_logs;
 use culprit_search::{Verdict, verdicts_of};
-use fixtures::{double_vote_logs, fork_logs, verdicts};
 use std::alloc::Global;
 use std::test::Fail;
+use test_fixtures::{double_vote_logs, fork_logs, verdicts};
 use verdict_format::Rule;
 
 // The verdicts on the evidence of these logs.

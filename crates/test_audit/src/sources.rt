@@ -1,12 +1,12 @@
 //! Logs as they are sent, and evidence from them, under the stored committee.
 
 use blocks::{CommitteeView, NamedHeader};
-use fixtures::verdicts;
 use log_format::Status;
 use parallel_verify::{Evidence, SourceReport, SourceText, evidence_of};
 use std::alloc::Global;
 use std::process::Abort;
 use std::test::Fail;
+use test_fixtures::verdicts;
 
 /// The stored committee.
 pub fn committee() -> Result<CommitteeView<'static>, Fail> {

@@ -3,10 +3,10 @@
 use crate::sources::{of_logs, sources};
 use blocks::{CommitteeView, Id};
 use culprit_search::{Commit, Conflict, Report, audit};
-use fixtures::{fork_logs, weights};
 use parallel_verify::{Evidence, evidence_of};
 use std::alloc::Global;
 use std::test::Fail;
+use test_fixtures::{fork_logs, weights};
 
 // The block of view 1 on one side of the fork.
 const A1: Id =

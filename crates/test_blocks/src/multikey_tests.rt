@@ -2,11 +2,11 @@
 //! computed by an independent program; the first keys are those of the other tests.
 
 use crate::header_tests::key;
+use base_wire::MOST_KEYS;
 use blocks::{CommitteeRefusal, CommitteeView, Member, write_multikey_committee};
 use lms_tree::PUBLIC_KEY_LEN;
 use std::alloc::Global;
 use std::test::Fail;
-use wire::MOST_KEYS;
 
 // Key 1 of replica 0, whose key id is 16 bytes 20.
 const SECOND: &[u8; PUBLIC_KEY_LEN] =

@@ -1,11 +1,11 @@
 //! Each byte of a verdict counts. The committee and the verdicts are stored bytes of an independent program, and the
 //! expected refusals follow from docs/FORMATS.md and docs/REFUSALS.md.
 
-use check_command::{REFUSED, run_check};
-use fixtures::verdicts;
+use base_streams::MemorySink;
+use program_check::{REFUSED, run_check};
 use std::process::Abort;
 use std::test::Fail;
-use streams::MemorySink;
+use test_fixtures::verdicts;
 
 // Each byte of a verdict at these places, turned.
 fn turned_bytes_are_refused<R: AllocGlobal + Abort>(

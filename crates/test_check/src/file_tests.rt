@@ -1,6 +1,6 @@
 //! How much of a file is read. The limit is that of docs/hs_check.md.
 
-use check_command::Texts;
+use program_check::Texts;
 use std::fs;
 use std::fs::{File, Files};
 use std::process::Abort;

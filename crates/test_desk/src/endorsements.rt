@@ -2,8 +2,8 @@
 
 use crate::replicas::{Block, Step, new_parts, stay};
 use blocks::CommitteeView;
+use handover_keys::{NextKeysView, write_next_keys};
 use lms_tree::verify;
-use next_keys::{NextKeysView, write_next_keys};
 use stable_log::MemoryDisk;
 use std::process::Abort;
 use std::sync::Wait;

@@ -4,12 +4,12 @@ use crate::replicas::{
     Block, Step, committee, found_on, new_disk, new_keys, new_parts, new_store, on_genesis, stay,
 };
 use blocks::{CommitteeView, Header};
-use fixtures::certificates as texts;
 use lms_tree::SigningTree;
 use replica_core::CoreRefusal;
 use stable_log::MemoryDisk;
 use std::alloc::{AllocError, Global};
 use std::process::Abort;
+use test_fixtures::certificates as texts;
 use vote_desk::{Closed, DeskError, Parts};
 
 // Whether the log has so many entries, and the key so many indices left.

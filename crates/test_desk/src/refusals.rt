@@ -6,13 +6,13 @@ ghost use Rattle.blocks.specs.Headers.{IsGenesis};
 use crate::replicas::{Block, checked_by, committee, new_disk, new_log, new_parts};
 use blocks::{CommitteeView, Header};
 use certificates::LmsVerifier;
-use fixtures::log_entries;
 use stable_log::MemoryDisk;
 use std::alloc::Global;
 use std::marker::Brand;
 use std::process::Abort;
 use std::sync::Wait;
 use std::sync::ledger::Blank;
+use test_fixtures::log_entries;
 use vote_desk::{Desk, DeskError, DeskNaming, Parts, StartError};
 use vote_log::{Entry, VoteLog};
 

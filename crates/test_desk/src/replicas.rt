@@ -6,7 +6,6 @@ use crate::endorsements::endorses;
 use crate::live_calls::{exports, holds_unvoted, is_locked_on_a1, only_holds, tells_of_a1};
 use blocks::{CommitteeView, Header, Id};
 use certificates::{Certificate, CheckedBlock, LmsVerifier, Verifier, check_block};
-use fixtures::{certificates as texts, core_blocks, verdicts};
 use key_index_store::IndexStore;
 use lmots::PrivateSeed;
 use lms_tree::SigningTree;
@@ -17,6 +16,7 @@ use std::marker::Brand;
 use std::process::Abort;
 use std::sync::Wait;
 use std::sync::ledger::Blank;
+use test_fixtures::{certificates as texts, core_blocks, verdicts};
 use vote_desk::{Answer, Closed, Desk, DeskError, DeskNaming, Left, Parts, Reply, Session};
 use vote_log::VoteLog;
 

@@ -1,5 +1,5 @@
 //! Worked runs of replica 0. What each stay leaves in the log is compared, by the digest of the disk's bytes, with the log
-//! of an independent program that made them from the formats of docs/FORMATS.md and the seeds that `fixtures::keys` names.
+//! of an independent program that made them from the formats of docs/FORMATS.md and the seeds that `test_fixtures::keys` names.
 
 use crate::replicas::{Block, Step, new_parts, restarted, stay};
 use replica_core::CoreRefusal;

@@ -3,12 +3,12 @@
 use crate::stored::{certificate, committee, with_byte, with_entries};
 use blocks::Header;
 use certificates::{BlockRefusal, LmsVerifier, Verifier, check_block};
-use fixtures::certificates as texts;
 use lms_tree::PublicKey;
 use std::alloc::Global;
 use std::cell::Cell;
 use std::process::Abort;
 use std::test::Fail;
+use test_fixtures::certificates as texts;
 
 // What refuses a header with this certificate of its parent, under the stored committee.
 fn refusal_of(alloc: Global, block: &[u8], parent: &[u8]) -> Result<Option<BlockRefusal>, Fail> {

@@ -5,10 +5,10 @@ use certificates::{
     AssembleRefusal, Certificate, CertificateRefusal, CommitteeView, SignedVote, assemble,
     check_vote,
 };
-use fixtures::certificates as texts;
 use std::alloc::Global;
 use std::process::Abort;
 use std::test::Fail;
+use test_fixtures::certificates as texts;
 
 fn refusal_of(alloc: Global, bytes: &[u8]) -> Option<CertificateRefusal> {
     Certificate::read(alloc, bytes).err()

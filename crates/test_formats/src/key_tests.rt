@@ -2,13 +2,13 @@
 
 use crate::several_keys;
 use crate::stored::certificate;
+use base_wire::{array_at, u16_at, u64_at};
 use blocks::Header;
 use certificates::{
     BlockRefusal, CommitteeView, LmsVerifier, SignedVote, VoteRefusal, check_block, check_vote,
 };
 use std::alloc::Global;
 use std::test::Fail;
-use wire::{array_at, u16_at, u64_at};
 
 // Where the certificate begins behind the header, in bytes.
 const CERTIFICATE_AT: usize = 84;

@@ -2,11 +2,11 @@
 
 use crate::renewed;
 use crate::stored::committee;
-use lms_tree::PublicKey;
-use next_keys::{
+use handover_keys::{
     EndorsementRefusal, NextKeysView, bound_id, check_endorsement, write_endorsement,
     write_next_keys,
 };
+use lms_tree::PublicKey;
 use std::alloc::Global;
 use std::test::Fail;
 

@@ -3,7 +3,7 @@
 use crate::renewed;
 use crate::stored::committee;
 use certificates::CommitteeView;
-use renewals::{Renewal, RenewalFormRefusal, RenewalRefusal, Slots, renews};
+use handover_renewals::{Renewal, RenewalFormRefusal, RenewalRefusal, Slots, renews};
 use std::alloc::Global;
 use std::test::Fail;
 

@@ -1,5 +1,5 @@
-//! A committee that renews that of `fixtures::verdicts`: its slots 0 to 2 are new, slot 3 is kept. Made by an independent program from the
-//! formats of docs/FORMATS.md and the seeds that `fixtures::keys` names; the roots of the new keys are digests, of no tree.
+//! A committee that renews that of `test_fixtures::verdicts`: its slots 0 to 2 are new, slot 3 is kept. Made by an independent program from the
+//! formats of docs/FORMATS.md and the seeds that `test_fixtures::keys` names; the roots of the new keys are digests, of no tree.
 
 /// The new committee: 232 bytes.
 pub fn committee() -> &'static [u8] {

@@ -1,9 +1,9 @@
 //! What the tests share, over bytes of an independent program.
 
 use certificates::{Certificate, CommitteeView};
-use fixtures::{certificates as texts, verdicts};
 use std::alloc::Global;
 use std::test::Fail;
+use test_fixtures::{certificates as texts, verdicts};
 
 /// The length in bytes of a certificate before its entries.
 pub const HEAD: usize = 42;

@@ -1,9 +1,9 @@
 //! Verdicts, read and written: bytes of an independent program.
 
-use fixtures::verdicts;
 use std::alloc::Global;
 use std::process::Abort;
 use std::test::Fail;
+use test_fixtures::verdicts;
 use verdict_format::{BoundVote, Rule, Shown, VerdictParts, VerdictView, VoteView, write_verdict};
 
 fn parsed(bytes: &[u8]) -> Result<VerdictView<'_>, Fail> {

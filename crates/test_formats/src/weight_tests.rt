@@ -7,9 +7,9 @@ use blocks::Header;
 use certificates::{
     AssembleRefusal, BlockRefusal, Certificate, CommitteeView, LmsVerifier, SignedVote, check_block,
 };
-use fixtures::weights;
 use std::alloc::Global;
 use std::test::Fail;
+use test_fixtures::weights;
 
 fn committee() -> Result<CommitteeView<'static>, Fail> {
     let committee = CommitteeView::parse(weights::committee()).ok();

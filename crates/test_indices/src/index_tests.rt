@@ -1,7 +1,7 @@
 //! Index stores on a disk in memory. Their bytes are spelled by hand, from docs/FORMATS.md.
 
 ghost use Rattle.std.specs.Prelude.{◌≤◌};
-ghost use Rattle.wire.specs.declared.limits.TheConstants.{MOST_KEYS};
+ghost use Rattle.base_wire.specs.declared.limits.TheConstants.{MOST_KEYS};
 
 use key_index_store::{IndexError, IndexStore, key_of, q_of};
 use stable_log::{Choice, Disk, Journal, MemoryDisk};

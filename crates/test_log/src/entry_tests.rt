@@ -1,12 +1,12 @@
 //! Entries, read and written again. The entries, headers and certificates are those of an independent program.
 
+use base_wire::array_at;
 use blocks::{CommitteeView, Header};
 use certificates::{Certificate, CheckedBlock, LmsVerifier, SignedVote, check_block};
-use fixtures::{certificates as certificate_texts, log_entries as texts, verdicts};
 use std::alloc::Global;
 use std::process::Abort;
+use test_fixtures::{certificates as certificate_texts, log_entries as texts, verdicts};
 use vote_log::{Entry, EntryRefusal};
-use wire::array_at;
 
 /// The entry that the bytes spell.
 pub(crate) fn read<R: Abort + AllocGlobal>(rt: &R, bytes: &[u8]) -> Entry {

@@ -1,11 +1,11 @@
 //! Logs that are sent out. The log and its export are those of an independent program.
 
 use crate::log_tests::{add, append, append_calls, failing_after, new_log};
-use fixtures::exports::nine_entries;
-use fixtures::log_entries;
 use stable_log::{Disk, MemoryDisk};
 use std::alloc::Global;
 use std::process::Abort;
+use test_fixtures::exports::nine_entries;
+use test_fixtures::log_entries;
 use vote_log::{ExportError, Frames, MemorySink, Status, VoteLog};
 
 // The log whose export is stored.

@@ -4,10 +4,10 @@ use crate::entry_tests::entry_of;
 use crate::log_tests::{new_log, recovered};
 use blocks::{CommitteeView, Header};
 use certificates::{Certificate, LmsVerifier, check_block};
-use fixtures::verdicts;
 use stable_log::Disk;
 use std::alloc::Global;
 use std::process::Abort;
+use test_fixtures::verdicts;
 use vote_log::{Entry, Frames, LogError, MemorySink, Status, VoteLog};
 
 // The certificate of genesis: view 0, its id, and no votes.

@@ -4,10 +4,10 @@ ghost use Rattle.blocks.specs.Headers.{IsGenesis};
 
 use crate::entry_tests::{is_written, read};
 use blocks::{CommitteeView, Header};
-use fixtures::{log_entries as texts, verdicts};
 use stable_log::{Disk, MemoryDisk};
 use std::alloc::{AllocError, Global};
 use std::process::Abort;
+use test_fixtures::{log_entries as texts, verdicts};
 use vote_log::{LogError, VoteLog};
 
 /// A disk of these bytes.

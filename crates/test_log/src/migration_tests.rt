@@ -2,9 +2,9 @@
 
 use crate::log_tests::{LONG, SHORT, disk_of, file_of, genesis, recovered};
 use crate::old_logs;
-use fixtures::{fork_logs, log_entries};
 use stable_log::{Choice, Journal, MemoryDisk};
 use std::process::Abort;
+use test_fixtures::{fork_logs, log_entries};
 use vote_log::{Frames, LogError, VoteLog, migrate};
 
 // An open gate, and the length of an entry on genesis in the old form, and of one with three votes.

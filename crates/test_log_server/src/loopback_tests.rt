@@ -1,7 +1,7 @@
 //! A server on the loopback, and its clients in another thread.
 
 use crate::stored_log::log_of_nine;
-use fixtures::exports::nine_entries;
+use base_streams::MemorySink;
 use log_format::Status;
 use log_server::{ServiceFault, serve_requests};
 use log_transfer::{Payload, TcpConnector, fetch};
@@ -13,7 +13,7 @@ use std::net::{Net, TcpListener, TcpStream};
 use std::test::Fail;
 use std::thread::{Threads, join, sleep};
 use std::time::{Clock, Duration};
-use streams::MemorySink;
+use test_fixtures::exports::nine_entries;
 use vote_log::VoteLog;
 
 // A listener on some port, and its address.

@@ -3,11 +3,11 @@
 ghost use Rattle.blocks.specs.Headers.{IsGenesis};
 
 use blocks::{CommitteeView, Header};
-use fixtures::exports::nine_entries;
-use fixtures::verdicts;
 use log_format::{Entry, Frames};
 use stable_log::MemoryDisk;
 use std::process::Abort;
+use test_fixtures::exports::nine_entries;
+use test_fixtures::verdicts;
 use vote_log::VoteLog;
 
 fn genesis<R: Abort>(rt: &R) -> Header

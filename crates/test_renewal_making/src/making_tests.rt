@@ -2,11 +2,11 @@
 
 use crate::stored;
 use blocks::CommitteeView;
-use fixtures::verdicts;
-use next_keys::EndorsementRefusal;
-use renewal_making::{Made, MakingRefusal, compose};
+use handover_keys::EndorsementRefusal;
+use handover_renewals::{Made, MakingRefusal, compose};
 use std::alloc::{AllocError, Global};
 use std::test::Fail;
+use test_fixtures::verdicts;
 
 // The texts, each in memory of its own.
 fn texts(alloc: Global, parts: &[&[u8]]) -> Result<Vec<Vec<u8>>, AllocError> {

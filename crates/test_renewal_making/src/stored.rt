@@ -1,4 +1,4 @@
-//! The endorsements of the replicas 0 to 2 of the committee of `fixtures::verdicts`, and the committee and the renewal that they make. Made by an
+//! The endorsements of the replicas 0 to 2 of the committee of `test_fixtures::verdicts`, and the committee and the renewal that they make. Made by an
 //! independent program from the formats of docs/FORMATS.md, and composed again by the program in examples/ledger.
 
 /// The endorsement of replica 0: 1,548 bytes.

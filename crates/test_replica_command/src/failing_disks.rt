@@ -2,15 +2,14 @@
 
 ghost use Rattle.std.specs.Prelude.{◌<◌};
 
+use base_streams::MemorySink;
 use blocks::{CommitteeView, Header};
 use certificates::Certificate;
-use fixtures::{certificates as texts, verdicts};
 use key_index_store::IndexStore;
 use lmots::PrivateSeed;
 use lms_tree::SigningTree;
-use replica_answers::Request;
 use replica_command::{Ending, ReplicaFault, StayEnd, stay};
-use replica_lines::LineRequest;
+use replica_requests::{LineRequest, Request};
 use stable_log::MemoryDisk;
 use std::alloc::Global;
 use std::marker::Brand;
@@ -19,7 +18,7 @@ use std::sync::Wait;
 use std::sync::ledger::Blank;
 use std::test::Fail;
 use std::thread::Threads;
-use streams::MemorySink;
+use test_fixtures::{certificates as texts, verdicts};
 use vote_desk::Parts;
 use vote_log::VoteLog;
 

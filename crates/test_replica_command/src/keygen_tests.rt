@@ -1,13 +1,13 @@
 //! Keygen over a folder and a sink in memory. Which calls fail is said by a fuse.
 
-use key_files::{KeyFault, KeyFile, MakeFolder, MemoryFolder, Readers, make_key};
+use base_streams::{MemorySink, Sink};
+use base_wire::KeyNumber;
 use lmots::PrivateSeed;
+use replica_files::{KeyFault, KeyFile, MakeFolder, MemoryFolder, Readers, make_key};
 use std::alloc::Global;
 use std::process::Abort;
 use std::test::Fail;
 use std::thread::Threads;
-use streams::{MemorySink, Sink};
-use wire::KeyNumber;
 
 /// The key of replica 2 of the fixtures: a key id of 16 bytes 02, and a seed of 32 bytes 12.
 const SECRET: PrivateSeed = PrivateSeed {

@@ -1,17 +1,17 @@
 //! A folder has one replica at a time, and none where a file says so.
 
+use base_streams::{Feed, MemoryFeed, MemorySink};
+use base_wire::KeyNumber;
 use blocks::CommitteeView;
-use fixtures::verdicts;
-use key_files::KeyFile;
 use replica_command::{ReplicaFault, ReplicaFile, run_replica};
+use replica_files::KeyFile;
 use std::alloc::Global;
 use std::fs;
 use std::fs::{File, Files, OpenOptions};
 use std::sync::Wait;
 use std::test::Fail;
 use std::thread::Threads;
-use streams::{Feed, MemoryFeed, MemorySink};
-use wire::KeyNumber;
+use test_fixtures::verdicts;
 
 // The lock of a folder is held: a replica opens nothing, reads no line, and answers nothing.
 #[test]

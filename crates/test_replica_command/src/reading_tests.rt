@@ -1,12 +1,11 @@
 //! What lines ask for. The expected words follow from docs/FORMATS.md.
 
 use crate::stored::block_line;
-use replica_answers::Request;
-use replica_lines::{LONGEST_LINE, LineRequest, MOST_LINES, read_requests};
+use base_streams::{Feed, MemoryFeed};
+use replica_requests::{LONGEST_LINE, LineRequest, MOST_LINES, Request, read_requests};
 use std::alloc::{AllocError, Global};
 use std::process::Abort;
 use std::test::Fail;
-use streams::{Feed, MemoryFeed};
 
 // A request in a word or two.
 fn described(alloc: Global, request: &LineRequest) -> Result<String, AllocError> {

@@ -1,16 +1,15 @@
 //! The line that answers each outcome. The expected lines follow from docs/FORMATS.md and docs/REFUSALS.md.
 
 use crate::stored::voted_line;
+use base_streams::MemorySink;
+use base_wire::{array_at, u16_at, u64_at};
 use blocks::HeaderRefusal;
 use certificates::{BlockRefusal, CertificateRefusal, SignedVote};
-use replica_answers::Outcome;
 use replica_core::CoreRefusal;
-use replica_lines::{LineOutcome, write_outcome};
+use replica_requests::{LineOutcome, Outcome, write_outcome};
 use std::alloc::Global;
 use std::test::Fail;
-use streams::MemorySink;
 use vote_desk::{Answer, DeskError, Receipt, Reply};
-use wire::{array_at, u16_at, u64_at};
 
 fn writes(alloc: Global, outcome: &LineOutcome, want: &str) -> bool {
     let mut out = MemorySink::new(alloc);

@@ -1,12 +1,12 @@
 //! Trees, public keys and signatures as two independent programs made them.
 
 use crate::vectors::{Messages, Vector, counting_key, counting_seed, key_0, key_2, seed};
-use fixtures::{keys, signatures};
 use lms_tree::{PublicKey, SigRefusal, SigningTree, verify};
-use parallel_keys::generate_parallel;
+use replica_files::generate_parallel;
 use std::alloc::Global;
 use std::process::Abort;
 use std::test::Fail;
+use test_fixtures::{keys, signatures};
 
 fn signs_as_stored<R: Abort>(rt: &R, tree: &SigningTree, vector: &Vector) -> Result<(), Fail> {
     let leaf = vector.leaf;

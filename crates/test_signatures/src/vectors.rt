@@ -2,8 +2,8 @@
 
 ghost use Rattle.std.specs.Prelude.{◌<◌};
 
-use fixtures::{one_time_keys, signatures};
 use lmots::{PRIVATE_SEED_LEN, PrivateSeed};
+use test_fixtures::{one_time_keys, signatures};
 
 /// A one-time key and a signature under it.
 #[derive(Clone, Copy)]

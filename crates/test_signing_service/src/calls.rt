@@ -3,16 +3,15 @@
 ghost use Rattle.std.specs.Prelude.{◌≡◌};
 
 use blocks::CommitteeView;
-use fixtures::{certificates as texts, core_blocks, verdicts};
-use good_votes::{Checker, GoodVotes, SideBySide};
 use http_server::{Config, Connection};
 use key_index_store::IndexStore;
 use lmots::PrivateSeed;
 use lms_tree::SigningTree;
-use signing_service::{
+use signer_service::{
     Commits, Event, Gate, NoSuccessor, Office, PutBack, Reception, Renewed, Rules, Seen, Signer,
     Sources, Tallies, Witness, serve_calls,
 };
+use signer_votes::{Checker, GoodVotes, SideBySide};
 use stable_log::MemoryDisk;
 use std::alloc::{AllocError, Global};
 use std::hash::RandomState;
@@ -23,6 +22,7 @@ use std::sync::atomic::{AtomicU32, Ordering};
 use std::sync::ledger::Blank;
 use std::thread::Threads;
 use std::time::Clock;
+use test_fixtures::{certificates as texts, core_blocks, verdicts};
 use vote_desk::{Desk, DeskNaming, Parts, Session};
 use vote_log::VoteLog;
 

@@ -2,12 +2,12 @@
 
 use blocks::CommitteeView;
 use certificates::{Certificate, SignedVote};
-use fixtures::{certificates as texts, verdicts};
-use good_votes::{Checker, Claim, GoodVotes, SideBySide};
+use signer_votes::{Checker, Claim, GoodVotes, SideBySide};
 use std::alloc::Global;
 use std::process::Abort;
 use std::sync::Wait;
 use std::thread::Threads;
+use test_fixtures::{certificates as texts, verdicts};
 
 // The certificate of A1, with the last byte of its last vote's signature changed by this much.
 fn certificate<R: Abort>(rt: &R, alloc: Global, by: u8) -> Certificate {

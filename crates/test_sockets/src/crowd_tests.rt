@@ -1,6 +1,6 @@
 //! Many connections of one socket.
 
-use patient_sockets::{Bounds, Next, Rules, Talk, bind, talk_to_all, tick};
+use base_sockets::{Bounds, Next, Rules, Talk, bind, talk_to_all, tick};
 use std::alloc::Global;
 use std::io::{Read, Write};
 use std::net::{Net, SocketAddr, TcpListener, TcpStream};

@@ -1,6 +1,6 @@
 //! How many files may be open.
 
-use patient_sockets::{most_open_files, most_open_files_by};
+use base_sockets::{most_open_files, most_open_files_by};
 use std::alloc::Global;
 use std::fs::{File, Files};
 use std::test::Fail;

@@ -1,6 +1,6 @@
 //! Where it is listened, and streams that are given up.
 
-use patient_sockets::{PatientStream, bind, bind_at_home, dial};
+use base_sockets::{PatientStream, bind, bind_at_home, dial};
 use std::io;
 use std::io::{ErrorKind, Read};
 use std::net::{Net, TcpListener, TcpStream};

@@ -2,13 +2,12 @@
 
 ghost use Rattle.std.specs.Prelude.{IfOk};
 ghost use Rattle.std.specs.List.{All};
-ghost use Rattle.log_transfer.specs.declared.place.TheConstants.{MOST_TRIES};
+ghost use Rattle.log_transfer.specs.declared.reader_state.TheConstants.{MOST_TRIES};
 ghost use Rattle.parallel_verify.specs.Collections.{MayBeTried};
 
 use crate::sources::sources;
 use blocks::CommitteeView;
 use certificates::{LmsVerifier, Verifier};
-use fixtures::{fork_logs, verdicts};
 use lms_tree::PublicKey;
 use log_transfer::MemoryConnector;
 use parallel_verify::{Source, collect_by};
@@ -16,6 +15,7 @@ use std::alloc::AllocError;
 use std::sync::Wait;
 use std::sync::atomic::{AtomicU64, Ordering};
 use std::thread::Threads;
+use test_fixtures::{fork_logs, verdicts};
 
 // Checks signatures, and counts how often it is asked.
 #[derive(Drop)]

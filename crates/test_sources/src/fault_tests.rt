@@ -2,21 +2,21 @@
 
 ghost use Rattle.std.specs.Prelude.{IfOk};
 ghost use Rattle.std.specs.List.{All};
-ghost use Rattle.log_transfer.specs.declared.place.TheConstants.{MOST_TRIES};
+ghost use Rattle.log_transfer.specs.declared.reader_state.TheConstants.{MOST_TRIES};
 ghost use Rattle.parallel_verify.specs.Collections.{MayBeTried};
 
 use crate::report_tests::FORK;
 use crate::sources::{put, source, sources};
+use audit_run::{RunError, audit_run};
+use base_streams::MemorySink;
 use blocks::CommitteeView;
-use fixtures::{fork_logs, verdicts};
 use log_format::Status;
 use log_transfer::MemoryConnector;
 use parallel_verify::{Source, SourceReport, collect};
-use source_audit::{RunError, audit_run};
 use std::alloc::{AllocError, Global};
 use std::sync::Wait;
 use std::thread::Threads;
-use streams::MemorySink;
+use test_fixtures::{fork_logs, verdicts};
 
 // The log of replica 0, from a source whose call behind so many fails.
 fn failing(alloc: Global, pass: u32) -> Result<Vec<Source<MemoryConnector>>, AllocError>

@@ -3,12 +3,11 @@
 ghost use Rattle.std.specs.Prelude.{⊤, IfOk};
 ghost use Rattle.std.specs.List.{All};
 ghost use Rattle.log_transfer.specs.Connections.{ended};
-ghost use Rattle.log_transfer.specs.declared.place.TheConstants.{MOST_TRIES};
+ghost use Rattle.log_transfer.specs.declared.reader_state.TheConstants.{MOST_TRIES};
 ghost use Rattle.parallel_verify.specs.Collections.{MayBeTried};
 
 use crate::sources::put;
 use blocks::CommitteeView;
-use fixtures::{double_vote_logs, verdicts};
 use log_format::Status;
 use log_transfer::{Connector, Fault};
 use parallel_verify::{Source, collect};
@@ -17,6 +16,7 @@ use std::sync::Wait;
 use std::sync::atomic::{AtomicBool, Ordering};
 use std::thread;
 use std::thread::Threads;
+use test_fixtures::{double_vote_logs, verdicts};
 
 // Waits for a flag, and gives up after ten million turns.
 fn is_set(flag: &AtomicBool) -> bool {

@@ -2,18 +2,18 @@
 
 ghost use Rattle.std.specs.Prelude.{IfOk};
 ghost use Rattle.std.specs.List.{All};
-ghost use Rattle.log_transfer.specs.declared.place.TheConstants.{MOST_TRIES};
+ghost use Rattle.log_transfer.specs.declared.reader_state.TheConstants.{MOST_TRIES};
 ghost use Rattle.parallel_verify.specs.Collections.{MayBeTried};
 
 use crate::sources::{put, source, sources};
-use fixtures::{fork_logs, log_entries, lying_log, verdicts};
+use audit_run::audit_run;
+use base_streams::MemorySink;
 use log_transfer::MemoryConnector;
 use parallel_verify::Source;
-use source_audit::audit_run;
 use std::alloc::{AllocError, Global};
 use std::sync::Wait;
 use std::thread::Threads;
-use streams::MemorySink;
+use test_fixtures::{fork_logs, log_entries, lying_log, verdicts};
 
 pub(crate) const FORK: &[u8] = b"source 0 replica 0 Whole frames 4 entries 4
 source 1 replica 3 Whole frames 4 entries 4

@@ -2,7 +2,7 @@
 
 ghost use Rattle.std.specs.Prelude.{IfOk, OnOk};
 ghost use Rattle.std.specs.List.{All};
-ghost use Rattle.log_transfer.specs.declared.place.TheConstants.{MOST_TRIES};
+ghost use Rattle.log_transfer.specs.declared.reader_state.TheConstants.{MOST_TRIES};
 ghost use Rattle.parallel_verify.specs.Collections.{MayBeTried};
 
 use log_transfer::{Connector, MemoryConnector};

@@ -3,7 +3,6 @@
 use crate::sources::sources;
 use blocks::CommitteeView;
 use certificates::{LmsVerifier, Verifier};
-use fixtures::{fork_logs, verdicts};
 use lms_tree::PublicKey;
 use parallel_verify::collect_by;
 use std::process::Abort;
@@ -11,6 +10,7 @@ use std::sync::Wait;
 use std::sync::atomic::{AtomicBool, AtomicU64, Ordering};
 use std::thread;
 use std::thread::Threads;
+use test_fixtures::{fork_logs, verdicts};
 
 // Checks signatures. The first check is held until another has begun, or ten million turns have passed.
 #[derive(Drop)]

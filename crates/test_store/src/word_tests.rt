@@ -2,9 +2,9 @@
 
 use crate::disk_tests::{CHOICES, crashed, disk_of};
 use crate::journal_tests::EMPTY;
+use handover_folder::{GoneOver, WordError, WordStore};
 use stable_log::MemoryDisk;
 use std::process::Abort;
-use told_words::{GoneOver, WordError, WordStore};
 
 const WORD: GoneOver = GoneOver {
     file: [b'f'; 32],

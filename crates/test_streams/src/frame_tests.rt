@@ -1,9 +1,9 @@
 //! Frames of streams, and requests for them. The stored export is an independent program's; what streams of a few
 //! bytes hold is worked out by hand, from docs/FORMATS.md.
 
-use fixtures::exports::nine_entries;
 use log_format::{FrameRequest, Frames, Status};
 use std::alloc::{AllocError, Global};
+use test_fixtures::exports::nine_entries;
 
 // The stored export has nine frames, each of a length of 4 bytes and a payload of 1,704.
 const FRAME: usize = 1708;

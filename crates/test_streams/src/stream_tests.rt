@@ -1,7 +1,7 @@
 //! Devices in memory, with and without failures, and a stream that tells its bytes. What they give is worked out by
 //! hand.
 
-use streams::{Feed, MemoryFeed, MemorySink, Sink, StdFeed, StdSink, write_all};
+use base_streams::{Feed, MemoryFeed, MemorySink, Sink, StdFeed, StdSink, write_all};
 
 // Whether of three writes the second fails, and with `forever` the third too.
 fn sink_fails(sink: &mut MemorySink, forever: bool) -> bool {

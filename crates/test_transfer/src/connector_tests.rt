@@ -5,7 +5,7 @@ ghost use Rattle.log_transfer.specs.Places.{MayTry};
 use crate::serve_tests::log_of_nine;
 use crate::sources::{cut_in_the_fifth, gives, has, source_of};
 use crate::watched_tests::{SOURCE, Steps};
-use fixtures::exports::nine_entries;
+use base_streams::{StdFeed, StdSink};
 use log_format::{REQUEST_LEN, Status};
 use log_server::serve;
 use log_transfer::{Connector, FileConnector, Pull, SourceConnector, Step, TcpConnector, Watched};
@@ -19,7 +19,7 @@ use std::test::Fail;
 use std::thread::{Threads, join};
 use std::time::{Clock, Duration};
 use std::{fs, io};
-use streams::{StdFeed, StdSink};
+use test_fixtures::exports::nine_entries;
 use vote_log::VoteLog;
 
 #[test]

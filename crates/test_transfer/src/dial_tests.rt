@@ -3,16 +3,15 @@
 ghost use Rattle.std.specs.Prelude.{Some, false, true};
 
 use crate::sources::gives;
-use chain_dialing::{ChainDialer, ChainServer, Heard};
-use chain_request::{Asked, NO_LOG, asked_in};
-use fixtures::exports::nine_entries;
 use log_format::{FrameRequest, Status};
+use log_request::{Asked, ChainDialer, ChainServer, Heard, NO_LOG, asked_in};
 use log_transfer::{Connector, Dial, ServerConnector};
 use std::alloc::Global;
 use std::io;
 use std::io::{Read, Write};
 use std::process::Abort;
 use std::time::Clock;
+use test_fixtures::exports::nine_entries;
 
 // Gives the stored export, and keeps what is written to it.
 #[derive(Drop)]

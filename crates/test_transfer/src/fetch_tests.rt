@@ -1,10 +1,10 @@
 //! Sources that break off. The stored export and the requests are an independent program's.
 
 use crate::sources::{IN_THE_FIFTH, cut_in_the_fifth, cut_source, gives, rest_from, source_of};
-use fixtures::exports::nine_entries;
 use log_format::Status;
 use log_transfer::Connector;
 use std::process::Abort;
+use test_fixtures::exports::nine_entries;
 
 // The request for the whole log, and one frame more than a log may have.
 const ALL: &[u8; 12] = b"HSL1\0\0\0\0\0\0\x10\x01";

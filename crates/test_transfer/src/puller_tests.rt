@@ -1,9 +1,9 @@
 //! Streams that come in pieces. The stored export is an independent program's.
 
-use fixtures::exports::nine_entries;
 use log_format::{Frames, Status};
 use log_transfer::Puller;
 use std::alloc::Global;
+use test_fixtures::exports::nine_entries;
 
 // Whether a stream that comes in pieces of this size gives so many frames, and ends so, where so many frames were held
 // before.

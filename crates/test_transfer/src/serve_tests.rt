@@ -2,15 +2,15 @@
 
 ghost use Rattle.blocks.specs.Headers.{IsGenesis};
 
+use base_streams::{Feed, MemoryFeed, MemorySink};
 use blocks::{CommitteeView, Header};
-use fixtures::exports::nine_entries;
-use fixtures::{log_entries, verdicts};
 use log_format::{Entry, Frames};
 use log_server::{ServeError, serve};
 use stable_log::{Disk, MemoryDisk};
 use std::alloc::Global;
 use std::process::Abort;
-use streams::{Feed, MemoryFeed, MemorySink};
+use test_fixtures::exports::nine_entries;
+use test_fixtures::{log_entries, verdicts};
 use vote_log::VoteLog;
 
 fn genesis<R: Abort>(rt: &R) -> Header

@@ -5,13 +5,13 @@ ghost use Rattle.log_transfer.specs.Connections.{ended};
 
 use crate::serve_tests::log_of_nine;
 use crate::sources::gives;
+use base_streams::{Fault, Feed, Fuse, MemoryFeed, MemorySink};
 use log_format::{FrameRequest, Status};
 use log_server::serve;
 use log_transfer::Connector;
 use stable_log::MemoryDisk;
 use std::alloc::Global;
 use std::process::Abort;
-use streams::{Fault, Feed, Fuse, MemoryFeed, MemorySink};
 use vote_log::VoteLog;
 
 // Serves each request of its reader from a log, and fails where it is told to.

@@ -3,11 +3,11 @@
 ghost use Rattle.std.specs.Prelude.{◌≤◌, ◌<◌};
 ghost use Rattle.log_transfer.specs.Places.{MayTry};
 
-use fixtures::exports::nine_entries;
 use log_format::{Frames, Status};
 use log_transfer::{Connector, MemoryConnector, Payload, fetch};
 use std::alloc::{AllocError, Global};
 use std::process::Abort;
+use test_fixtures::exports::nine_entries;
 
 // The bytes of each frame of the stored export: a length of 4 bytes and a payload of 1,704.
 const FRAME: usize = 1708;

@@ -4,10 +4,11 @@
 ghost use Rattle.std.specs.Prelude.{◌≡◌};
 
 use crate::votes::{bad_vote, committee, good_vote};
+use base_shared::Shared;
 use blocks::CommitteeView;
 use certificates::{LmsVerifier, SignedVote, Verifier};
 use lms_tree::{PublicKey, verify};
-use shared_values::Shared;
+use parallel_verify::{Board, BoardNaming};
 use std::alloc::Global;
 use std::marker::Brand;
 use std::process::Abort;
@@ -15,7 +16,6 @@ use std::sync::Wait;
 use std::sync::atomic::{AtomicBool, Ordering};
 use std::thread;
 use std::thread::Threads;
-use vote_board::{Board, BoardNaming};
 
 // Waits for a flag, and gives up after ten million turns.
 fn is_set(flag: &AtomicBool) -> bool {

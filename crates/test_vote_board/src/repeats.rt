@@ -3,16 +3,16 @@
 ghost use Rattle.std.specs.Prelude.{◌≡◌};
 
 use crate::votes::{bad_vote, committee, good_vote};
+use base_shared::Shared;
 use blocks::CommitteeView;
 use certificates::{LmsVerifier, SignedVote, Verifier};
 use lms_tree::PublicKey;
-use shared_values::Shared;
+use parallel_verify::{Board, BoardNaming};
 use std::alloc::Global;
 use std::cell::Cell;
 use std::marker::Brand;
 use std::process::Abort;
 use std::sync::Wait;
-use vote_board::{Board, BoardNaming};
 
 // Checks signatures, and counts how often it is asked.
 #[derive(Drop)]

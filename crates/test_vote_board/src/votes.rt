@@ -1,11 +1,11 @@
 //! What the tests share, over bytes of an independent program.
 
+use base_shared::Shared;
 use blocks::CommitteeView;
 use certificates::{Certificate, SignedVote};
-use fixtures::{certificates as texts, verdicts};
-use shared_values::Shared;
 use std::alloc::Global;
 use std::process::Abort;
+use test_fixtures::{certificates as texts, verdicts};
 
 /// The stored committee.
 pub(crate) fn committee<R: Abort>(rt: &R) -> CommitteeView<'static> {

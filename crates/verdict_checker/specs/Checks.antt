@@ -1,7 +1,7 @@
 -- The tests of the checker, in their order.
 use Rattle.std.specs.Prelude.{◌≡◌, ◌<◌, ◌==◌, ℕ, List, [], ◌∷◌, codes, IsSomeAnd, ⊤}
 use Rattle.std.specs.Bool.{MatchBool}
-use Rattle.wire.specs.Refusals.{AllPassed, IsFirst}
+use Rattle.base_wire.specs.Refusals.{AllPassed, IsFirst}
 use Rattle.blocks.specs.Committees.{n_of, keys_of}
 use Rattle.blocks.specs.Genesis.{chain_id_of}
 use Rattle.blocks.specs.Headers.{NamesParent}

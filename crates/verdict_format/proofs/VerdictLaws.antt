@@ -3,8 +3,8 @@ use Rattle.std.proofs.Common.{◌≡◌, ℕ, ◌+◌, ◌^◌, ◌<◌, ◌≤�
 use Rattle.std.specs.Prelude.{codes, slice_index, IsSome}
 use Rattle.std.proofs.lemmas.List.{drop_all, length-append, take_all}
 use Rattle.byteorder.specs.Endian.{big_bytes}
-use Rattle.wire.specs.Pieces.{piece, number_at, AreBytes}
-use Rattle.wire.proofs.Numbers.{front, behind, taken, cut_last, AreBytes-piece, length-piece, piece-number_at, number_again, number_below}
+use Rattle.base_wire.specs.Pieces.{piece, number_at, AreBytes}
+use Rattle.base_wire.proofs.Numbers.{front, behind, taken, cut_last, AreBytes-piece, length-piece, piece-number_at, number_again, number_below}
 use Rattle.blocks.specs.Headers.{Header, header_text}
 use Rattle.blocks.specs.HeaderReading.{header_in}
 use Rattle.blocks.specs.declared.header.HeaderRefusal.{HeaderRefusal}

@@ -1,7 +1,7 @@
 -- Why bytes are no verdict: the tests of a reader, in their order.
 use Rattle.std.specs.Prelude.{◌≡◌, ◌≤◌, ℕ, List, [], ◌∷◌, length, codes}
-use Rattle.wire.specs.Pieces.{piece}
-use Rattle.wire.specs.Refusals.{AllPassed, IsFirst}
+use Rattle.base_wire.specs.Pieces.{piece}
+use Rattle.base_wire.specs.Refusals.{AllPassed, IsFirst}
 use Rattle.verdict_format.specs.declared.verdict.TheConstants.{EARLIER_AT}
 use Rattle.verdict_format.specs.declared.verdict.VerdictRefusal.{VerdictRefusal}
 use Rattle.verdict_format.specs.declared.verdict.VerdictRefusal.TheVariants.{Short, Magic, Kind, Length}

@@ -1,6 +1,6 @@
 -- The text of a verdict, as docs/FORMATS.md, "Verdict", lays it out: what stands where in it.
 use Rattle.std.specs.Prelude.{◌≡◌, ◌⊎◌, ◌+◌, ◌==◌, ℕ, List, length, slice_index, codes, Option, Some, None, Result, Ok, Err, if◌then◌else◌}
-use Rattle.wire.specs.Pieces.{piece, number_at}
+use Rattle.base_wire.specs.Pieces.{piece, number_at}
 use Rattle.certificates.specs.declared.vote.SignedVote.{SignedVote}
 use Rattle.blocks.specs.Headers.{Header}
 use Rattle.blocks.specs.HeaderReading.{header_in}

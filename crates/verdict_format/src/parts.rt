@@ -5,11 +5,11 @@ ghost use Rattle.verdict_format.specs.RuleNumbers.{rule_number};
 ghost use Rattle.verdict_format.specs.VerdictText.{HasBytes, IsBoundVote, IsVerdictOf, bound_text, head_text, shown_text, verdict_kind, verdict_text};
 
 use crate::verdict::Rule;
+use base_wire::append;
 use blocks::{Header, Id};
 use lms_tree::Signature;
 use std::alloc::{AllocError, Global};
 use std::marker::Model;
-use wire::append;
 
 /// A vote of the accused replica.
 #[derive(Clone, Copy, Debug)]

@@ -4,16 +4,16 @@ ghost use Rattle.std.specs.Prelude.{◌≡◌, ◌+◌, ◌≤◌, Ok, IfOk, IfE
 ghost use Rattle.verdict_format.specs.Verdicts.{chain_in, replica_in, verdict_kind_in, earlier_in, later_in, earlier_key_in, later_key_in, earlier_signature_in, later_signature_in, all_read, headers_in, verdict_length, IsKind};
 ghost use Rattle.verdict_format.specs.RuleNumbers.{rule_number};
 ghost use Rattle.blocks.specs.HeaderReading.{header_in};
-ghost use Rattle.wire.specs.Pieces.{piece};
+ghost use Rattle.base_wire.specs.Pieces.{piece};
 ghost use Rattle.verdict_format.specs.VerdictText.{HeadersAreReadable, IsShownIn, IsVerdictOf, parts_in};
 ghost use Rattle.verdict_format.specs.declared.parts.VerdictParts.{VerdictParts};
 ghost use Rattle.verdict_format.specs.VerdictReading.{IsReadableVerdict, IsFormRefusal, verdict_refusal_number};
 
 use crate::parts::{Shown, VotedHeaders};
+use base_wire::{array_at, u16_at, u64_at};
 use blocks::{Ballot, HEADER_LEN, Header, HeaderRefusal, Id};
 use certificates::BOUND_VOTE_LEN;
 use std::marker::Model;
-use wire::{array_at, u16_at, u64_at};
 
 // Where each part of a verdict stands, in bytes.
 pub(crate) const CHAIN_AT: usize = 4;

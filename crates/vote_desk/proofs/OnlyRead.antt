@@ -1,8 +1,8 @@
 -- A desk whose log was read, and not written.
 use Rattle.std.proofs.Common.{◌≡◌, ℕ, List, Option, IfSome, Result, Ok, Err, IfOk, OnOk, false, length, refl, subst, sym, ◌∙◌}
 use Rattle.blocks.specs.Replica.{Stored}
-use Rattle.streams.specs.Counting.{HasFailed}
-use Rattle.streams.specs.Streams.{Wrote}
+use Rattle.base_streams.specs.Counting.{HasFailed}
+use Rattle.base_streams.specs.Streams.{Wrote}
 use Rattle.stable_log.specs.Crash.{Unwritten}
 use Rattle.stable_log.proofs.Told.{some_if, if_some}
 use Rattle.vote_log.specs.LogExport.{Blames, export_of, frame_count}

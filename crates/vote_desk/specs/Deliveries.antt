@@ -1,6 +1,6 @@
 -- What one delivery or one timeout does to a desk.
 use Rattle.std.specs.Prelude.{◌≡◌, ◌≢◌, ◌<◌, ◌+◌, ◌++◌, ◌⊎◌, ◌↔◌, ℕ, List, [], ◌∷◌, Option, Some, None, IfSome, IsSome, Bool, true, false, length}
-use Rattle.streams.specs.Counting.{HasFailed}
+use Rattle.base_streams.specs.Counting.{HasFailed}
 use Rattle.lmots.specs.declared.keys.PrivateSeed.{PrivateSeed}
 use Rattle.lms_tree.specs.Tree.{lms_signature, tree_root, Verifies}
 use Rattle.blocks.specs.Headers.{Header, header_id}

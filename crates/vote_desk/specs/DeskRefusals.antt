@@ -11,7 +11,7 @@ use Rattle.replica_core.specs.declared.refusal.CoreRefusal.TheVariants as core
 use Rattle.replica_core.specs.Admission.{IsAdmissible, IsCoreRefusal}
 use Rattle.replica_core.specs.Cores.{Core as CoreValue}
 use Rattle.replica_core.specs.Plans.{IsChainOf, IsActOn}
-use Rattle.wire.specs.declared.limits.TheConstants.{MOST_ENTRIES}
+use Rattle.base_wire.specs.declared.limits.TheConstants.{MOST_ENTRIES}
 use Rattle.key_index_store.specs.State.{IndexState}
 use Rattle.key_index_store.specs.Indices.{limit_of}
 use Rattle.key_index_store.specs.declared.error.IndexError.{IndexError}

@@ -3,7 +3,7 @@ use Rattle.std.specs.Prelude.{◌≡◌, ◌<◌, ◌≤◌, ◌⊎◌, ◌+◌,
 use Rattle.std.specs.List.{All, AllPairs, count_by}
 use Rattle.lmots.specs.declared.keys.PrivateSeed.{PrivateSeed}
 use Rattle.lms_tree.specs.Tree.{tree_root}
-use Rattle.wire.specs.Pieces.{number_at}
+use Rattle.base_wire.specs.Pieces.{number_at}
 use Rattle.blocks.specs.Headers.{Header}
 use Rattle.blocks.specs.Committees.{n_of, keys_of, key_id_at, root_at}
 use Rattle.blocks.specs.Genesis.{chain_id_of, genesis_of}
@@ -14,7 +14,7 @@ use Rattle.replica_core.specs.Restarts.{HoldsLinked}
 use Rattle.replica_core.specs.Tables.{HasId}
 use Rattle.key_index_store.specs.State.{IndexState}
 use Rattle.key_index_store.specs.Indices.{limit_of}
-use Rattle.wire.specs.declared.limits.TheConstants.{MOST_ENTRIES}
+use Rattle.base_wire.specs.declared.limits.TheConstants.{MOST_ENTRIES}
 use Rattle.vote_desk.specs.declared.parts.Left.{Left}
 use Rattle.vote_desk.specs.declared.parts.DeskStatus.{DeskStatus}
 use Rattle.key_index_store.specs.declared.store.TheConstants.{INDICES}

@@ -1,12 +1,12 @@
 -- A statement of next keys that the replica signs: what a signature does to a desk, and when it is refused.
 use Rattle.std.specs.Prelude.{◌≡◌, ◌≢◌, ◌<◌, ◌≤◌, ◌+◌, ℕ, List, IfSome, true}
-use Rattle.streams.specs.Counting.{HasFailed}
+use Rattle.base_streams.specs.Counting.{HasFailed}
 use Rattle.lmots.specs.declared.keys.PrivateSeed.{PrivateSeed}
 use Rattle.lms_tree.specs.Tree.{Verifies, tree_root}
 use Rattle.blocks.specs.Committees.{keys_of}
 use Rattle.certificates.specs.Statements.{statement_text}
 use Rattle.key_index_store.specs.Indices.{key_of, limit_of, q_of}
-use Rattle.next_keys.specs.Endorsements.{IsSigned}
+use Rattle.handover_keys.specs.Endorsements.{IsSigned}
 use Rattle.stable_log.specs.declared.disk.Disk.{Ghosts}
 use Rattle.vote_desk.specs.declared.desk_error.DeskError.{DeskError}
 use Rattle.vote_desk.specs.declared.desk_error.DeskError.TheVariants.{Memory, KeySpent, Device, Stopped}

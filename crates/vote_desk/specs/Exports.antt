@@ -2,8 +2,8 @@
 use Rattle.std.specs.Prelude.{◌≡◌, ℕ, List, Option, IfSome, false, length}
 use Rattle.stable_log.specs.Devices.{Untouched}
 use Rattle.stable_log.specs.declared.disk.Disk.{Ghosts}
-use Rattle.streams.specs.Counting.{HasFailed}
-use Rattle.streams.specs.Streams.{Wrote}
+use Rattle.base_streams.specs.Counting.{HasFailed}
+use Rattle.base_streams.specs.Streams.{Wrote}
 use Rattle.vote_log.specs.LogExport.{IsExportRefusal, export_of, frame_count}
 use Rattle.vote_log.specs.Logs.{LogState}
 use Rattle.vote_log.specs.declared.export_error.ExportError.{ExportError}

@@ -5,7 +5,7 @@ use Rattle.blocks.specs.Headers.{Header}
 use Rattle.blocks.specs.Replay.{replay}
 use Rattle.blocks.specs.Replica.{Stored}
 use Rattle.log_format.specs.EntryText.{Entry, own_vote_of}
-use Rattle.streams.specs.Counting.{HasFailed}
+use Rattle.base_streams.specs.Counting.{HasFailed}
 use Rattle.stable_log.specs.declared.disk.Disk.{Ghosts}
 use Rattle.vote_log.specs.LogRefusals.{IsLogEntryRefusal}
 use Rattle.vote_log.specs.Logs.{LogState}

@@ -9,12 +9,12 @@ use crate::desk_error::DeskError;
 use crate::naming::DeskNaming;
 use crate::seal::Seal;
 use crate::state::DeskState;
-use next_keys::{NextKeysView, no_statement_is_a_vote};
+use handover_keys::{NextKeysView, no_statement_is_a_vote};
 use stable_log::Disk;
 
 /// Signs a statement of next keys with a key of the replica, at a replica that stands behind no lock: under the next index, which
 /// no other call gives again. This releases no vote, and core and log stay as they are. Which chain, replica and keys the statement
-/// names is not looked at. `next_keys::write_endorsement` puts statement and seal together.
+/// names is not looked at. `handover_keys::write_endorsement` puts statement and seal together.
 ///
 /// No refusal uses up an index, and any but `Device` leaves the desk as it is. After `Device` the desk is stopped: close it, and
 /// recover log and index store. In this order: `Stopped`, `KeySpent`, `Memory`, `Device`.

@@ -1,8 +1,8 @@
 //! Drawing an index, and signing under it.
 
 ghost use Rattle.std.specs.Prelude.{◌≡◌, ◌≢◌, ◌+◌, ◌<◌, ◌≤◌, length, true, false, IfOk, IfErr, IfSome, IsErrOf, OnOk};
-ghost use Rattle.streams.specs.Counting.{HasFailed};
-ghost use Rattle.wire.specs.declared.limits.TheConstants.{MOST_KEYS};
+ghost use Rattle.base_streams.specs.Counting.{HasFailed};
+ghost use Rattle.base_wire.specs.declared.limits.TheConstants.{MOST_KEYS};
 ghost use Rattle.key_index_store.specs.Indices.{key_of, limit_of};
 ghost use Rattle.key_index_store.specs.declared.store.TheConstants.{INDICES};
 ghost use Rattle.lms_tree.specs.declared.TheConstants.{LEAVES};

@@ -13,7 +13,7 @@ ghost use Rattle.replica_core.specs.Plans.{HoldsAlso, IsPlan, TakesEvent};
 ghost use Rattle.stable_log.specs.Crash.{LeavesOnly};
 ghost use Rattle.log_format.specs.EntryText.{IsEntry};
 ghost use Rattle.vote_log.specs.Logs.{AreListed, IsLogBeforeOrAfter, LeavesEntries, StandsForEntries};
-ghost use Rattle.wire.specs.declared.limits.TheConstants.{MOST_ENTRIES, MOST_KEYS};
+ghost use Rattle.base_wire.specs.declared.limits.TheConstants.{MOST_ENTRIES, MOST_KEYS};
 ghost use Rattle.key_index_store.specs.Indices.{limit_of};
 ghost use Rattle.vote_desk.specs.Deliveries.{BoundsIndices, DrawsAtMostOne, FailsLog, FailsNone, FailsOne, IsKept, IsLeftBy, IsLeftWith, IsLegalPlan, IsStored, entry_of, signed_in, vote_under};
 ghost use Rattle.vote_desk.specs.DeskRefusals.{HasRoom, HasRoomTo, IsPlanRefusal, IsRunning, IsStopped, IsStorageRefusal};
@@ -24,7 +24,7 @@ ghost use Rattle.vote_desk.specs.Firsts.{IsMarkedAgain, IsMarkedOnce};
 ghost use Rattle.vote_desk.specs.Holding.{IsHoldRefusal, IsStill, LeavesListOnly, MayHold};
 ghost use Rattle.vote_desk.specs.Votes.{IsFoundSince, IsVoteFound, IsVoteInRefusal};
 ghost use Rattle.vote_log.specs.LogExport.{Blames, IsExportRefusal, export_of};
-ghost use Rattle.streams.specs.Streams.{WrotePart};
+ghost use Rattle.base_streams.specs.Streams.{WrotePart};
 ghost use Rattle.vote_desk.specs.Stays.{IsImageAfter, IsStay, stay_in};
 
 use crate::desk_error::DeskError;
@@ -37,6 +37,7 @@ use crate::session::Session;
 use crate::signing::{draw, draw_seal};
 use crate::storing::{check_room, store};
 use crate::votes::vote_in;
+use base_streams::Sink;
 use blocks::{CommitteeView, Header, Id};
 use certificates::CheckedBlock;
 use key_index_store::IndexStore;
@@ -45,7 +46,6 @@ use replica_core::{Act, Core, CoreRefusal, MARK_LEN, Plan, is_marked};
 use stable_log::Disk;
 use std::marker::Model;
 use std::sync::ledger::Book;
-use streams::Sink;
 use vote_log::{ExportError, LogError, MOST_ENTRIES, VoteLog};
 
 /// What stands under a desk's lock: the core of a replica, its keys, their indices, its log, and the book of the votes

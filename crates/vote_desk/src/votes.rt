@@ -2,7 +2,7 @@
 
 ghost use Rattle.std.specs.Prelude.{◌≡◌, ◌≢◌, ◌↔◌, false, IfErr, IfOk, IsErrOf, IsTrue, MatchOption, OnOk};
 ghost use Rattle.stable_log.specs.Devices.{Untouched};
-ghost use Rattle.streams.specs.Counting.{HasFailed};
+ghost use Rattle.base_streams.specs.Counting.{HasFailed};
 ghost use Rattle.vote_desk.specs.Votes.{AreFound, HasNoVote, IsFoundIfIn, IsNotFound, IsVoteAt, IsVoteFound, IsVoteInRefusal, IsVoteOfView};
 
 use crate::receipts::is_receipt;

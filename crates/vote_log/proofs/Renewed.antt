@@ -6,8 +6,8 @@ use Rattle.std.proofs.lemmas.List.{append-nil, take_at, drop_at, drop-drop, drop
 use Rattle.std.proofs.lemmas.List.Concat.{flat_map-cons}
 use Rattle.std.proofs.lemmas.List.Elements.{All-head, All-tail, All-nil, All-cons}
 use Rattle.byteorder.specs.Endian.{big_bytes}
-use Rattle.wire.specs.Pieces.{piece}
-use Rattle.wire.proofs.Numbers.{front, behind, cut, length-piece, number_again}
+use Rattle.base_wire.specs.Pieces.{piece}
+use Rattle.base_wire.proofs.Numbers.{front, behind, cut, length-piece, number_again}
 use Rattle.blocks.specs.Headers.{Header, header_id, header_text}
 use Rattle.certificates.specs.declared.certificate.Endorsement.{Endorsement}
 use Rattle.certificates.specs.Certificates.{Certificate, IsCertificate, IsEndorsement, certificate_text, endorsement_text}

@@ -7,8 +7,8 @@ use Rattle.std.proofs.lemmas.List.Concat.{flat_map-append}
 use Rattle.std.proofs.Math.Seq.{take-add}
 use Rattle.std.proofs.lemmas.Bool.{cases_lt}
 use Rattle.log_format.specs.Exports.{asked_for, end_mark, export_text, frame_text}
-use Rattle.streams.specs.Streams.{Wrote, WrotePart}
-use Rattle.streams.proofs.Writing.{wrote_both, wrote_nothing}
+use Rattle.base_streams.specs.Streams.{Wrote, WrotePart}
+use Rattle.base_streams.proofs.Writing.{wrote_both, wrote_nothing}
 use Rattle.blocks.specs.Replica.{Stored}
 use Rattle.stable_log.proofs.Told.{some_if}
 use Rattle.log_format.specs.EntryReading.{entry_in}

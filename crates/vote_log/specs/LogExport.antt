@@ -2,7 +2,7 @@
 use Rattle.std.specs.Prelude.{ℕ, ◌≡◌, ◌<◌, ◌-◌, min, List, [], take, drop, length, slice_index_or, Result, Ok, Err, true, false}
 use Rattle.std.specs.List.{flat_map}
 use Rattle.log_format.specs.Exports.{export_text, frame_text}
-use Rattle.streams.specs.Counting.{HasFailed}
+use Rattle.base_streams.specs.Counting.{HasFailed}
 use Rattle.log_format.specs.EntryText.{Entry}
 use Rattle.vote_log.specs.Logs.{LogState, texts_of}
 use Rattle.vote_log.specs.declared.export_error.ExportError.{ExportError}

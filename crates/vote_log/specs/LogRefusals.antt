@@ -2,7 +2,7 @@
 -- refused, `Device` where the disk failed.
 use Rattle.std.specs.Prelude.{ℕ, ◌≡◌, ◌≢◌, ◌≤◌, ◌<◌, List, [], length, take, Option, IfSome, true, false}
 use Rattle.blocks.specs.Headers.{Header}
-use Rattle.wire.specs.declared.limits.TheConstants.{MOST_ENTRIES}
+use Rattle.base_wire.specs.declared.limits.TheConstants.{MOST_ENTRIES}
 use Rattle.stable_log.specs.Image.{magic, StandsFor}
 use Rattle.stable_log.specs.State.{JournalState}
 use Rattle.stable_log.specs.Refusals.{IsDamaged, MayRead}

@@ -3,7 +3,7 @@
 use Rattle.std.specs.Prelude.{ℕ, ◌≡◌, ◌≢◌, ◌⊎◌, List, [], length, Option, None, IfSome, true, false}
 use Rattle.blocks.specs.Headers.{Header}
 use Rattle.blocks.specs.Replay.{Durable, IsLegalEntry}
-use Rattle.streams.specs.Counting.{HasFailed}
+use Rattle.base_streams.specs.Counting.{HasFailed}
 use Rattle.stable_log.specs.Devices.{Untouched}
 use Rattle.stable_log.specs.State.{JournalState}
 use Rattle.stable_log.specs.declared.disk.Disk.{Ghosts}

@@ -1,7 +1,7 @@
 -- The bytes of an entry in the old form, and what they become in the form of today: a number of a key, 0, goes in
 -- front of the own vote and behind each number of a replica.
 use Rattle.std.specs.Prelude.{◌≡◌, ◌≤◌, ◌==◌, ◌+◌, ◌*◌, ◌++◌, ◌⊎◌, ℕ, zero, suc, Bool, List, [], ◌∷◌, length, take, drop, slice_index, if◌then◌else◌}
-use Rattle.wire.specs.Pieces.{piece}
+use Rattle.base_wire.specs.Pieces.{piece}
 use Rattle.certificates.specs.CertificateReading.{count_in}
 use Rattle.vote_log.specs.declared.old_entry.TheConstants.{BEHIND_VOTE, OLD_ENDORSEMENT_LEN, OLD_VOTE_LEN}
 

@@ -4,15 +4,15 @@ ghost use Rattle.std.specs.Prelude.{◌≡◌, ◌≤◌, ◌<◌, ◌+◌, ◌-
 ghost use Rattle.std.specs.List.{flat_map};
 ghost use Rattle.log_format.specs.Exports.{asked_for, end_mark, export_text, frame_text};
 ghost use Rattle.stable_log.specs.Devices.{Untouched};
-ghost use Rattle.wire.specs.declared.limits.TheConstants.{LONGEST_PAYLOAD};
-ghost use Rattle.streams.specs.Streams.{Wrote, WrotePart};
+ghost use Rattle.base_wire.specs.declared.limits.TheConstants.{LONGEST_PAYLOAD};
+ghost use Rattle.base_streams.specs.Streams.{Wrote, WrotePart};
 ghost use Rattle.vote_log.specs.LogExport.{Blames, frame_at, frame_count, frames_from};
 
 use crate::ExportError;
+use base_streams::{Sink, write_all};
+use base_wire::{LONGEST_PAYLOAD, put};
 use stable_log::{Disk, Journal};
 use std::alloc::{AllocError, Global};
-use streams::{Sink, write_all};
-use wire::{LONGEST_PAYLOAD, put};
 
 // What stands in front of a payload: its length.
 const FRAME_HEAD: usize = 4;

@@ -4,8 +4,8 @@ ghost use Rattle.std.specs.Prelude.{◌≡◌};
 ghost use Rattle.vote_log.specs.LogExport.{export_error_number};
 ghost use Rattle.vote_log.specs.declared.export_error.ExportError.TheVariants.{Memory, Sink};
 
+use base_streams::Fault;
 use std::alloc::{AllocError, AllocFailed};
-use streams::Fault;
 
 /// Why a log is not sent out. The numbers are fixed.
 #[derive(Clone, Copy, Debug, PartialEq, Eq)]

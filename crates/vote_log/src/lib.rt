@@ -10,10 +10,10 @@ mod migration;
 mod old_entry;
 mod reading;
 
+pub use base_streams::{Fault, Feed, MemoryFeed, MemorySink, Sink, StdFeed, StdSink};
+pub use base_wire::MOST_ENTRIES;
 pub use export_error::ExportError;
 pub use log::VoteLog;
 pub use log_error::LogError;
 pub use log_format::{Entry, EntryRefusal, Frames, Status, entries_have_one_spelling};
 pub use migration::migrate;
-pub use streams::{Fault, Feed, MemoryFeed, MemorySink, Sink, StdFeed, StdSink};
-pub use wire::MOST_ENTRIES;

@@ -6,10 +6,10 @@ ghost use Rattle.blocks.specs.Headers.{IsGenesis};
 ghost use Rattle.blocks.specs.Replay.{IsLegal, replay};
 ghost use Rattle.stable_log.specs.Crash.{Follows, Only, Torn};
 ghost use Rattle.stable_log.specs.Devices.{AtAnyMoment, Untouched};
-ghost use Rattle.streams.specs.Counting.{BlamesDevice, HasFailed};
-ghost use Rattle.wire.specs.declared.limits.TheConstants.{MOST_ENTRIES};
+ghost use Rattle.base_streams.specs.Counting.{BlamesDevice, HasFailed};
+ghost use Rattle.base_wire.specs.declared.limits.TheConstants.{MOST_ENTRIES};
 ghost use Rattle.stable_log.specs.Image.{empty_journal};
-ghost use Rattle.streams.specs.Streams.{Wrote, WrotePart};
+ghost use Rattle.base_streams.specs.Streams.{Wrote, WrotePart};
 ghost use Rattle.log_format.specs.EntryText.{Entry as EntryValue, IsEntry, stored_in};
 ghost use Rattle.vote_log.specs.LogExport.{Blames, IsExportRefusal, export_of, frame_count};
 ghost use Rattle.vote_log.specs.LogRefusals.{IsLogAppendRefusal, IsLogCreateRefusal, IsLogEntryRefusal, IsLogRecoverRefusal, LogMayAppend, LogMayRead};
@@ -18,13 +18,13 @@ ghost use Rattle.vote_log.specs.Logs.{AddsEntry, AreListed, IsLikeLog, IsLogBefo
 use crate::export::{LONGEST_FRAME, buffer_of, send_export};
 use crate::reading::{read_entry, read_steps};
 use crate::{Entry, ExportError, LogError};
+use base_streams::Sink;
+use base_wire::MOST_ENTRIES;
 use blocks::{Header, NamedHeader};
 use replica_core::{Durable, Stored, replay};
 use stable_log::{Disk, Journal};
 use std::alloc::Global;
 use std::marker::Model;
-use streams::Sink;
-use wire::MOST_ENTRIES;
 
 /// The entries of a replica, in the order in which it stored them, on a disk. Each is legal after the ones before
 /// it: a vote is above the last one, and on the lock or on a parent younger than it; a lock that is raised without a

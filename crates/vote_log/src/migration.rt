@@ -3,7 +3,7 @@
 ghost use Rattle.std.specs.Prelude.{◌≡◌, ◌≢◌, ◌<◌, ◌⊎◌, ◌↔◌, ℕ, List, [], Some, false, length, IfErr, IfOk, IfSome, IsErrOf, IsSome, MatchResult, OnErr, OnOk};
 ghost use Rattle.blocks.specs.Headers.{IsGenesis};
 ghost use Rattle.blocks.specs.Replay.{IsLegal, IsLegalEntry, replay_entry};
-ghost use Rattle.streams.specs.Counting.{HasFailed};
+ghost use Rattle.base_streams.specs.Counting.{HasFailed};
 ghost use Rattle.stable_log.specs.Devices.{Untouched};
 ghost use Rattle.log_format.specs.EntryText.{Entry as EntryValue, stored_in};
 ghost use Rattle.vote_log.specs.Logs.{LeavesEntries, steps_of};

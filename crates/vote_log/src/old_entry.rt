@@ -7,11 +7,11 @@ ghost use Rattle.vote_log.specs.declared.old_entry.TheConstants.{OLD_ENDORSEMENT
 ghost use Rattle.vote_log.specs.Renewing.{HasOldForm, IsOldKind, IsOldWhole, is_old_voted, old_place, renewed, renewed_certificate, renewed_endorsement, renewed_endorsements, renewed_kind, renewed_own};
 
 use crate::{Entry, EntryRefusal, LogError};
+use base_wire::{append, u16_at};
 use blocks::HEADER_LEN;
 use certificates::CERTIFICATE_HEAD_LEN;
 use lms_tree::SIGNATURE_LEN;
 use std::alloc::{AllocError, Global};
-use wire::{append, u16_at};
 
 /// The first byte of an old entry with the replica's own vote.
 const OLD_VOTED: u8 = 1;

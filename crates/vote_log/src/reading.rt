@@ -3,7 +3,7 @@
 ghost use Rattle.std.specs.Prelude.{◌≡◌, ◌≢◌, ℕ, List, false, length, Some, IfErr, IfOk, IfSome, IsErrOf, OnOk};
 ghost use Rattle.blocks.specs.Replay.{IsLegal, replay};
 ghost use Rattle.stable_log.specs.Devices.{Untouched};
-ghost use Rattle.streams.specs.Counting.{HasFailed};
+ghost use Rattle.base_streams.specs.Counting.{HasFailed};
 ghost use Rattle.stable_log.specs.Refusals.{MayRead};
 ghost use Rattle.vote_log.specs.LogRefusals.{IsEntryReadRefusal, IsStepsRefusal};
 ghost use Rattle.vote_log.specs.Logs.{AreTexts, IsEntryAt};

@@ -8,12 +8,12 @@ use Rattle.blocks.specs.Headers.{Header, HasLowerId}
 use Rattle.certificates.specs.Votes.{IsGoodVote}
 use Rattle.certificates.specs.VoteOrder.{IsLowerVote}
 use Rattle.certificates.specs.declared.vote.SignedVote.{SignedVote}
-use Rattle.evidence.specs.Evidence.{Evidence, IsEvidence, IsNotBelowParent}
-use Rattle.evidence.specs.Gathering.{Gains, Gathered, Grows, IsNone}
-use Rattle.evidence.specs.Sets.{IsEither}
-use Rattle.evidence.specs.declared.source.SourceReport.{SourceReport}
-use Rattle.evidence.proofs.Absorbing.{contains_more, contains_take}
-use Rattle.evidence.proofs.Gatherings.{grown_both}
+use Rattle.audit_evidence.specs.Evidence.{Evidence, IsEvidence, IsNotBelowParent}
+use Rattle.audit_evidence.specs.Gathering.{Gains, Gathered, Grows, IsNone}
+use Rattle.audit_evidence.specs.Sets.{IsEither}
+use Rattle.audit_evidence.specs.declared.source.SourceReport.{SourceReport}
+use Rattle.audit_evidence.proofs.Absorbing.{contains_more, contains_take}
+use Rattle.audit_evidence.proofs.Gatherings.{grown_both}
 use Rattle.watch_collector.specs.Growing.{AreBadAmong, AreTheNewOf, IsBadVote, IsJudged, IsShownOf}
 
 nothing : {X : Type 0} (x : X) → Contains [] x → ⊥

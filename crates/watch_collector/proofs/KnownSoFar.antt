@@ -9,14 +9,14 @@ use Rattle.blocks.specs.Headers.{Header}
 use Rattle.blocks.proofs.Members.{Has, Has-from_Contains, Contains-from_Has}
 use Rattle.certificates.specs.Votes.{IsGoodVote}
 use Rattle.certificates.specs.declared.vote.SignedVote.{SignedVote}
-use Rattle.evidence.specs.Evidence.{Evidence, IsEvidenceOf, IsEvidenceRefusal, IsHeaderInEvidence, IsReportOf}
-use Rattle.evidence.specs.Gathering.{Gathered, Grows, IsGatheringRefusal, IsUnion}
+use Rattle.audit_evidence.specs.Evidence.{Evidence, IsEvidenceOf, IsEvidenceRefusal, IsHeaderInEvidence, IsReportOf}
+use Rattle.audit_evidence.specs.Gathering.{Gathered, Grows, IsGatheringRefusal, IsUnion}
 use Rattle.watch_collector.specs.Growing.{IsShownOf}
-use Rattle.evidence.specs.Logs.{ReceivedLog, FrameHasHeader, FrameNamesVote, HaveEntries, LogHasHeader, LogNamesVote}
-use Rattle.evidence.specs.Sets.{InSome}
-use Rattle.evidence.specs.declared.refusal.EvidenceRefusal.{EvidenceRefusal}
-use Rattle.evidence.specs.declared.source.SourceReport.{SourceReport}
-use Rattle.evidence.proofs.Gatherings.{fault_as, in_more, in_none, named_and_good, zip_length}
+use Rattle.audit_evidence.specs.Logs.{ReceivedLog, FrameHasHeader, FrameNamesVote, HaveEntries, LogHasHeader, LogNamesVote}
+use Rattle.audit_evidence.specs.Sets.{InSome}
+use Rattle.audit_evidence.specs.declared.refusal.EvidenceRefusal.{EvidenceRefusal}
+use Rattle.audit_evidence.specs.declared.source.SourceReport.{SourceReport}
+use Rattle.audit_evidence.proofs.Gatherings.{fault_as, in_more, in_none, named_and_good, zip_length}
 use Rattle.watch_collector.specs.Collectors.{Collected, IsCollected, MayFollow, log_then, logs_then, report_then, reports_then, unread_log, unread_report}
 use Rattle.watch_collector.specs.Parts.{IsPartOn, PartValue}
 use Rattle.watch_collector.proofs.Lists.{no_votes, zip_at}

@@ -6,12 +6,12 @@ use Rattle.blocks.specs.Genesis.{genesis_of}
 use Rattle.blocks.specs.Headers.{Header}
 use Rattle.certificates.specs.declared.vote.SignedVote.{SignedVote}
 use Rattle.log_format.specs.declared.status.Status.{Status}
-use Rattle.evidence.specs.Evidence.{IsEvidenceRefusal, IsReportOf}
-use Rattle.evidence.specs.Gathering.{Grows, IsGatheringRefusal, IsListingOf}
-use Rattle.evidence.specs.Logs.{FrameHasHeader, FrameNamesVote, HaveEntries, SpellsEntry}
-use Rattle.evidence.specs.Sets.{InSome}
-use Rattle.evidence.specs.declared.refusal.EvidenceRefusal.{EvidenceRefusal}
-use Rattle.evidence.proofs.Gatherings.{fault_as, have_no_more, have_one_more, in_more, in_none}
+use Rattle.audit_evidence.specs.Evidence.{IsEvidenceRefusal, IsReportOf}
+use Rattle.audit_evidence.specs.Gathering.{Grows, IsGatheringRefusal, IsListingOf}
+use Rattle.audit_evidence.specs.Logs.{FrameHasHeader, FrameNamesVote, HaveEntries, SpellsEntry}
+use Rattle.audit_evidence.specs.Sets.{InSome}
+use Rattle.audit_evidence.specs.declared.refusal.EvidenceRefusal.{EvidenceRefusal}
+use Rattle.audit_evidence.proofs.Gatherings.{fault_as, have_no_more, have_one_more, in_more, in_none}
 use Rattle.watch_collector.specs.Parts.{IsInFrames, IsMadeOf, IsPartOn, Making, PartValue, part_log}
 
 -- no frame yet

@@ -7,13 +7,13 @@ use Rattle.blocks.specs.Weights.{Committee, is_among}
 use Rattle.blocks.proofs.Chains.{one_chain}
 use Rattle.blocks.proofs.Members.{Has, Contains-from_Has, Has-from_Contains}
 use Rattle.certificates.specs.declared.vote.SignedVote.{SignedVote}
-use Rattle.evidence.specs.Evidence.{Evidence, IsHeaderInEvidence, IsVoteInEvidence}
-use Rattle.evidence.specs.Logs.{ReceivedLog, FrameHasVote}
+use Rattle.audit_evidence.specs.Evidence.{Evidence, IsHeaderInEvidence, IsVoteInEvidence}
+use Rattle.audit_evidence.specs.Logs.{ReceivedLog, FrameHasVote}
 use Rattle.ancestry.proofs.Ids.{apart_in}
-use Rattle.commit_search.specs.Commits.{IsCertified, Stands, has_vote, is_vote_on}
-use Rattle.commit_search.specs.Culprits.{Shows}
+use Rattle.audit_commits.specs.Commits.{IsCertified, Stands, has_vote, is_vote_on}
+use Rattle.audit_commits.specs.Culprits.{Shows}
 use Rattle.watch_collector.specs.Growth.{AreLonger, IsWithin, LongerLogsShowMore, ACollisionStays, OffencesStay, CulpritsStay, CommitsStay, ConflictsStay, AccusedWeightGrows, NamedPairsFall, FirstConflictsFall}
-use Rattle.commit_search.proofs.Weights.{list_any-Has, weight_more, weight_within}
+use Rattle.audit_commits.proofs.Weights.{list_any-Has, weight_more, weight_within}
 use Rattle.verdict_format.specs.declared.parts.Shown.{Shown}
 use Rattle.verdict_format.specs.declared.parts.Shown.TheVariants.{DoubleVote, LockViolation}
 

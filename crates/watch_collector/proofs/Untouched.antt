@@ -1,8 +1,8 @@
 -- Of what nothing is new need not be searched again.
 use Rattle.std.proofs.Common.{◌≡◌, ◌⊎◌, ℕ, Bool, true, false, inl, inr, refl}
 use Rattle.certificates.specs.declared.vote.SignedVote.{SignedVote}
-use Rattle.evidence.specs.Evidence.{Evidence}
-use Rattle.commit_search.specs.Culprits.{IsOffence, Shows}
+use Rattle.audit_evidence.specs.Evidence.{Evidence}
+use Rattle.audit_commits.specs.Culprits.{IsOffence, Shows}
 use Rattle.verdict_format.specs.declared.parts.Shown.{Shown}
 use Rattle.verdict_format.specs.declared.parts.Shown.TheVariants.{DoubleVote, LockViolation}
 use Rattle.watch_collector.specs.Untouched.{IsSettled, IsTestOfFresh, UntouchedReplicasKeepTheirOffences, UntouchedReplicasKeepTheirPair, TheLeastOfOldAndFreshIsNamed}

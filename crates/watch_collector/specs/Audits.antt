@@ -1,7 +1,7 @@
 -- An audit of what came so far.
 use Rattle.std.specs.Prelude.{ℕ, List}
-use Rattle.evidence.specs.Evidence.{Evidence, IsEvidenceOf}
-use Rattle.evidence.specs.Logs.{ReceivedLog}
+use Rattle.audit_evidence.specs.Evidence.{Evidence, IsEvidenceOf}
+use Rattle.audit_evidence.specs.Logs.{ReceivedLog}
 use Rattle.culprit_search.specs.Reports.{IsAudit, Report}
 
 -- it is the evidence of these logs, and the report is the audit of it

@@ -1,12 +1,12 @@
 -- What came of sources so far, however often each was asked. docs/DEFINITIONS.md, "Watching".
 use Rattle.std.specs.Prelude.{◌≡◌, ◌≤◌, ◌+◌, ◌++◌, ℕ, List, [], slice_index_or, slice_set}
 use Rattle.std.specs.List.{AllZip}
-use Rattle.wire.specs.declared.limits.TheConstants.{MOST_ENTRIES}
+use Rattle.base_wire.specs.declared.limits.TheConstants.{MOST_ENTRIES}
 use Rattle.log_format.specs.declared.status.Status.TheVariants.{Failed}
-use Rattle.evidence.specs.Evidence.{IsReportOf}
-use Rattle.evidence.specs.Gathering.{Gathered, IsUnion}
-use Rattle.evidence.specs.Logs.{ReceivedLog}
-use Rattle.evidence.specs.declared.source.SourceReport.{SourceReport}
+use Rattle.audit_evidence.specs.Evidence.{IsReportOf}
+use Rattle.audit_evidence.specs.Gathering.{Gathered, IsUnion}
+use Rattle.audit_evidence.specs.Logs.{ReceivedLog}
+use Rattle.audit_evidence.specs.declared.source.SourceReport.{SourceReport}
 
 -- what a collector knows: what was named so far, and how each source did
 pub record Collected : Type 0 where

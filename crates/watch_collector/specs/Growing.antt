@@ -5,9 +5,9 @@ use Rattle.blocks.specs.Genesis.{genesis_of}
 use Rattle.blocks.specs.Headers.{Header}
 use Rattle.certificates.specs.Votes.{IsGoodVote}
 use Rattle.certificates.specs.declared.vote.SignedVote.{SignedVote}
-use Rattle.evidence.specs.Evidence.{Evidence}
-use Rattle.evidence.specs.Gathering.{Gathered}
-use Rattle.evidence.specs.declared.source.SourceReport.{SourceReport}
+use Rattle.audit_evidence.specs.Evidence.{Evidence}
+use Rattle.audit_evidence.specs.Gathering.{Gathered}
+use Rattle.audit_evidence.specs.declared.source.SourceReport.{SourceReport}
 
 -- the vote is not good
 abbrev pub IsBadVote : List ℕ → SignedVote → Type 0

@@ -4,12 +4,12 @@ use Rattle.std.specs.List.{Contains}
 use Rattle.blocks.specs.Headers.{Header, IsGenesis}
 use Rattle.blocks.specs.Weights.{Committee}
 use Rattle.certificates.specs.declared.vote.SignedVote.{SignedVote}
-use Rattle.evidence.specs.Evidence.{Evidence, IsEvidence, IsEvidenceOf, IsEvidenceRefusal, IsHeaderInEvidence}
-use Rattle.evidence.specs.Logs.{ReceivedLog}
-use Rattle.evidence.specs.declared.refusal.EvidenceRefusal.TheVariants.{Collision}
-use Rattle.commit_search.specs.AccountabilityLaws.{weight_among}
-use Rattle.commit_search.specs.Commits.{AreConflicting, AreFirstConflict, IsAtMost, IsProvedCommit}
-use Rattle.commit_search.specs.Culprits.{AreCulprits, IsCulprit, IsNamedPair, IsOffence, IsVoteAtMost}
+use Rattle.audit_evidence.specs.Evidence.{Evidence, IsEvidence, IsEvidenceOf, IsEvidenceRefusal, IsHeaderInEvidence}
+use Rattle.audit_evidence.specs.Logs.{ReceivedLog}
+use Rattle.audit_evidence.specs.declared.refusal.EvidenceRefusal.TheVariants.{Collision}
+use Rattle.audit_commits.specs.AccountabilityLaws.{weight_among}
+use Rattle.audit_commits.specs.Commits.{AreConflicting, AreFirstConflict, IsAtMost, IsProvedCommit}
+use Rattle.audit_commits.specs.Culprits.{AreCulprits, IsCulprit, IsNamedPair, IsOffence, IsVoteAtMost}
 
 -- ---- logs that grow
 

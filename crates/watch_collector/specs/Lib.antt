@@ -1,5 +1,5 @@
-pub use Rattle.evidence.specs.Evidence
-pub use Rattle.evidence.specs.Logs
+pub use Rattle.audit_evidence.specs.Evidence
+pub use Rattle.audit_evidence.specs.Logs
 pub mod Parts
 pub mod Growing
 pub mod Collectors

@@ -5,11 +5,11 @@ use Rattle.blocks.specs.Genesis.{genesis_of}
 use Rattle.blocks.specs.Headers.{Header}
 use Rattle.certificates.specs.declared.vote.SignedVote.{SignedVote}
 use Rattle.log_format.specs.declared.status.Status.{Status}
-use Rattle.evidence.specs.Evidence.{IsReportOf}
-use Rattle.evidence.specs.Gathering.{Gathered}
-use Rattle.evidence.specs.Logs.{FrameHasHeader, FrameNamesVote, HaveEntries, LogHasHeader, LogNamesVote, ReceivedLog}
-use Rattle.evidence.specs.Sets.{InSome}
-use Rattle.evidence.specs.declared.source.SourceReport.{SourceReport}
+use Rattle.audit_evidence.specs.Evidence.{IsReportOf}
+use Rattle.audit_evidence.specs.Gathering.{Gathered}
+use Rattle.audit_evidence.specs.Logs.{FrameHasHeader, FrameNamesVote, HaveEntries, LogHasHeader, LogNamesVote, ReceivedLog}
+use Rattle.audit_evidence.specs.Sets.{InSome}
+use Rattle.audit_evidence.specs.declared.source.SourceReport.{SourceReport}
 
 -- ---- while frames come
 

@@ -3,8 +3,8 @@ use Rattle.std.specs.Prelude.{◌≡◌, ◌↔◌, ◌⊎◌, ℕ, Bool, true, 
 use Rattle.std.specs.List.{Contains}
 use Rattle.blocks.specs.Headers.{Header, NamesParent, header_id}
 use Rattle.certificates.specs.declared.vote.SignedVote.{SignedVote}
-use Rattle.evidence.specs.Evidence.{Evidence}
-use Rattle.commit_search.specs.Culprits.{IsNamedPair, IsOffence, IsVoteAtMost}
+use Rattle.audit_evidence.specs.Evidence.{Evidence}
+use Rattle.audit_commits.specs.Culprits.{IsNamedPair, IsOffence, IsVoteAtMost}
 use Rattle.watch_collector.specs.Growth.{IsWithin}
 
 -- what f has of the vote, of its block and of that block's parent, e has too

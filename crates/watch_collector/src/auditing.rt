@@ -3,15 +3,15 @@
 ghost use Rattle.std.specs.Prelude.{◌≡◌, ℕ, List, IfOk, IsSome};
 ghost use Rattle.std.specs.List.{All};
 ghost use Rattle.verdict_format.specs.Proofs.{IsProof};
-ghost use Rattle.evidence.specs.Logs.{ReceivedLog};
+ghost use Rattle.audit_evidence.specs.Logs.{ReceivedLog};
 ghost use Rattle.culprit_search.specs.Found.{IsSearchOf};
 ghost use Rattle.culprit_search.specs.Reports.{AreMoreThanAThird};
 ghost use Rattle.watch_collector.specs.Collectors.{IsCollected};
 ghost use Rattle.watch_collector.specs.Audits.{IsAuditOfLogs};
 
 use crate::collector::Collector;
+use audit_evidence::Evidence;
 use culprit_search::{Report, Searched, audit_searched, search_evidence};
-use evidence::Evidence;
 use std::alloc::{AllocError, Global};
 
 /// An audit of what came so far.

@@ -4,10 +4,10 @@ ghost use Rattle.std.specs.Prelude.{IfOk};
 ghost use Rattle.std.specs.List.{AllZip};
 ghost use Rattle.certificates.specs.Votes.{IsAnswerOn};
 
+use base_shared::Shared;
 use blocks::CommitteeView;
 use certificates::{SignedVote, check_vote};
 use rayon::prelude::*;
-use shared_values::Shared;
 use std::alloc::{AllocError, Global};
 use std::thread::Threads;
 

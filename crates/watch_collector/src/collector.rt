@@ -2,9 +2,9 @@
 
 ghost use Rattle.std.specs.Prelude.{◌≡◌, ◌↔◌, ◌<◌, ◌++◌, ◌∷◌, [], ℕ, List, IfErr, IfOk, IsTrue, OnOk, length, map, slice_index_or};
 ghost use Rattle.std.specs.List.{Contains};
-ghost use Rattle.evidence.specs.Evidence.{IsEvidenceOf, IsEvidenceRefusal, IsHeaderInEvidence};
-ghost use Rattle.evidence.specs.Gathering.{Grows, IsGatheringRefusal};
-ghost use Rattle.evidence.specs.Logs.{ReceivedLog};
+ghost use Rattle.audit_evidence.specs.Evidence.{IsEvidenceOf, IsEvidenceRefusal, IsHeaderInEvidence};
+ghost use Rattle.audit_evidence.specs.Gathering.{Grows, IsGatheringRefusal};
+ghost use Rattle.audit_evidence.specs.Logs.{ReceivedLog};
 ghost use Rattle.watch_collector.specs.Collectors.{IsCollected, MayFollow, logs_then, reports_then, unread_log, unread_report};
 ghost use Rattle.watch_collector.specs.Growing.{AreBadAmong, IsBadVote};
 ghost use Rattle.watch_collector.specs.Parts.{IsPartOn};
@@ -13,10 +13,10 @@ use crate::checking::check_new;
 use crate::growing::Growing;
 use crate::part::Part;
 use crate::reports::{all_unread, copies, may_follow, together, unread};
+use audit_evidence::{Evidence, EvidenceRefusal, SourceReport};
+use base_shared::Shared;
 use blocks::CommitteeView;
 use certificates::SignedVote;
-use evidence::{Evidence, EvidenceRefusal, SourceReport};
-use shared_values::Shared;
 use std::alloc::{AllocError, Global};
 use std::marker::Model;
 use std::thread::Threads;

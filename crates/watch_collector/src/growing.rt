@@ -7,13 +7,13 @@ ghost use Rattle.blocks.specs.Genesis.{genesis_of};
 ghost use Rattle.blocks.specs.Headers.{Header, header_id};
 ghost use Rattle.certificates.specs.Votes.{IsAnswerOn, IsGoodVote};
 ghost use Rattle.certificates.specs.declared.vote.SignedVote.{SignedVote as SignedVoteValue};
-ghost use Rattle.evidence.specs.Gathering.{Grows, IsGatheringRefusal, IsNone};
+ghost use Rattle.audit_evidence.specs.Gathering.{Grows, IsGatheringRefusal, IsNone};
 ghost use Rattle.watch_collector.specs.Growing.{AreBadAmong, AreTheNewOf, IsBadVote, IsShownOf};
 
+use audit_evidence::{Evidence, EvidenceRefusal, HeaderSet, SourceReport, VoteSet};
+use base_shared::Shared;
 use blocks::{CommitteeView, NamedHeader};
 use certificates::SignedVote;
-use evidence::{Evidence, EvidenceRefusal, HeaderSet, SourceReport, VoteSet};
-use shared_values::Shared;
 use std::alloc::{AllocError, Global};
 use std::marker::Model;
 
@@ -30,7 +30,7 @@ pub(crate) struct Growing<'a> {
 
 impl<'a> Model for Growing<'a> {
     ghost use Rattle.std.specs.Prelude.{◌++◌};
-    ghost use Rattle.evidence.specs.Gathering.{Gathered as GatheredValue};
+    ghost use Rattle.audit_evidence.specs.Gathering.{Gathered as GatheredValue};
     ghost use Rattle.watch_collector.specs.Growing.{IsJudged};
 
     ghost Value = { GatheredValue };

@@ -1,13 +1,13 @@
 //! A part of a log, made of its frames.
 
 ghost use Rattle.std.specs.Prelude.{◌≡◌, ◌<◌, ◌≤◌, ◌+◌, ◌++◌, [], ◌∷◌, ℕ, List, IfErr, IfOk, IsTrue, OnOk};
-ghost use Rattle.evidence.specs.Evidence.{IsEvidenceRefusal};
-ghost use Rattle.wire.specs.declared.limits.TheConstants.{MOST_ENTRIES};
+ghost use Rattle.audit_evidence.specs.Evidence.{IsEvidenceRefusal};
+ghost use Rattle.base_wire.specs.declared.limits.TheConstants.{MOST_ENTRIES};
 ghost use Rattle.watch_collector.specs.Parts.{IsInFrames, IsMadeOf, IsPartOn, part_log};
 
 use crate::part::Part;
+use audit_evidence::{Anew, EvidenceRefusal, Gathered, SourceReport};
 use blocks::CommitteeView;
-use evidence::{Anew, EvidenceRefusal, Gathered, SourceReport};
 use lms_tree::SIGNATURE_LEN;
 use log_format::Status;
 use std::alloc::{AllocError, Global};

@@ -2,9 +2,9 @@
 
 ghost use Rattle.std.specs.Prelude.{◌≡◌};
 
+use audit_evidence::{Listing, SourceReport};
+use base_shared::Shared;
 use certificates::SignedVote;
-use evidence::{Listing, SourceReport};
-use shared_values::Shared;
 use std::marker::Model;
 
 /// What a part of a log names, headers by rising id and votes that rise, none of which was checked, and its report. Made by

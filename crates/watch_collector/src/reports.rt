@@ -3,10 +3,10 @@
 ghost use Rattle.std.specs.Prelude.{◌≡◌, ◌↔◌, IfOk, IsTrue, map};
 ghost use Rattle.watch_collector.specs.Collectors.{MayFollow, report_then, unread_report};
 
-use evidence::SourceReport;
+use audit_evidence::SourceReport;
+use base_wire::MOST_ENTRIES;
 use log_format::Status;
 use std::alloc::{AllocError, Global};
-use wire::MOST_ENTRIES;
 
 /// Whether it may follow: it is of the same replica, and both together are no more than a log has.
 pub(crate) fn may_follow(before: &SourceReport, later: &SourceReport) -> bool

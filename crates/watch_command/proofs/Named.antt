@@ -1,9 +1,9 @@
 -- A file that is refused is not named.
 use Rattle.std.proofs.Common.{◌≡◌, List, ℕ, [], Result, Ok, Err, sym, ◌∙◌}
 use Rattle.blocks.proofs.CommitteeLaws.{committee_again}
-use Rattle.successor_files.specs.Successors.{IsSuccessorRefusal}
-use Rattle.successor_files.specs.declared.refusal.SuccessorRefusal.{SuccessorRefusal}
-use Rattle.successor_files.specs.declared.refusal.SuccessorRefusal.TheVariants.{NotRead, Committee, OldKey}
+use Rattle.handover_steps.specs.Successors.{IsSuccessorRefusal}
+use Rattle.handover_steps.specs.declared.file_refusal.SuccessorRefusal.{SuccessorRefusal}
+use Rattle.handover_steps.specs.declared.file_refusal.SuccessorRefusal.TheVariants.{NotRead, Committee, OldKey}
 use Rattle.watch_command.specs.Nexts.{IsNamed}
 
 pub never_named : (refusal : SuccessorRefusal) (old payload file : List ℕ) → IsSuccessorRefusal [] old file refusal → IsNamed old payload file → ⊥

@@ -4,11 +4,11 @@ use Rattle.std.specs.Prelude.{◌≡◌, ◌++◌, ℕ, List, [], Option, codes,
 use Rattle.hex.specs.Hex.{encode_lower}
 use Rattle.blocks.specs.Genesis.{chain_id_of}
 use Rattle.blocks.specs.Weights.{total_of}
-use Rattle.handover.specs.Handovers.{handover_payload}
-use Rattle.lineage_lines.specs.LineageLines.{way_text}
-use Rattle.lineage_steps.specs.Steps.{IsRenewalIfAny, weight_by}
-use Rattle.renewals.specs.Renewals.{Renewal}
-use Rattle.successor_files.specs.Successors.{IsSuccessorFile}
+use Rattle.handover_blocks.specs.Handovers.{handover_payload}
+use Rattle.handover_steps.specs.LineageLines.{way_text}
+use Rattle.handover_steps.specs.Steps.{IsRenewalIfAny, weight_by}
+use Rattle.handover_renewals.specs.Renewals.{Renewal}
+use Rattle.handover_steps.specs.Successors.{IsSuccessorFile}
 use Rattle.watch_command.specs.declared.next.Following.{Following}
 
 -- ---- the file

@@ -1,11 +1,11 @@
 //! A part of a log that is being made.
 
+use audit_evidence::EvidenceRefusal;
+use base_wire::{LONGEST_PAYLOAD, MOST_ENTRIES};
 use blocks::CommitteeView;
-use evidence::EvidenceRefusal;
 use std::alloc::{AllocError, Global};
 use watch_collector::PartMaker;
 use watch_state::{PartName, PartText};
-use wire::{LONGEST_PAYLOAD, MOST_ENTRIES};
 
 /// A part of a log that is being made: what its frames name, and, where it is to be stored, its text and its name.
 #[derive(Drop)]

@@ -3,16 +3,16 @@
 ghost use Rattle.std.specs.Prelude.{◌≡◌, ◌≢◌, IfOk};
 
 use crate::fault::{Fault, FolderFile, WatchFault};
-use crate::program::{DONE, Host, fault_of_state};
+use crate::program::{DONE, WatchHost, fault_of_state};
 use crate::words::ExportWords;
+use base_streams::Sink;
 use program_parts::ProgramFault;
 use std::fs::{File, Files};
-use streams::Sink;
 use watch_state::{ExportFault, export_kept, open_kept};
 
 /// Writes an export of each log that is kept of the source, and prints a line for it. No watch may run on the folder meanwhile.
 pub(crate) fn give_out<'a, T: Files<File = File> + AllocGlobal + Clone + Drop, W: Sink>(
-    host: &Host<'_, T>,
+    host: &WatchHost<'_, T>,
     words: &ExportWords<'a>,
     out: &mut W,
 ) -> Result<u8, Fault<'a>>

@@ -1,16 +1,14 @@
 //! Why a watch gives up, and the line that it prints then.
 
-ghost use Rattle.std.specs.Prelude.{◌≡◌, ◌≢◌, ◌≤◌, ◌++◌, [], OnErr, OnOk, length};
-ghost use Rattle.streams.specs.Counting.{Counts};
-ghost use Rattle.streams.specs.Streams.{Wrote, WrotePart};
+ghost use Rattle.std.specs.Prelude.{◌≡◌, ◌≢◌, ◌≤◌, ◌++◌, [], length};
 ghost use Rattle.blocks.specs.Headers.{Header as HeaderValue};
-ghost use Rattle.watch_command.specs.FaultLines.{log_behind, name_behind, number_behind, own_line, word_line};
+ghost use Rattle.watch_command.specs.FaultLines.{log_behind, name_behind, number_behind, own_line};
 
-use evidence::EvidenceRefusal;
+use audit_evidence::EvidenceRefusal;
+use base_streams::{Sink, write_all};
+use base_text::{Line, write_file_fault};
 use itoa::Buffer;
-use printed_lines::{Line, write_file_fault, write_printed};
-use program_parts::{FaultLine, ProgramFault, SourceFault};
-use streams::{Sink, write_all};
+use program_parts::{FaultLine, ProgramFault, SourceFault, write_wrong_word};
 
 /// Why the watch gives up. Each has exit status 2.
 pub type Fault<'a> = ProgramFault<'a, WatchFault<'a>>;
@@ -105,7 +103,7 @@ fn push_log(name: &mut Line, replica: u16, source: u16, log: u16)
 impl FaultLine for WatchFault<'_> {
     ghost line = { own_line };
 
-    fn write_line<W: Sink>(&self, out: &mut W) -> Result<(), streams::Fault> {
+    fn write_line<W: Sink>(&self, out: &mut W) -> Result<(), base_streams::Fault> {
         match self {
             WatchFault::Sources(fault) => fault.write_line(out),
             WatchFault::FileIn(folder, file) => {
@@ -114,20 +112,9 @@ impl FaultLine for WatchFault<'_> {
             WatchFault::State => write_all(out, b"fault state\n"),
             WatchFault::Listen => write_all(out, b"fault listen\n"),
             WatchFault::Threads => write_all(out, b"fault threads\n"),
-            WatchFault::Word(word) => write_word(out, word),
+            WatchFault::Word(word) => write_wrong_word(out, word),
         }
     }
-}
-
-// Writes `fault usage `, the word in one line, and a line feed.
-fn write_word<W: Sink>(out: &mut W, word: &str) -> Result<(), streams::Fault>
-    ensures ok { OnOk result (Wrote (W.text out.old) (W.text out.new) (word_line word.now)) }
-    ensures err { OnErr result (WrotePart (W.text out.old) (W.text out.new) (word_line word.now)) }
-    ensures counted { Counts (W.failed out.old) (W.failed out.new) result }
-{
-    write_all(out, b"fault usage ")?;
-    write_printed(out, word.as_bytes())?;
-    write_all(out, b"\n")
 }
 
 /// Why there is no evidence.

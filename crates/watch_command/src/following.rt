@@ -3,23 +3,23 @@
 use crate::next_asking::{Given, ask_for_next};
 use crate::patience::Dialer;
 use crate::reader::{Reader, note_answer};
-use crate::shop::{Place, Shop, Target};
-use chain_dialing::{ChainDialer, ChainServer};
-use evidence::EvidenceRefusal;
+use crate::shop::{SourceOrigin, Target, WatchShared};
+use audit_evidence::EvidenceRefusal;
+use base_wire::MOST_ENTRIES;
 use log_format::{Frames, Status};
+use log_reading::{Answer, End, MOST_FRAMES_ASKED, ask};
+use log_request::{ChainDialer, ChainServer};
 use log_transfer::{FetchError, FileConnector, Pull, ServerConnector, Step};
-use source_reading::{Answer, End, MOST_FRAMES_ASKED, ask};
 use std::alloc::AllocError;
 use std::fs::{File, Files};
 use std::net::{Net, TcpStream};
 use std::sync::Wait;
 use std::sync::atomic::Ordering;
 use std::time::Clock;
-use wire::MOST_ENTRIES;
 
 /// Reads what is kept of a source, and then the source until the watch ends, or it is set aside; a file once.
 pub(crate) fn follow<'c, T: Files<File = File> + Wait + Clock + Net<Stream = TcpStream>>(
-    shop: &Shop<'_, '_, 'c, T>,
+    shop: &WatchShared<'_, '_, 'c, T>,
     source: usize,
 ) -> Result<(), EvidenceRefusal> {
     let Some(target) = shop.targets.get(source) else {
@@ -32,18 +32,18 @@ pub(crate) fn follow<'c, T: Files<File = File> + Wait + Clock + Net<Stream = Tcp
     }
     reader.join_parts(shop)?;
     match &target.place {
-        Place::File(path) => read_file_once(shop, &mut reader, target, path),
-        Place::Server(name) => follow_server(shop, &mut reader, target, name),
+        SourceOrigin::File(path) => read_file_once(shop, &mut reader, target, path),
+        SourceOrigin::Server(name) => follow_server(shop, &mut reader, target, name),
     }
 }
 
 // Whether no more of a source is read.
-fn is_over<T: Wait + Clock>(shop: &Shop<'_, '_, '_, T>, target: &Target) -> bool {
+fn is_over<T: Wait + Clock>(shop: &WatchShared<'_, '_, '_, T>, target: &Target) -> bool {
     shop.is_ending() || target.aside.load(Ordering::SeqCst)
 }
 
 fn follow_server<'c, T: Files<File = File> + Wait + Clock + Net<Stream = TcpStream>>(
-    shop: &Shop<'_, '_, 'c, T>,
+    shop: &WatchShared<'_, '_, 'c, T>,
     reader: &mut Reader,
     target: &Target,
     name: &str,
@@ -67,7 +67,7 @@ fn follow_server<'c, T: Files<File = File> + Wait + Clock + Net<Stream = TcpStre
 // Where the committee handed its ledger over, and the watch goes over with it, asks the server for the committee that comes next. One
 // that is given without a renewal is taken once it was given so twice: so another server has a round to give it.
 fn ask_next<T: Wait + Clock + Net<Stream = TcpStream>>(
-    shop: &Shop<'_, '_, '_, T>,
+    shop: &WatchShared<'_, '_, '_, T>,
     reader: &mut Reader,
     name: &str,
 ) -> Result<(), AllocError> {
@@ -87,7 +87,7 @@ fn ask_next<T: Wait + Clock + Net<Stream = TcpStream>>(
 }
 
 // So many pauses, unless no more of the source is read.
-fn rest<T: Wait + Clock>(shop: &Shop<'_, '_, '_, T>, target: &Target, pauses: u8) {
+fn rest<T: Wait + Clock>(shop: &WatchShared<'_, '_, '_, T>, target: &Target, pauses: u8) {
     for _ in 0..pauses {
         if is_over(shop, target) {
             return;
@@ -98,7 +98,7 @@ fn rest<T: Wait + Clock>(shop: &Shop<'_, '_, '_, T>, target: &Target, pauses: u8
 
 // Asks the server for the log of the committee's chain from this frame on. Its connection is closed then.
 fn ask_server<'c, T: Files<File = File> + Wait + Clock + Net<Stream = TcpStream>>(
-    shop: &Shop<'_, '_, 'c, T>,
+    shop: &WatchShared<'_, '_, 'c, T>,
     reader: &mut Reader,
     name: &str,
     first: u32,
@@ -126,7 +126,7 @@ fn ask_server<'c, T: Files<File = File> + Wait + Clock + Net<Stream = TcpStream>
 // Asks the server once, and hands over what is new. Answers whether something was read and more is there at once: a server that
 // gives nothing that goes on is left alone for a while, however much it gives.
 fn read_on<'c, T: Files<File = File> + Wait + Clock + Net<Stream = TcpStream>>(
-    shop: &Shop<'_, '_, 'c, T>,
+    shop: &WatchShared<'_, '_, 'c, T>,
     reader: &mut Reader,
     name: &str,
 ) -> Result<bool, EvidenceRefusal> {
@@ -151,7 +151,7 @@ fn read_on<'c, T: Files<File = File> + Wait + Clock + Net<Stream = TcpStream>>(
 
 // Hands over the frames from this one on.
 fn take<'c, T: Files<File = File> + Wait + Clock>(
-    shop: &Shop<'_, '_, 'c, T>,
+    shop: &WatchShared<'_, '_, 'c, T>,
     reader: &mut Reader,
     frames: &Frames,
     skip: usize,
@@ -176,7 +176,7 @@ fn status_of(status: Status, end: End) -> Status {
 
 // Reads a file once, to its end or until it is set aside.
 fn read_file_once<'c, T: Files<File = File> + Wait + Clock>(
-    shop: &Shop<'_, '_, 'c, T>,
+    shop: &WatchShared<'_, '_, 'c, T>,
     reader: &mut Reader,
     target: &Target,
     path: &str,

@@ -3,12 +3,13 @@
 
 use crate::fault::{Fault, FolderFile, WatchFault};
 use crate::next::{NextFiles, NextRefusal};
-use crate::program::Host;
+use crate::program::WatchHost;
 use blocks::CommitteeView;
-use handover::handover_payload;
-use lineage_lines::{MOST_OF_A_RENEWAL, MOST_STEPS};
-use program_parts::{InputFault, MOST_OF_A_SHORT_FILE, parse_committee, read_file};
-use safe_files::{is_nothing_at, store_new};
+use handover_blocks::handover_payload;
+use handover_steps::{MOST_OF_A_RENEWAL, MOST_STEPS};
+use program_parts::{
+    InputFault, MOST_OF_A_SHORT_FILE, is_nothing_at, parse_committee, read_file, store_new,
+};
 use std::alloc::{AllocError, Global};
 use std::fs::{File, Files};
 use std::{fs, io};
@@ -53,7 +54,7 @@ pub(crate) fn stay_path(alloc: Global, dir: &str, number: u64) -> Result<String,
 
 // The bytes of a file of a committee, if it is there.
 fn kept_file<'a, T: Files<File = File>>(
-    host: &Host<'_, T>,
+    host: &WatchHost<'_, T>,
     dir: &'a str,
     file: FolderFile,
     most: u64,
@@ -83,7 +84,7 @@ fn path_in(alloc: Global, dir: &str, file: FolderFile) -> Result<String, AllocEr
 
 // The committee that the folder has behind this one.
 fn kept_next<'a, T: Files<File = File>>(
-    host: &Host<'_, T>,
+    host: &WatchHost<'_, T>,
     dir: &'a str,
     standing: &Standing,
 ) -> Result<Option<NextFiles>, Fault<'a>> {
@@ -105,7 +106,7 @@ fn kept_next<'a, T: Files<File = File>>(
 
 /// The last committee that the folder has behind the first one, whose file this is: each is judged anew.
 pub(crate) fn last_kept<'a, T: Files<File = File>>(
-    host: &Host<'_, T>,
+    host: &WatchHost<'_, T>,
     dir: &'a str,
     first: Vec<u8>,
 ) -> Result<Standing, Fault<'a>> {

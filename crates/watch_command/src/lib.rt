@@ -24,6 +24,6 @@ mod verdict_files;
 mod words;
 
 pub use fault::{Fault, FolderFile, WatchFault};
-pub use program::{CULPRITS, DONE, Host, run_watch};
+pub use program::{CULPRITS, DONE, WatchHost, run_watch};
 pub use program_parts::FAULT;
 pub use words::{MOST_SOURCES, READS_INPUT};

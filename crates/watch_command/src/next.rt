@@ -1,19 +1,19 @@
 //! The committee that comes next, judged by its file and its renewal.
 
 ghost use Rattle.std.specs.Prelude.{◌≡◌, ◌≢◌, ◌++◌, Ok, Err, Option, IfOk, IsOk, OnOk, option_map};
-ghost use Rattle.lineage_lines.specs.LineageLines.{way_text};
-ghost use Rattle.lineage_steps.specs.Steps.{HasNewWeight, IsRenewalIfAny, IsRenewalIn, IsRenewalOfStep, bytes_in, renewal_in_pair};
-ghost use Rattle.renewals.specs.Renewals.{Renewal as RenewalValue};
-ghost use Rattle.renewals.specs.Renewing.{Renews};
-ghost use Rattle.renewals.specs.Slots.{new_weight};
+ghost use Rattle.handover_steps.specs.LineageLines.{way_text};
+ghost use Rattle.handover_steps.specs.Steps.{HasNewWeight, IsRenewalIfAny, IsRenewalIn, IsRenewalOfStep, bytes_in, renewal_in_pair};
+ghost use Rattle.handover_renewals.specs.Renewals.{Renewal as RenewalValue};
+ghost use Rattle.handover_renewals.specs.Renewing.{Renews};
+ghost use Rattle.handover_renewals.specs.Slots.{new_weight};
 ghost use Rattle.watch_command.specs.Nexts.{Follows, IsNamed, IsToldOf, MayFollow, committee_text, goes_over_news, stands_news};
 
+use base_text::{put_id, put_number};
+use base_wire::append;
 use blocks::{CommitteeView, Id};
-use printed_lines::{put_id, put_number};
-use renewals::{Renewal, RenewalFormRefusal, renews};
+use handover_renewals::{Renewal, RenewalFormRefusal, renews};
+use handover_steps::successor_payload;
 use std::alloc::{AllocError, Global};
-use successor_files::successor_payload;
-use wire::append;
 
 /// Why a committee's file and its renewal are passed over.
 #[derive(Clone, Copy, Debug, PartialEq, Eq)]
@@ -207,7 +207,7 @@ fn bytes_of(renewal: &Option<Vec<u8>>) -> Option<&[u8]>
 // ---- lines
 
 // Adds ` new S of W`, or ` by hand`.
-#[tactic(auto, unfolding(lineage_lines::specs::LineageLines::way_text))]
+#[tactic(auto, unfolding(handover_steps::specs::LineageLines::way_text))]
 fn put_way(text: &mut Vec<u8>, weight: Option<u64>, total: u64) -> Result<(), AllocError>
     ensures { OnOk result (text.new.items ≡ text.old.items ++ way_text weight total) }
 {

@@ -2,10 +2,9 @@
 
 use crate::next::{NextFiles, NextRefusal, judge_next};
 use crate::patience::Dialer;
-use crate::shop::Shop;
-use chain_dialing::{Fetched, fetch_piece};
-use chain_request::{StepPiece, StepRequest};
-use lineage_lines::MOST_OF_A_RENEWAL;
+use crate::shop::WatchShared;
+use handover_steps::MOST_OF_A_RENEWAL;
+use log_request::{Fetched, StepPiece, StepRequest, fetch_piece};
 use log_transfer::Dial;
 use program_parts::MOST_OF_A_SHORT_FILE;
 use std::alloc::AllocError;
@@ -25,7 +24,7 @@ pub(crate) enum Given {
 
 // A piece of the step from the chain, of so many bytes at most.
 fn ask<T: Wait + Clock, D: Dial>(
-    shop: &Shop<'_, '_, '_, T>,
+    shop: &WatchShared<'_, '_, '_, T>,
     dialer: &D,
     piece: StepPiece,
     most: u64,
@@ -39,7 +38,7 @@ fn ask<T: Wait + Clock, D: Dial>(
 
 /// Asks the server of this name for the committee that follows by a block with this payload: for its file, and then for its renewal.
 pub(crate) fn ask_for_next<T: Wait + Clock + Net<Stream = TcpStream>>(
-    shop: &Shop<'_, '_, '_, T>,
+    shop: &WatchShared<'_, '_, '_, T>,
     name: &str,
     payload: &[u8; 32],
 ) -> Result<Given, AllocError> {
@@ -62,7 +61,7 @@ pub(crate) fn ask_for_next<T: Wait + Clock + Net<Stream = TcpStream>>(
 
 // What they are.
 fn given_by<T: Wait + Clock>(
-    shop: &Shop<'_, '_, '_, T>,
+    shop: &WatchShared<'_, '_, '_, T>,
     payload: &[u8; 32],
     file: Vec<u8>,
     renewal: Option<Vec<u8>>,

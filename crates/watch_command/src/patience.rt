@@ -2,8 +2,8 @@
 
 ghost use Rattle.std.specs.Prelude.{false};
 
+use base_sockets::{PatientStream, dial};
 use log_transfer::{CONNECT_SECONDS, Dial, WAIT_SECONDS};
-use patient_sockets::{PatientStream, dial};
 use std::alloc::Global;
 use std::io;
 use std::net::{Net, SocketAddr, TcpStream, ToSocketAddrs};

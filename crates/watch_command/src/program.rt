@@ -1,7 +1,7 @@
 //! A watch from its words to its end.
 
 ghost use Rattle.std.specs.Prelude.{◌≡◌, ◌≢◌, ◌⊎◌, IfOk};
-ghost use Rattle.printed_lines.specs.Printed.{Told};
+ghost use Rattle.base_text.specs.Printed.{Told};
 ghost use Rattle.watch_command.specs.Ends.{Fault as FaultValue};
 ghost use Rattle.watch_command.specs.FaultLines.{watch_fault_line};
 
@@ -15,9 +15,10 @@ use crate::queue::{Line, Queue};
 use crate::rounds::collect;
 use crate::runtime::Runtime;
 use crate::serving::{Server, answer_all};
-use crate::shop::{Hall, Place, Shop, Stay, Target, answerers_of};
+use crate::shop::{Hall, SourceOrigin, Stay, Target, WatchShared, answerers_of};
 use crate::verdict_files::VerdictFolder;
 use crate::words::{Task, Words, read_words};
+use base_streams::Sink;
 use blocks::CommitteeView;
 use program_parts::{
     InputFault, MOST_OF_A_SHORT_FILE, Origin, ProgramFault, SourceWord, exit_status,
@@ -33,8 +34,7 @@ use std::sync::atomic::{AtomicBool, AtomicU64, Ordering};
 use std::thread::Threads;
 use std::time::Clock;
 use std::{io, thread};
-use streams::Sink;
-use watch_snapshot::Snapshot;
+use watch_report::Snapshot;
 use watch_state::{StateFault, StateFolder, open_state};
 
 /// The watch ended, and had found no culprit.
@@ -48,7 +48,7 @@ const HOST_NAME: &str = "/proc/sys/kernel/hostname";
 
 /// What a watch works with.
 #[derive(Drop)]
-pub struct Host<'a, T> {
+pub struct WatchHost<'a, T> {
     /// Files, threads, locks, a clock and sockets.
     pub rt: &'a T,
     /// Memory.
@@ -81,7 +81,7 @@ pub fn run_watch<
         + Sync,
     W: Sink + Send,
     E: Sink,
->(host: &'h Host<'h, T>, words: &[String], out: &mut W, faults: &mut E) -> u8
+>(host: &'h WatchHost<'h, T>, words: &[String], out: &mut W, faults: &mut E) -> u8
 where
     T::Dir: Send,
     ensures status { (result ≡ 0) ⊎ ((result ≡ 2) ⊎ (result ≡ 3)) }
@@ -94,7 +94,7 @@ where
 }
 
 fn run<'a, 'h, T: Runtime, W: Sink + Send>(
-    host: &'h Host<'h, T>,
+    host: &'h WatchHost<'h, T>,
     words: &'a [String],
     out: &mut W,
 ) -> Result<u8, Fault<'a>>
@@ -132,7 +132,7 @@ where
 
 // The committee with which the watch begins: the first, whose file this is, or the last to which it went over before.
 fn standing_of<'a, T: Files<File = File>>(
-    host: &Host<'_, T>,
+    host: &WatchHost<'_, T>,
     words: &Words<'a>,
     first: Vec<u8>,
 ) -> Result<Standing, Fault<'a>> {
@@ -148,7 +148,7 @@ fn standing_of<'a, T: Files<File = File>>(
 
 // Where what is read is kept, if it is, and its lock.
 fn state_of<'a, 'h, T: Files<File = File> + AllocGlobal + Clone + Drop>(
-    host: &'h Host<'h, T>,
+    host: &'h WatchHost<'h, T>,
     words: &Words<'a>,
     committee: &CommitteeView<'_>,
 ) -> Result<Option<(StateFolder<'h, 'a, T>, File)>, Fault<'a>> {
@@ -209,16 +209,16 @@ fn targets_of<'a>(alloc: Global, words: &Words<'a>) -> Result<Vec<Target<'a>>, A
     Ok(targets)
 }
 
-fn place_of<'a>(word: &SourceWord<'a>) -> Place<'a> {
+fn place_of<'a>(word: &SourceWord<'a>) -> SourceOrigin<'a> {
     match word.origin {
-        Origin::File(path) => Place::File(path),
-        Origin::Tcp(name) => Place::Server(name),
+        Origin::File(path) => SourceOrigin::File(path),
+        Origin::Tcp(name) => SourceOrigin::Server(name),
     }
 }
 
 // Watches one committee after the other, beside what prints lines. Answers whether there are culprits.
 fn watch<'x, 'w, T: Runtime, W: Sink + Send>(
-    host: &'x Host<'x, T>,
+    host: &'x WatchHost<'x, T>,
     words: &'x Words<'w>,
     standing: &'x Standing,
     state: Option<&'x StateFolder<'x, 'w, T>>,
@@ -247,7 +247,7 @@ where
 // What a watch does from its first committee on.
 #[derive(Drop)]
 struct Course<'a, 'w, T> {
-    host: &'a Host<'a, T>,
+    host: &'a WatchHost<'a, T>,
     words: &'a Words<'w>,
     hall: &'a Hall,
     // Where it begins.
@@ -351,7 +351,7 @@ struct Ended {
 
 // Watches one committee, with a thread for each source and one that collects, until the watch ends or goes over.
 fn watch_one<'x, T: Runtime>(
-    host: &'x Host<'x, T>,
+    host: &'x WatchHost<'x, T>,
     words: &'x Words<'x>,
     hall: &'x Hall,
     stay: &'x Stay<'x, 'x>,
@@ -361,7 +361,7 @@ where
     T::Dir: Send,
 {
     let targets = targets_of(host.alloc, words)?;
-    let shop = Shop::new(host, words, hall, stay, &targets, state)?;
+    let shop = WatchShared::new(host, words, hall, stay, &targets, state)?;
     let jobs = jobs_of(host.alloc, targets.len(), answerers_of(shop.server))?;
     match work_all(&shop, jobs) {
         Ok(_) => Ok(Ended {
@@ -374,7 +374,7 @@ where
 
 // The name of the watch: the one that was said, or else that of the machine, if it tells one.
 fn name_of<T: Files<File = File>>(
-    host: &Host<'_, T>,
+    host: &WatchHost<'_, T>,
     words: &Words<'_>,
 ) -> Result<String, AllocError> {
     if let Some(name) = words.name {
@@ -393,7 +393,7 @@ fn name_of<T: Files<File = File>>(
 
 // Where what the watch knows is told, if it is. The line that says so is the first that is printed.
 fn server_of<T: Runtime>(
-    host: &Host<'_, T>,
+    host: &WatchHost<'_, T>,
     words: &Words<'_>,
     standing: &Standing,
     state: Option<&StateFolder<'_, '_, T>>,
@@ -421,7 +421,7 @@ fn server_of<T: Runtime>(
 }
 
 fn listen<T: Runtime>(
-    host: &Host<'_, T>,
+    host: &WatchHost<'_, T>,
     address: &str,
     seen: Snapshot,
     queue: &Queue,
@@ -447,7 +447,7 @@ fn jobs_of(alloc: Global, sources: usize, answerers: usize) -> Result<Vec<Job>, 
 fn print_all<T: Runtime, W: Sink>(
     course: &Course<'_, '_, T>,
     out: &mut W,
-) -> Result<(), streams::Fault> {
+) -> Result<(), base_streams::Fault> {
     let (host, hall) = (course.host, course.hall);
     let printed = hall.queue.print_all(host.rt, host.alloc, out);
     if printed.is_err() {
@@ -457,7 +457,10 @@ fn print_all<T: Runtime, W: Sink>(
 }
 
 // A thread for each job. Answers whether there are culprits, once all have ended.
-fn work_all<T: Runtime>(shop: &Shop<'_, '_, '_, T>, jobs: Vec<Job>) -> Result<bool, Fault<'static>>
+fn work_all<T: Runtime>(
+    shop: &WatchShared<'_, '_, '_, T>,
+    jobs: Vec<Job>,
+) -> Result<bool, Fault<'static>>
 where
     T::Dir: Send,
 {
@@ -474,7 +477,7 @@ where
 }
 
 // Does a job until the watch ends. Where it can't go on, the watch ends.
-fn work<T: Runtime>(shop: &Shop<'_, '_, '_, T>, job: Job) -> Result<bool, Fault<'static>> {
+fn work<T: Runtime>(shop: &WatchShared<'_, '_, '_, T>, job: Job) -> Result<bool, Fault<'static>> {
     if !shop.begin() {
         return Err(Fault::Own(WatchFault::Threads));
     }

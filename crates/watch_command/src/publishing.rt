@@ -1,26 +1,26 @@
 //! What the watch knows, published whole.
 
-use crate::program::Host;
+use crate::program::WatchHost;
 use crate::rounds::Rounds;
 use crate::serving::Server;
-use crate::shop::{Place, Shop, Target};
+use crate::shop::{SourceOrigin, Target, WatchShared};
 use crate::since::Since;
 use crate::words::Words;
+use base_shared::Shared;
 use blocks::CommitteeView;
-use shared_values::Shared;
 use std::alloc::{AllocError, Global};
 use std::fs::{File, Files};
 use std::sync::Wait;
 use std::sync::atomic::Ordering;
 use std::time::Clock;
 use watch_desk::{KeptVerdicts, Moment, SourcePlace, SourceTimes, snapshot_of};
-use watch_snapshot::Snapshot;
+use watch_report::Snapshot;
 use watch_state::StateFolder;
 use watch_web::seconds_now;
 
 /// What a watch of this name knows before anything came.
 pub(crate) fn first_snapshot<T: Files<File = File> + Clock>(
-    host: &Host<'_, T>,
+    host: &WatchHost<'_, T>,
     committee: &CommitteeView,
     number: u64,
     words: &Words,
@@ -76,8 +76,8 @@ fn source_places(
         places.push(SourcePlace {
             word: String::from_str(alloc, target.word)?,
             is_file: match &target.place {
-                Place::File(_) => true,
-                Place::Server(_) => false,
+                SourceOrigin::File(_) => true,
+                SourceOrigin::Server(_) => false,
             },
             times: SourceTimes {
                 answer: target.answered.load(Ordering::SeqCst),
@@ -95,7 +95,7 @@ fn source_places(
 
 // How many of the kept files were read; all of them once all that is read of them was added. Those of sources that are not named
 // are not read.
-fn kept_read<T: Wait + Clock>(shop: &Shop<'_, '_, '_, T>, kept: u64) -> u64 {
+fn kept_read<T: Wait + Clock>(shop: &WatchShared<'_, '_, '_, T>, kept: u64) -> u64 {
     if shop.reads_kept() {
         return shop.kept_read().min(kept.saturating_sub(1));
     }
@@ -127,7 +127,7 @@ fn bytes_max(words: &Words) -> u64 {
 }
 
 fn moment_of<T: Files<File = File> + Wait + Clock>(
-    shop: &Shop<'_, '_, '_, T>,
+    shop: &WatchShared<'_, '_, '_, T>,
     server: &Server,
     rounds: &Rounds,
 ) -> Result<Moment, AllocError> {
@@ -161,7 +161,7 @@ fn moment_of<T: Files<File = File> + Wait + Clock>(
 
 /// Publishes what is known after a round, where it is told.
 pub(crate) fn publish<T: Files<File = File> + Wait + Clock>(
-    shop: &Shop<'_, '_, '_, T>,
+    shop: &WatchShared<'_, '_, '_, T>,
     rounds: &Rounds,
 ) -> Result<(), AllocError> {
     let Some(server) = shop.server else {

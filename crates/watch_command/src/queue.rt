@@ -1,10 +1,10 @@
 //! Lines that wait to be printed.
 
+use base_streams::{Fault, Sink, write_all};
 use std::alloc::Global;
 use std::sync::atomic::{AtomicU64, Ordering};
 use std::sync::{Condvar, Mutex, Wait};
 use std::time::{Clock, Duration};
-use streams::{Fault, Sink, write_all};
 
 /// From how many lines on that wait those that may be dropped are, and counted.
 const MOST_LINES: usize = 1_000;

@@ -1,24 +1,24 @@
 //! What was read of a source so far.
 
 use crate::draft::Draft;
-use crate::shop::{Delivery, Shop, StoredPart, Target, Told};
-use chain_dialing::Heard;
-use evidence::EvidenceRefusal;
+use crate::shop::{Delivery, StoredPart, Target, Told, WatchShared};
+use audit_evidence::EvidenceRefusal;
+use base_wire::MOST_ENTRIES;
 use log_format::{Frames, Status};
-use source_reading::{FrameDigest, SourceLogs, digest_of};
+use log_reading::{FrameDigest, SourceLogs, digest_of};
+use log_request::Heard;
 use std::alloc::{AllocError, Global};
 use std::fs::{File, Files};
 use std::sync::Wait;
 use std::sync::atomic::Ordering;
 use std::time::{Clock, Instant};
 use watch_desk::{Extent, NewPart};
-use watch_snapshot::{SourceDigests, lasts_back};
+use watch_report::{SourceDigests, lasts_back};
 use watch_state::{
     KeptLogs, LogDigest, NO_FRAMES, PartFile, PartName, PartText, SourceParts, StateFolder,
     digest_then, log_digest,
 };
 use watch_web::seconds_now;
-use wire::MOST_ENTRIES;
 
 /// What all of a log is compared with, once it was read from the beginning.
 #[derive(Clone, Copy, Debug, PartialEq, Eq)]
@@ -145,7 +145,7 @@ impl Reader {
     /// A part of it with no frame yet, which is to be stored.
     pub fn draft<'c, T: Wait + Clock>(
         &self,
-        shop: &Shop<'_, '_, 'c, T>,
+        shop: &WatchShared<'_, '_, 'c, T>,
     ) -> Result<Draft<'c>, AllocError> {
         let is_stored = shop.state.is_some() && !self.has_gap;
         Draft::new(shop.alloc, shop.committee, self.replica, is_stored)
@@ -160,7 +160,7 @@ impl Reader {
     /// Where all of the log was read long ago, and no other is read anew, begins to read it anew.
     pub fn begin_anew<T: Wait + Clock>(
         &mut self,
-        shop: &Shop<'_, '_, '_, T>,
+        shop: &WatchShared<'_, '_, '_, T>,
     ) -> Result<(), EvidenceRefusal> {
         let Some(since) = self.read_whole else {
             return Ok(());
@@ -179,7 +179,7 @@ impl Reader {
     }
 
     /// It is not read anew any more, and another may be.
-    pub fn let_others_read_anew<T: Wait + Clock>(&mut self, shop: &Shop<'_, '_, '_, T>) {
+    pub fn let_others_read_anew<T: Wait + Clock>(&mut self, shop: &WatchShared<'_, '_, '_, T>) {
         if self.is_anew {
             self.is_anew = false;
             shop.reads_anew.store(false, Ordering::SeqCst);
@@ -187,7 +187,11 @@ impl Reader {
     }
 
     /// Notes what was heard of its server where it was asked by the name of the chain, and tells what is new of that.
-    pub fn note_server<T: Wait + Clock>(&mut self, shop: &Shop<'_, '_, '_, T>, heard: Heard) {
+    pub fn note_server<T: Wait + Clock>(
+        &mut self,
+        shop: &WatchShared<'_, '_, '_, T>,
+        heard: Heard,
+    ) {
         if heard == Heard::Nothing || heard == self.server {
             return;
         }
@@ -204,7 +208,7 @@ impl Reader {
     }
 
     // Tells once that its server has no log of a chain to which the watch went over, though others have given frames of it for a while.
-    fn tell_stays<T: Wait + Clock>(&mut self, shop: &Shop<'_, '_, '_, T>) {
+    fn tell_stays<T: Wait + Clock>(&mut self, shop: &WatchShared<'_, '_, '_, T>) {
         let Some(since) = self.without_log else {
             return;
         };
@@ -226,7 +230,7 @@ impl Reader {
     }
 
     /// Tells once that what it gave of the next committee is not good.
-    pub fn tell_wrong_next<T: Wait + Clock>(&mut self, shop: &Shop<'_, '_, '_, T>) {
+    pub fn tell_wrong_next<T: Wait + Clock>(&mut self, shop: &WatchShared<'_, '_, '_, T>) {
         if !self.has_told_wrong_next {
             self.has_told_wrong_next = true;
             self.tell(shop, Told::WrongNext);
@@ -239,7 +243,7 @@ impl Reader {
     }
 
     /// All that is there was read, and is compared.
-    pub fn end_round<T: Wait + Clock>(&mut self, shop: &Shop<'_, '_, '_, T>) {
+    pub fn end_round<T: Wait + Clock>(&mut self, shop: &WatchShared<'_, '_, '_, T>) {
         self.let_others_read_anew(shop);
         if self.status == Some(Status::Whole) {
             self.compare(shop);
@@ -268,7 +272,7 @@ impl Reader {
     }
 
     // It went back, when it had this.
-    fn go_back<T: Wait + Clock>(&mut self, shop: &Shop<'_, '_, '_, T>, had: Option<Extent>) {
+    fn go_back<T: Wait + Clock>(&mut self, shop: &WatchShared<'_, '_, '_, T>, had: Option<Extent>) {
         let before = if self.is_back(shop) {
             self.times_back
         } else {
@@ -281,7 +285,7 @@ impl Reader {
     }
 
     // Tells how much it gives, as long as it is shown as one that went back, and where that changed.
-    fn tell_given<T: Wait + Clock>(&mut self, shop: &Shop<'_, '_, '_, T>) {
+    fn tell_given<T: Wait + Clock>(&mut self, shop: &WatchShared<'_, '_, '_, T>) {
         let given = self.extent();
         if given == self.told_given || !self.is_back(shop) {
             return;
@@ -290,7 +294,7 @@ impl Reader {
         self.tell(shop, Told::Gives(given));
     }
 
-    fn is_back<T: Wait + Clock>(&self, shop: &Shop<'_, '_, '_, T>) -> bool {
+    fn is_back<T: Wait + Clock>(&self, shop: &WatchShared<'_, '_, '_, T>) -> bool {
         let Some(since) = self.back else {
             return false;
         };
@@ -304,15 +308,15 @@ impl Reader {
     // it gave is told.
     fn come_to<T: Wait + Clock>(
         &mut self,
-        shop: &Shop<'_, '_, '_, T>,
-        place: source_reading::Place,
+        shop: &WatchShared<'_, '_, '_, T>,
+        place: log_reading::FramePlace,
         read: usize,
     ) {
         let log = match place {
-            source_reading::Place::Known(log)
-            | source_reading::Place::Next(log)
-            | source_reading::Place::Opens(log) => log,
-            source_reading::Place::Beyond => return,
+            log_reading::FramePlace::Known(log)
+            | log_reading::FramePlace::Next(log)
+            | log_reading::FramePlace::Opens(log) => log,
+            log_reading::FramePlace::Beyond => return,
         };
         if log != self.begins && read > 0 && self.is_back(shop) {
             let given = Extent {
@@ -325,7 +329,7 @@ impl Reader {
     }
 
     // Where it does not begin with what it is compared with, it went back.
-    fn compare<T: Wait + Clock>(&mut self, shop: &Shop<'_, '_, '_, T>) {
+    fn compare<T: Wait + Clock>(&mut self, shop: &WatchShared<'_, '_, '_, T>) {
         let has_lost = match std::mem::replace(&mut self.compared, Compared::Nothing) {
             Compared::Nothing => false,
             Compared::Before => !self.logs.keeps(),
@@ -345,7 +349,7 @@ impl Reader {
     /// answer was read as far as that; else only its status counts.
     pub fn part_ways<T: Files<File = File> + Wait + Clock>(
         &mut self,
-        shop: &Shop<'_, '_, '_, T>,
+        shop: &WatchShared<'_, '_, '_, T>,
         status: Status,
         is_read: bool,
     ) -> Result<(), EvidenceRefusal> {
@@ -386,7 +390,7 @@ impl Reader {
     /// whether more of it is taken.
     pub fn take_frame<'c, T: Files<File = File> + Wait + Clock>(
         &mut self,
-        shop: &Shop<'_, '_, 'c, T>,
+        shop: &WatchShared<'_, '_, 'c, T>,
         draft: &mut Draft<'c>,
         frame: &[u8],
     ) -> Result<bool, EvidenceRefusal> {
@@ -403,17 +407,17 @@ impl Reader {
             return Ok(false);
         }
         match found {
-            source_reading::Place::Known(log) => {
+            log_reading::FramePlace::Known(log) => {
                 self.log = log;
                 self.front = digest_then(&self.front, &digest);
                 self.tell_kept(shop);
                 return Ok(true);
             }
-            source_reading::Place::Beyond => {
+            log_reading::FramePlace::Beyond => {
                 self.tell_beyond(shop);
                 return Ok(false);
             }
-            source_reading::Place::Next(log) | source_reading::Place::Opens(log) => {
+            log_reading::FramePlace::Next(log) | log_reading::FramePlace::Opens(log) => {
                 place.log = u16::try_from(log).unwrap_or(u16::MAX);
             }
         }
@@ -426,12 +430,12 @@ impl Reader {
     // verdict only the logs that it has go on.
     fn close<T: Wait + Clock>(
         &mut self,
-        shop: &Shop<'_, '_, '_, T>,
-        place: source_reading::Place,
+        shop: &WatchShared<'_, '_, '_, T>,
+        place: log_reading::FramePlace,
     ) -> bool {
         let log = match place {
-            source_reading::Place::Known(log) | source_reading::Place::Next(log) => log,
-            source_reading::Place::Opens(log) => {
+            log_reading::FramePlace::Known(log) | log_reading::FramePlace::Next(log) => log,
+            log_reading::FramePlace::Opens(log) => {
                 let is_accused = match shop.targets.get(self.source) {
                     Some(target) => target.accused.load(Ordering::SeqCst),
                     None => false,
@@ -441,7 +445,7 @@ impl Reader {
                 }
                 log
             }
-            source_reading::Place::Beyond => return false,
+            log_reading::FramePlace::Beyond => return false,
         };
         match self.closed {
             Some(closed) => closed <= log,
@@ -453,7 +457,7 @@ impl Reader {
     /// nothing new of how the log ends.
     pub fn add_frame<'c, T: Files<File = File> + Wait + Clock>(
         &mut self,
-        shop: &Shop<'_, '_, 'c, T>,
+        shop: &WatchShared<'_, '_, 'c, T>,
         draft: &mut Draft<'c>,
         place: &PartName,
         frame: &[u8],
@@ -491,7 +495,7 @@ impl Reader {
     /// Hands over what came last, where it has frames or says how the log ends.
     pub fn finish<'c, T: Files<File = File> + Wait + Clock>(
         &mut self,
-        shop: &Shop<'_, '_, 'c, T>,
+        shop: &WatchShared<'_, '_, 'c, T>,
         draft: Draft<'c>,
         status: Status,
     ) -> Result<(), EvidenceRefusal> {
@@ -505,7 +509,7 @@ impl Reader {
     /// Hands over a part of a log that ended so. It is stored first.
     pub fn hand_over<'c, T: Files<File = File> + Wait + Clock>(
         &mut self,
-        shop: &Shop<'_, '_, 'c, T>,
+        shop: &WatchShared<'_, '_, 'c, T>,
         draft: Draft<'c>,
         status: Status,
     ) -> Result<(), EvidenceRefusal> {
@@ -536,7 +540,7 @@ impl Reader {
     /// Joins parts of it, where many are kept.
     pub fn join_parts<T: Files<File = File> + Wait + Clock>(
         &mut self,
-        shop: &Shop<'_, '_, '_, T>,
+        shop: &WatchShared<'_, '_, '_, T>,
     ) -> Result<(), AllocError> {
         let Some(state) = shop.state else {
             return Ok(());
@@ -552,7 +556,7 @@ impl Reader {
     /// Tries again to store what waits, and tells where all of it is stored now.
     pub fn store_again<T: Files<File = File> + Wait + Clock>(
         &mut self,
-        shop: &Shop<'_, '_, '_, T>,
+        shop: &WatchShared<'_, '_, '_, T>,
     ) -> Result<(), AllocError> {
         let Some(state) = shop.state else {
             return Ok(());
@@ -600,7 +604,7 @@ impl Reader {
     // Stores a part, where it is to be stored, behind those that wait. Answers its path where it can't be, and nothing waited before.
     fn store<T: Files<File = File> + Wait + Clock>(
         &mut self,
-        shop: &Shop<'_, '_, '_, T>,
+        shop: &WatchShared<'_, '_, '_, T>,
         text: Option<PartText>,
         name: Option<PartName>,
     ) -> Result<Option<String>, AllocError> {
@@ -627,7 +631,7 @@ impl Reader {
     }
 
     // Tells which of the logs that were kept it gives, where that is another one than it was.
-    fn tell_kept<T: Wait + Clock>(&mut self, shop: &Shop<'_, '_, '_, T>) {
+    fn tell_kept<T: Wait + Clock>(&mut self, shop: &WatchShared<'_, '_, '_, T>) {
         let holding = self.kept.holding(self.logs.present());
         if let Some(log) = holding
             && holding != self.gives
@@ -637,7 +641,7 @@ impl Reader {
         }
     }
 
-    fn tell_beyond<T: Wait + Clock>(&mut self, shop: &Shop<'_, '_, '_, T>) {
+    fn tell_beyond<T: Wait + Clock>(&mut self, shop: &WatchShared<'_, '_, '_, T>) {
         if !self.has_told_beyond {
             self.has_told_beyond = true;
             self.tell(shop, Told::Beyond);
@@ -645,7 +649,7 @@ impl Reader {
     }
 
     /// Tells something of it.
-    pub fn tell<'c, T: Wait + Clock>(&self, shop: &Shop<'_, '_, 'c, T>, told: Told<'c>) {
+    pub fn tell<'c, T: Wait + Clock>(&self, shop: &WatchShared<'_, '_, 'c, T>, told: Told<'c>) {
         shop.hand_over(Delivery {
             source: self.source,
             told,
@@ -662,7 +666,7 @@ fn first_digest(frames: &Frames) -> Option<FrameDigest> {
 }
 
 /// A source gave a byte.
-pub(crate) fn note_answer<T: Wait + Clock>(shop: &Shop<'_, '_, '_, T>, source: usize) {
+pub(crate) fn note_answer<T: Wait + Clock>(shop: &WatchShared<'_, '_, '_, T>, source: usize) {
     if let Some(target) = shop.targets.get(source) {
         target
             .answered
@@ -671,7 +675,7 @@ pub(crate) fn note_answer<T: Wait + Clock>(shop: &Shop<'_, '_, '_, T>, source: u
 }
 
 // A frame came of it.
-fn note_frame<T: Wait + Clock>(shop: &Shop<'_, '_, '_, T>, source: usize) {
+fn note_frame<T: Wait + Clock>(shop: &WatchShared<'_, '_, '_, T>, source: usize) {
     if let Some(target) = shop.targets.get(source) {
         target.framed.store(seconds_now(shop.rt), Ordering::SeqCst);
     }

@@ -2,10 +2,11 @@
 
 use crate::draft::Draft;
 use crate::reader::{Compared, Reader};
-use crate::shop::{Shop, Told};
-use evidence::EvidenceRefusal;
+use crate::shop::{Told, WatchShared};
+use audit_evidence::EvidenceRefusal;
+use base_wire::MOST_ENTRIES;
 use log_format::Status;
-use source_reading::{FrameDigest, Place};
+use log_reading::{FrameDigest, FramePlace};
 use std::alloc::AllocError;
 use std::fs::{File, Files};
 use std::sync::Wait;
@@ -14,12 +15,11 @@ use watch_desk::Extent;
 use watch_state::{
     Found, KeptLogs, PartFile, PartName, PartVisitor, StateFolder, digest_then, visit_parts,
 };
-use wire::MOST_ENTRIES;
 
 // What is kept of a source, and what was made of it so far.
 #[derive(Drop)]
 struct Restorer<'x, 'a, 'w, 'c, T> {
-    shop: &'x Shop<'a, 'w, 'c, T>,
+    shop: &'x WatchShared<'a, 'w, 'c, T>,
     state: &'x StateFolder<'a, 'w, T>,
     reader: &'x mut Reader,
     draft: Draft<'c>,
@@ -30,7 +30,7 @@ impl Reader {
     /// kept. Which of them it had last is not kept.
     pub fn restore<T: Files<File = File> + Wait + Clock>(
         &mut self,
-        shop: &Shop<'_, '_, '_, T>,
+        shop: &WatchShared<'_, '_, '_, T>,
     ) -> Result<(), EvidenceRefusal> {
         let Some(state) = shop.state else {
             return Ok(());
@@ -57,7 +57,7 @@ impl Reader {
     // Reads what is kept of it. Answers the logs, and what was not handed over yet.
     fn read_kept<'c, T: Files<File = File> + Wait + Clock>(
         &mut self,
-        shop: &Shop<'_, '_, 'c, T>,
+        shop: &WatchShared<'_, '_, 'c, T>,
         state: &StateFolder<'_, '_, T>,
     ) -> Result<(KeptLogs, Draft<'c>), EvidenceRefusal> {
         let (replica, source) = (self.replica, self.nth);
@@ -76,7 +76,7 @@ impl Reader {
     // Something stands there that is no part of a log of it: it stays, and no more of this source is stored.
     fn pass_over<T: Files<File = File> + Wait + Clock>(
         &mut self,
-        shop: &Shop<'_, '_, '_, T>,
+        shop: &WatchShared<'_, '_, '_, T>,
         state: &StateFolder<'_, '_, T>,
         name: &PartName,
     ) -> Result<(), AllocError> {
@@ -97,7 +97,7 @@ impl Reader {
     // Whether a frame is the next of this log of it, of which it is then read.
     fn is_next(&mut self, log: usize, digest: &FrameDigest) -> Result<bool, AllocError> {
         match self.logs.place(digest)? {
-            Place::Next(k) | Place::Opens(k) if k == log => Ok(true),
+            FramePlace::Next(k) | FramePlace::Opens(k) if k == log => Ok(true),
             _ => Ok(false),
         }
     }

@@ -8,11 +8,11 @@ use crate::gone_over::{stay_path, store_next};
 use crate::next::{put_committee, put_goes_over, put_stands};
 use crate::publishing::{publish, replicas_of};
 use crate::queue::Line;
-use crate::shop::{Delivery, Shop, StoredPart, Told};
+use crate::shop::{Delivery, StoredPart, Told, WatchShared};
 use crate::since::Since;
 use crate::verdict_files::{Kept, VerdictFolder};
-use chain_dialing::Heard;
-use fork_picture::recent_picture;
+use audit_picture::recent_picture;
+use log_request::Heard;
 use program_parts::ProgramFault;
 use std::alloc::AllocError;
 use std::fs::{File, Files};
@@ -20,8 +20,8 @@ use std::sync::Wait;
 use std::sync::atomic::Ordering;
 use std::thread::Threads;
 use std::time::{Clock, Duration, Instant};
-use watch_desk::{Desk, KeptVerdicts, KnownVerdict, News, VerdictPlace, put_news};
-use watch_lines::{put_kept, put_lost, put_source_alarm, put_unstored, stamp, utc_text};
+use watch_desk::{KeptVerdicts, KnownVerdict, News, VerdictPlace, WatchDesk, put_news};
+use watch_report::{put_kept, put_lost, put_source_alarm, put_unstored, stamp, utc_text};
 use watch_web::seconds_now;
 
 /// How long the collector waits for what comes, in milliseconds: then it looks whether the watch is to end. So long an audit
@@ -34,7 +34,7 @@ const REST: u64 = 3;
 /// The desk of a watch, and what the shell around it knows.
 #[derive(Drop)]
 pub(crate) struct Rounds<'c> {
-    pub desk: Desk<'c>,
+    pub desk: WatchDesk<'c>,
     /// Where the verdicts are that the desk knows, in their order.
     pub places: Vec<VerdictPlace>,
     // Of each replica, whether something else is under the first name of its verdict.
@@ -57,7 +57,7 @@ pub(crate) struct Rounds<'c> {
 
 /// Collects until the watch ends. Answers whether there are culprits.
 pub(crate) fn collect<'c, T: Files<File = File> + Threads + Wait + Clock + Sync>(
-    shop: &Shop<'_, '_, 'c, T>,
+    shop: &WatchShared<'_, '_, 'c, T>,
 ) -> Result<bool, Fault<'static>>
     ensures { IfErr result (λ fault. fault ≢ ProgramFault.Output) }
 {
@@ -87,7 +87,7 @@ pub(crate) fn collect<'c, T: Files<File = File> + Threads + Wait + Clock + Sync>
 impl<'c> Rounds<'c> {
     // Nothing came yet. The verdicts that are kept in the folder are told.
     fn open<T: Files<File = File> + Wait + Clock>(
-        shop: &Shop<'_, '_, 'c, T>,
+        shop: &WatchShared<'_, '_, 'c, T>,
         folder: &VerdictFolder<'_, '_, T>,
     ) -> Result<Rounds<'c>, AllocError> {
         let stamp = stamp_now(shop, 0)?;
@@ -119,12 +119,12 @@ impl<'c> Rounds<'c> {
     }
 
     // Whether the watch is to end, or to go over.
-    fn is_over<T: Wait + Clock>(&self, shop: &Shop<'_, '_, 'c, T>) -> bool {
+    fn is_over<T: Wait + Clock>(&self, shop: &WatchShared<'_, '_, 'c, T>) -> bool {
         shop.is_leaving() || self.is_end(shop)
     }
 
     // Whether the watch is to end.
-    fn is_end<T: Wait + Clock>(&self, shop: &Shop<'_, '_, 'c, T>) -> bool {
+    fn is_end<T: Wait + Clock>(&self, shop: &WatchShared<'_, '_, 'c, T>) -> bool {
         if shop.is_ending() || (shop.words.until_culprit && self.has_stored()) {
             return true;
         }
@@ -141,7 +141,7 @@ impl<'c> Rounds<'c> {
     }
 
     // How many milliseconds the next audit is still to wait.
-    fn rest_left<T: Wait + Clock>(&self, shop: &Shop<'_, '_, 'c, T>) -> u64 {
+    fn rest_left<T: Wait + Clock>(&self, shop: &WatchShared<'_, '_, 'c, T>) -> u64 {
         let Some(since) = self.audited else {
             return 0;
         };
@@ -152,7 +152,7 @@ impl<'c> Rounds<'c> {
     }
 
     // How long to wait for what comes.
-    fn patience<T: Wait + Clock>(&self, shop: &Shop<'_, '_, 'c, T>) -> Duration {
+    fn patience<T: Wait + Clock>(&self, shop: &WatchShared<'_, '_, 'c, T>) -> Duration {
         if self.is_due && !shop.reads_kept() {
             return Duration::from_millis(self.rest_left(shop));
         }
@@ -162,7 +162,7 @@ impl<'c> Rounds<'c> {
     // Hands what was told to the desk, audits it where something is new, and publishes what is known then.
     fn take_round<T: Files<File = File> + Threads + Wait + Clock + Sync>(
         &mut self,
-        shop: &Shop<'_, '_, 'c, T>,
+        shop: &WatchShared<'_, '_, 'c, T>,
         folder: &VerdictFolder<'_, '_, T>,
         told: Vec<Delivery<'c>>,
     ) -> Result<(), Fault<'static>>
@@ -191,7 +191,7 @@ impl<'c> Rounds<'c> {
     // Where the watch ends while an audit waits, that is made.
     fn finish<T: Files<File = File> + Wait + Clock>(
         &mut self,
-        shop: &Shop<'_, '_, 'c, T>,
+        shop: &WatchShared<'_, '_, 'c, T>,
         folder: &VerdictFolder<'_, '_, T>,
     ) -> Result<(), AllocError> {
         if self.is_due && !shop.is_ending() && !shop.reads_kept() {
@@ -205,7 +205,7 @@ impl<'c> Rounds<'c> {
     // goes over to none.
     fn leave<T: Files<File = File> + Wait + Clock>(
         &self,
-        shop: &Shop<'_, '_, 'c, T>,
+        shop: &WatchShared<'_, '_, 'c, T>,
     ) -> Result<(), AllocError> {
         let Some(next) = shop.take_offer() else {
             return Ok(());
@@ -233,7 +233,7 @@ impl<'c> Rounds<'c> {
     // Hands what was told of a source to the desk.
     fn take<T: Threads + Wait + Clock + Sync>(
         &mut self,
-        shop: &Shop<'_, '_, 'c, T>,
+        shop: &WatchShared<'_, '_, 'c, T>,
         stamp: &[u8],
         delivery: &Delivery<'c>,
     ) -> Result<(), Fault<'static>>
@@ -270,7 +270,7 @@ impl<'c> Rounds<'c> {
     // Hands a part of a log of a source to the desk.
     fn take_part<T: Threads + Wait + Clock + Sync>(
         &mut self,
-        shop: &Shop<'_, '_, 'c, T>,
+        shop: &WatchShared<'_, '_, 'c, T>,
         stamp: &[u8],
         i: usize,
         stored: &StoredPart<'c>,
@@ -306,7 +306,7 @@ impl<'c> Rounds<'c> {
     // A part of a log of a source is not stored at this path.
     fn tell_unstored<T: Wait + Clock>(
         &mut self,
-        shop: &Shop<'_, '_, 'c, T>,
+        shop: &WatchShared<'_, '_, 'c, T>,
         stamp: &[u8],
         i: usize,
         path: &String,
@@ -321,7 +321,7 @@ impl<'c> Rounds<'c> {
     // Audits what came so far, and tells what is new.
     fn audit<T: Files<File = File> + Wait + Clock>(
         &mut self,
-        shop: &Shop<'_, '_, 'c, T>,
+        shop: &WatchShared<'_, '_, 'c, T>,
         folder: &VerdictFolder<'_, '_, T>,
         stamp: &[u8],
     ) -> Result<(), AllocError> {
@@ -354,7 +354,11 @@ impl<'c> Rounds<'c> {
     }
 
     // A round that began then has ended now, but for what it publishes.
-    fn note_round<T: Wait + Clock>(&mut self, shop: &Shop<'_, '_, 'c, T>, begun: Option<Instant>) {
+    fn note_round<T: Wait + Clock>(
+        &mut self,
+        shop: &WatchShared<'_, '_, 'c, T>,
+        begun: Option<Instant>,
+    ) {
         if let Some(begun) = begun
             && let Ok(took) = begun.elapsed(shop.rt)
         {
@@ -364,7 +368,11 @@ impl<'c> Rounds<'c> {
     }
 
     // An audit that began then has ended now.
-    fn note_audit<T: Wait + Clock>(&mut self, shop: &Shop<'_, '_, 'c, T>, begun: Option<Instant>) {
+    fn note_audit<T: Wait + Clock>(
+        &mut self,
+        shop: &WatchShared<'_, '_, 'c, T>,
+        begun: Option<Instant>,
+    ) {
         self.rest = 0;
         if let Some(begun) = begun
             && let Ok(took) = begun.elapsed(shop.rt)
@@ -377,7 +385,7 @@ impl<'c> Rounds<'c> {
     // Stores the verdict on a culprit, and tells it.
     fn name<T: Files<File = File> + Wait + Clock>(
         &mut self,
-        shop: &Shop<'_, '_, 'c, T>,
+        shop: &WatchShared<'_, '_, 'c, T>,
         folder: &VerdictFolder<'_, '_, T>,
         stamp: &[u8],
         news: &News,
@@ -419,7 +427,7 @@ impl<'c> Rounds<'c> {
 
 // Tells what was found under the names of a replica's verdict. Answers where that is, where it is one.
 fn tell_kept<T: Files<File = File> + Wait + Clock>(
-    shop: &Shop<'_, '_, '_, T>,
+    shop: &WatchShared<'_, '_, '_, T>,
     folder: &VerdictFolder<'_, '_, T>,
     stamp: &[u8],
     replica: u16,
@@ -449,7 +457,7 @@ fn tell_kept<T: Files<File = File> + Wait + Clock>(
 
 // What was heard of the server of a source. It may come again.
 fn tell_server<T: Wait + Clock>(
-    shop: &Shop<'_, '_, '_, T>,
+    shop: &WatchShared<'_, '_, '_, T>,
     stamp: &[u8],
     i: usize,
     heard: Heard,
@@ -466,7 +474,7 @@ fn tell_server<T: Wait + Clock>(
 
 // The line that says this of a source.
 fn source_line<T: Wait + Clock>(
-    shop: &Shop<'_, '_, '_, T>,
+    shop: &WatchShared<'_, '_, '_, T>,
     stamp: &[u8],
     i: usize,
     word: &[u8],
@@ -479,7 +487,10 @@ fn source_line<T: Wait + Clock>(
 }
 
 // How many lines were dropped, where there is room for that.
-fn tell_lost<T: Wait + Clock>(shop: &Shop<'_, '_, '_, T>, stamp: &[u8]) -> Result<(), AllocError> {
+fn tell_lost<T: Wait + Clock>(
+    shop: &WatchShared<'_, '_, '_, T>,
+    stamp: &[u8],
+) -> Result<(), AllocError> {
     let lost = shop.queue.take_lost(shop.rt);
     if lost > 0 {
         let mut line = Vec::new(shop.alloc);
@@ -490,7 +501,7 @@ fn tell_lost<T: Wait + Clock>(shop: &Shop<'_, '_, '_, T>, stamp: &[u8]) -> Resul
 }
 
 // Which of its replica's sources the one is of which this is told.
-fn nth_of<T: Wait + Clock>(shop: &Shop<'_, '_, '_, T>, news: &News) -> u16 {
+fn nth_of<T: Wait + Clock>(shop: &WatchShared<'_, '_, '_, T>, news: &News) -> u16 {
     let News::Status(i, _, _) = news else {
         return 0;
     };
@@ -502,7 +513,7 @@ fn nth_of<T: Wait + Clock>(shop: &Shop<'_, '_, '_, T>, news: &News) -> u16 {
 
 // Puts the line of something new into the queue. A source that is set aside is read no more.
 fn tell<T: Wait + Clock>(
-    shop: &Shop<'_, '_, '_, T>,
+    shop: &WatchShared<'_, '_, '_, T>,
     stamp: &[u8],
     news: &News,
     path: &[u8],
@@ -522,7 +533,7 @@ fn tell<T: Wait + Clock>(
 }
 
 fn tell_one<T: Wait + Clock>(
-    shop: &Shop<'_, '_, '_, T>,
+    shop: &WatchShared<'_, '_, '_, T>,
     stamp: &[u8],
     news: Option<News>,
 ) -> Result<(), AllocError> {
@@ -533,7 +544,7 @@ fn tell_one<T: Wait + Clock>(
 }
 
 fn tell_all<T: Wait + Clock>(
-    shop: &Shop<'_, '_, '_, T>,
+    shop: &WatchShared<'_, '_, '_, T>,
     stamp: &[u8],
     all: &[News],
 ) -> Result<(), AllocError> {
@@ -556,7 +567,7 @@ fn milliseconds_of(time: Duration) -> u64 {
 
 // What stands before each line of a round that is told now.
 fn stamp_now<T: Wait + Clock>(
-    shop: &Shop<'_, '_, '_, T>,
+    shop: &WatchShared<'_, '_, '_, T>,
     round: u64,
 ) -> Result<Vec<u8>, AllocError> {
     let time = utc_text(shop.alloc, seconds_now(shop.rt))?;
@@ -569,7 +580,7 @@ fn stamp_now<T: Wait + Clock>(
 
 // Tells with which committee the watch begins, or goes on.
 fn tell_stands<T: Wait + Clock>(
-    shop: &Shop<'_, '_, '_, T>,
+    shop: &WatchShared<'_, '_, '_, T>,
     stamp: &[u8],
 ) -> Result<(), AllocError> {
     if !shop.words.lineage {

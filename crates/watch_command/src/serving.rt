@@ -2,12 +2,15 @@
 
 ghost use Rattle.std.specs.Prelude.{◌≡◌};
 
-use crate::shop::Shop;
+use crate::shop::WatchShared;
+use base_shared::Shared;
+use base_sockets::{
+    Answerer, Bounds, CallTalk, Rules, ShortFirst, bind, connections_at, most_open_files,
+    talk_to_all,
+};
+use base_wire::append;
 use http_server::{Config, Connection};
 use http1::Limits;
-use patient_calls::{Answerer, CallTalk, ShortFirst};
-use patient_sockets::{Bounds, Rules, bind, connections_at, most_open_files, talk_to_all};
-use shared_values::Shared;
 use std::alloc::Global;
 use std::fs::{File, Files};
 use std::hash::RandomState;
@@ -18,9 +21,8 @@ use std::os::fd::OwnedFd;
 use std::random::RandomSource;
 use std::sync::{Mutex, Wait};
 use std::time::Clock;
-use watch_snapshot::Snapshot;
+use watch_report::Snapshot;
 use watch_web::{Watcher, serve_watcher};
-use wire::append;
 
 /// How many threads answer, each many readers at once.
 pub(crate) const ANSWERERS: usize = 2;
@@ -118,7 +120,7 @@ impl<T: Wait + Clock> Answerer for Teller<'_, T> {
 pub(crate) fn answer_all<
     'x,
     T: Files<File = File> + Wait + Clock + Net<Listener = TcpListener, Stream = TcpStream>,
->(shop: &'x Shop<'_, '_, '_, T>, server: &'x Server) {
+>(shop: &'x WatchShared<'_, '_, '_, T>, server: &'x Server) {
     let hosts: &[String] = &shop.words.hosts;
     let rules = Rules {
         bounds: BOUNDS,
@@ -148,7 +150,7 @@ pub(crate) fn answer_all<
 }
 
 // How many connections one thread keeps. Each source may have a stream and a file.
-fn connections<T: Files<File = File>>(shop: &Shop<'_, '_, '_, T>) -> usize {
+fn connections<T: Files<File = File>>(shop: &WatchShared<'_, '_, '_, T>) -> usize {
     let files = most_open_files(shop.rt, shop.alloc);
     let taken = u64::try_from(shop.targets.len()).unwrap_or(u64::MAX);
     let all = connections_at(files, taken.saturating_mul(2), 1);

@@ -3,12 +3,12 @@
 ghost use Rattle.std.specs.Prelude.{◌≤◌};
 
 use crate::next::NextFiles;
-use crate::program::Host;
+use crate::program::WatchHost;
 use crate::queue::Queue;
 use crate::serving::{ANSWERERS, Server};
 use crate::words::Words;
 use blocks::CommitteeView;
-use chain_dialing::Heard;
+use log_request::Heard;
 use std::alloc::{AllocError, Global};
 use std::sync::atomic::{AtomicBool, AtomicU32, AtomicU64, Ordering};
 use std::sync::{Condvar, Mutex, Wait};
@@ -86,7 +86,7 @@ pub(crate) fn answerers_of(server: Option<&Server>) -> usize
 
 /// Where a source's log comes from.
 #[derive(Drop)]
-pub(crate) enum Place<'a> {
+pub(crate) enum SourceOrigin<'a> {
     /// The path of a file.
     File(&'a str),
     /// The name of a server.
@@ -101,7 +101,7 @@ pub(crate) struct Target<'a> {
     pub replica: u16,
     /// Which of the sources of that replica it is, from 0.
     pub nth: u16,
-    pub place: Place<'a>,
+    pub place: SourceOrigin<'a>,
     /// When it last gave a byte, in seconds since 1970, or 0.
     pub answered: AtomicU64,
     /// When a frame last came of it.
@@ -170,7 +170,7 @@ pub(crate) struct Stay<'a, 'c> {
 
 /// What the threads share. Each source hands over one part at a time, and goes on when that was taken.
 #[derive(Drop)]
-pub(crate) struct Shop<'a, 'w, 'c, T> {
+pub(crate) struct WatchShared<'a, 'w, 'c, T> {
     pub rt: &'a T,
     pub alloc: Global,
     /// The number of the committee.
@@ -213,16 +213,16 @@ pub(crate) struct Shop<'a, 'w, 'c, T> {
     kept_sources: AtomicU64,
 }
 
-impl<'a, 'w, 'c, T: Wait + Clock> Shop<'a, 'w, 'c, T> {
+impl<'a, 'w, 'c, T: Wait + Clock> WatchShared<'a, 'w, 'c, T> {
     /// Nothing was told yet.
     pub fn new(
-        host: &'a Host<'a, T>,
+        host: &'a WatchHost<'a, T>,
         words: &'a Words<'w>,
         hall: &'a Hall,
         stay: &Stay<'a, 'c>,
         targets: &'a [Target<'w>],
         state: Option<&'a StateFolder<'a, 'w, T>>,
-    ) -> Result<Shop<'a, 'w, 'c, T>, AllocError> {
+    ) -> Result<WatchShared<'a, 'w, 'c, T>, AllocError> {
         let mut places = Vec::new(host.alloc);
         for _ in 0..targets.len() {
             places.push(None)?;
@@ -232,7 +232,7 @@ impl<'a, 'w, 'c, T: Wait + Clock> Shop<'a, 'w, 'c, T> {
             .unwrap_or(u32::MAX)
             .saturating_add(1)
             .saturating_add(answerers_of(server) as u32);
-        Ok(Shop {
+        Ok(WatchShared {
             rt: host.rt,
             alloc: host.alloc,
             number: stay.number,

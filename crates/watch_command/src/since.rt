@@ -2,7 +2,7 @@
 
 use log_format::Status;
 use std::alloc::{AllocError, Global};
-use watch_desk::{Desk, SourceKnown};
+use watch_desk::{SourceKnown, WatchDesk};
 
 /// .. of a source. Times are seconds since 1970, 0 for what does not hold.
 #[derive(Clone, Copy, Debug)]
@@ -53,7 +53,7 @@ impl Since {
     }
 
     /// Notes what holds at this second.
-    pub fn note(&mut self, desk: &Desk, is_unstored: bool, second: u64) {
+    pub fn note(&mut self, desk: &WatchDesk, is_unstored: bool, second: u64) {
         for (since, known) in self.sources.iter_mut().zip(desk.known()) {
             since.note(known, second);
         }

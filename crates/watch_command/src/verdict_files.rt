@@ -3,8 +3,7 @@
 ghost use Rattle.std.specs.Prelude.{◌≢◌, IfErr};
 
 use crate::fault::{Fault, FolderFile, WatchFault};
-use program_parts::{InputFault, MOST_OF_A_SHORT_FILE, ProgramFault, read_file};
-use safe_files::store_new;
+use program_parts::{InputFault, MOST_OF_A_SHORT_FILE, ProgramFault, read_file, store_new};
 use std::alloc::{AllocError, Global};
 use std::fs::{File, Files, OpenOptions};
 use std::io::ErrorKind;

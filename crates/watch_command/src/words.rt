@@ -3,9 +3,9 @@
 ghost use Rattle.std.specs.Prelude.{◌≡◌, ◌≢◌, ◌≤◌, IfErr, IfOk, IfSome, length};
 
 use crate::fault::{Fault, WatchFault};
+use base_text::number_in;
 use clap::error::ErrorKind;
 use clap::{Arg, ArgAction, ArgMatches, Command as Grammar, Error};
-use printed_lines::number_in;
 use program_parts::{Origin, ProgramFault, SourceFault, SourceWord, number};
 use std::alloc::{AllocError, Global};
 

@@ -8,9 +8,9 @@ use Rattle.std.proofs.lemmas.Bool.Decides.{Decides-eqb}
 use Rattle.std.proofs.lemmas.List.Elements.{Contains-append_cases, Contains-append_left, Contains-append_right}
 use Rattle.std.proofs.lemmas.Slice.Eq.{bytes_eq-Decides}
 use Rattle.blocks.specs.Headers.{Header}
-use Rattle.evidence.specs.Evidence.{Evidence}
+use Rattle.audit_evidence.specs.Evidence.{Evidence}
 use Rattle.verdict_format.specs.Verdicts.{replica_in}
-use Rattle.commit_search.specs.Culprits.{IsCulprit, IsOffence}
+use Rattle.audit_commits.specs.Culprits.{IsCulprit, IsOffence}
 use Rattle.culprit_search.specs.Reports.{Report}
 use Rattle.culprit_search.specs.Verdicts.{AreVerdicts, parts_of}
 use Rattle.culprit_search.specs.declared.report.Commit.{Commit}

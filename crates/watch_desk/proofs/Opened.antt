@@ -5,11 +5,11 @@ use Rattle.std.proofs.lemmas.Bool.{cases_lt}
 use Rattle.std.proofs.lemmas.List.{get_or_default, get_or-set_other, get_or-set_same}
 use Rattle.std.proofs.Math.ListN.{length-set}
 use Rattle.std.proofs.lemmas.Option.{slice_get-get_or, slice_get_past, slice_get_read}
-use Rattle.evidence.specs.Logs.{ReceivedLog}
+use Rattle.audit_evidence.specs.Logs.{ReceivedLog}
 use Rattle.watch_collector.specs.Collectors.{Collected, IsCollected, logs_then, unread_log, unread_report}
-use Rattle.watch_desk.specs.Desks.{ChangesAt, Desk, logs_with, number_for, reports_with}
+use Rattle.watch_desk.specs.Desks.{ChangesAt, WatchDesk, logs_with, number_for, reports_with}
 use Rattle.certificates.specs.declared.vote.SignedVote.{SignedVote}
-use Rattle.evidence.specs.declared.source.SourceReport.{SourceReport}
+use Rattle.audit_evidence.specs.declared.source.SourceReport.{SourceReport}
 use Rattle.watch_collector.specs.Parts.{IsPartOn}
 use Rattle.watch_desk.specs.Opening.{IsAddedAt, IsBegun, IsNotedAt, IsOpenedAt}
 use Rattle.watch_desk.specs.Sources.{AreTheBad}
@@ -46,7 +46,7 @@ changes_none xs i before there is =
     let at = slice_get_read xs (length xs) i before refl there is in
     record { was = at; is = at; others = λ k _. refl; count = refl }
 
-known_by : (d : Desk) (i log n : ℕ) (before : SourceKnown) (o : Option LogKnown) → slice_get before.logs.items log ≡ o → i < length d.sources → before ≡ get_or d.sources i before → Some n ≡ option_map (λ l. l.number) o → IsOpenedAt d d i log n
+known_by : (d : WatchDesk) (i log n : ℕ) (before : SourceKnown) (o : Option LogKnown) → slice_get before.logs.items log ≡ o → i < length d.sources → before ≡ get_or d.sources i before → Some n ≡ option_map (λ l. l.number) o → IsOpenedAt d d i log n
 known_by d i log n before None e there is known = absurd (let no : Some n ≡ None = known in cc)
 known_by d i log n before (Some l) e there is known =
     let same : Some n ≡ Some l.number = known in (
@@ -64,14 +64,14 @@ known_by d i log n before (Some l) e there is known =
       },
     )
 
-pub opened_known : (d : Desk) (i log n : ℕ) (before : SourceKnown) → i < length d.sources → before ≡ get_or d.sources i before → Some n ≡ option_map (λ l. l.number) (slice_get before.logs.items log) → IsOpenedAt d d i log n
+pub opened_known : (d : WatchDesk) (i log n : ℕ) (before : SourceKnown) → i < length d.sources → before ≡ get_or d.sources i before → Some n ≡ option_map (λ l. l.number) (slice_get before.logs.items log) → IsOpenedAt d d i log n
 opened_known d i log n before there is known = known_by d i log n before (slice_get before.logs.items log) refl there is known
 
 -- the source at a place is one
 same_at : (xs : List SourceKnown) (i : ℕ) (x y : SourceKnown) → i < length xs → x ≡ get_or xs i x → y ≡ get_or xs i y → x ≡ y
 same_at xs i x y there one other = one ∙ get_or_default xs i x y there ∙ sym other
 
-new_by : (d : Desk) (new : Collected) (i log n : ℕ) (before after : SourceKnown) (o : Option LogKnown) → slice_get before.logs.items log ≡ o → i < length d.sources → before ≡ get_or d.sources i before
+new_by : (d : WatchDesk) (new : Collected) (i log n : ℕ) (before after : SourceKnown) (o : Option LogKnown) → slice_get before.logs.items log ≡ o → i < length d.sources → before ≡ get_or d.sources i before
     → None ≡ option_map (λ l. l.number) o → n ≡ length d.collected.reports
     → ((committee : List ℕ) (logs : List ReceivedLog) → IsCollected committee logs d.collected → IsCollected committee (logs ++ unread_log before.replica ∷ []) new)
     → new.reports ≡ d.collected.reports ++ unread_report before.replica ∷ [] → new.gathered ≡ d.collected.gathered → SameButLogs before after
@@ -93,7 +93,7 @@ new_by d new i log n before after None e there is none next more reports gathere
   },
 )
 
-pub opened_new : (d : Desk) (new : Collected) (i log n : ℕ) (before again seen after : SourceKnown) → i < length d.sources
+pub opened_new : (d : WatchDesk) (new : Collected) (i log n : ℕ) (before again seen after : SourceKnown) → i < length d.sources
     → before ≡ get_or d.sources i before → again ≡ get_or d.sources i again → seen ≡ get_or d.sources i seen
     → None ≡ option_map (λ l. l.number) (slice_get before.logs.items log) → n ≡ length d.collected.reports
     → ((committee : List ℕ) (logs : List ReceivedLog) → IsCollected committee logs d.collected → IsCollected committee (logs ++ unread_log again.replica ∷ []) new)
@@ -112,7 +112,7 @@ opened_new d new i log n before again seen after there is is_again is_seen none 
 
 -- ---- a part that was added
 
-pub added_at : (d : Desk) (new : Collected) (i number : ℕ) (p : NewPart) (heard : List News) (before after : SourceKnown) (report : SourceReport) (bad : List SignedVote) → i < length d.sources → before ≡ get_or d.sources i before
+pub added_at : (d : WatchDesk) (new : Collected) (i number : ℕ) (p : NewPart) (heard : List News) (before after : SourceKnown) (report : SourceReport) (bad : List SignedVote) → i < length d.sources → before ≡ get_or d.sources i before
     → ((committee : List ℕ) (logs : List ReceivedLog) (l : ReceivedLog) → IsCollected committee logs d.collected → IsPartOn committee l p.part → IsCollected committee (logs_then logs number l) new)
     → AreTheBad d.collected.gathered.committee p.part.listing.votes bad → new.gathered.committee ≡ d.collected.gathered.committee → slice_get new.reports number ≡ Some report → IsNoted before after i p report bad heard
     → IsAddedAt d (record { collected = new; sources = set d.sources i after; told = d.told }) i number p heard
@@ -121,6 +121,6 @@ added_at d new i number p heard before after report bad there is collected are u
 
 -- ---- something else that is noted
 
-pub noted_at : (Is : SourceKnown → SourceKnown → Type 0) (d : Desk) (i : ℕ) (before after : SourceKnown) → i < length d.sources → before ≡ get_or d.sources i before → Is before after
+pub noted_at : (Is : SourceKnown → SourceKnown → Type 0) (d : WatchDesk) (i : ℕ) (before after : SourceKnown) → i < length d.sources → before ≡ get_or d.sources i before → Is before after
     → IsNotedAt Is i d (record { collected = d.collected; sources = set d.sources i after; told = d.told })
 noted_at Is d i before after there is noted = (before, after, record { changes = changes_at d.sources i before after there is; noted = noted; collected = refl; told = refl })

@@ -6,8 +6,8 @@ use Rattle.verdict_format.specs.VerdictText.{IsVerdictOf, parts_in}
 use Rattle.verdict_format.specs.Verdicts.{verdict_kind_in}
 use Rattle.verdict_format.specs.declared.parts.BoundVote.{BoundVote}
 use Rattle.verdict_format.specs.declared.parts.VerdictParts.{VerdictParts}
-use Rattle.watch_snapshot.specs.Proved.{pair_in}
-use Rattle.watch_snapshot.specs.declared.proved.Pair.{Pair}
+use Rattle.watch_report.specs.Proved.{pair_in}
+use Rattle.watch_report.specs.declared.proved.Pair.{Pair}
 
 abbrev vote_of : BoundVote → Ballot
 vote_of v = record { view = v.view; id = v.id }

@@ -3,7 +3,7 @@ use Rattle.std.proofs.Common.{◌≡◌, ◌∙◌, ◌+◌, ◌<◌, ◌++◌, 
 use Rattle.std.specs.Prelude.{◌-◌, map, sum_by}
 use Rattle.std.proofs.lemmas.List.{length-map, length-take-le, map-append, take_more}
 use Rattle.std.proofs.lemmas.List.Sums.{sum_by_push}
-use Rattle.watch_snapshot.specs.declared.snapshot.Culprit.{Culprit}
+use Rattle.watch_report.specs.declared.snapshot.Culprit.{Culprit}
 use Rattle.watch_desk.specs.Shown.{CulpritFacts, capped, culprit_facts, verdict_facts, verdict_of}
 use Rattle.watch_desk.specs.Taking.{AllAt}
 use Rattle.watch_desk.proofs.Sourcing.{each_and_one_more}

@@ -1,6 +1,6 @@
 -- Whether a source that went back gave all again that it had.
 use Rattle.std.specs.Prelude.{◌&&◌, ℕ, Bool, false, nat_eq, nat_le, nat_lt, Option, None, Some, if◌then◌else◌}
-use Rattle.watch_snapshot.specs.Times.{lasts_back}
+use Rattle.watch_report.specs.Times.{lasts_back}
 use Rattle.watch_desk.specs.declared.back.Back.{Back}
 use Rattle.watch_desk.specs.declared.back.Extent.{Extent}
 

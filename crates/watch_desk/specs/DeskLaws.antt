@@ -1,10 +1,10 @@
 -- Laws on what a desk knows and tells.
 use Rattle.std.specs.Prelude.{◌≡◌, ◌↔◌, ◌⊎◌, ℕ, List, [], Some, IsSome}
 use Rattle.std.specs.List.{All, Contains}
-use Rattle.evidence.specs.Evidence.{Evidence}
+use Rattle.audit_evidence.specs.Evidence.{Evidence}
 use Rattle.verdict_format.specs.Proofs.{IsProof}
 use Rattle.verdict_format.specs.Verdicts.{replica_in}
-use Rattle.commit_search.specs.Culprits.{IsCulprit}
+use Rattle.audit_commits.specs.Culprits.{IsCulprit}
 use Rattle.culprit_search.specs.Reports.{IsAudit, Report}
 use Rattle.culprit_search.specs.declared.report.Commit.{Commit}
 use Rattle.culprit_search.specs.declared.report.Conflict.{Conflict}

@@ -3,11 +3,11 @@ use Rattle.std.specs.Prelude.{◌++◌, ℕ, List, codes, decimal}
 use Rattle.hex.specs.Hex.{encode_lower}
 use Rattle.blocks.specs.Headers.{Header, header_id}
 use Rattle.culprit_search.specs.declared.report.Commit.{Commit}
-use Rattle.handover_lines.specs.HandoverLines.{after_text}
+use Rattle.handover_search.specs.HandoverLines.{after_text}
 use Rattle.verdict_format.specs.Verdicts.{earlier_in, later_in, verdict_kind_in}
 use Rattle.watch_desk.specs.declared.news.News.{News}
 use Rattle.watch_desk.specs.declared.news.News.TheVariants as news
-use Rattle.watch_lines.specs.WatchLines.{commit_news, conflict_news, culprit_news, source_alarm, source_news}
+use Rattle.watch_report.specs.WatchLines.{commit_news, conflict_news, culprit_news, source_alarm, source_news}
 
 -- "K views E W PATH"
 unfoldable pub verdict_views_text : List ℕ → List ℕ → List ℕ

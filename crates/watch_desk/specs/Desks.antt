@@ -1,14 +1,14 @@
 -- What a desk knows, and what it knows once more came.
 use Rattle.std.specs.Prelude.{◌≡◌, ◌≢◌, ◌++◌, ℕ, List, [], ◌∷◌, length, Option, None, Some, false, slice_get}
-use Rattle.evidence.specs.Logs.{ReceivedLog}
-use Rattle.evidence.specs.declared.source.SourceReport.{SourceReport}
+use Rattle.audit_evidence.specs.Logs.{ReceivedLog}
+use Rattle.audit_evidence.specs.declared.source.SourceReport.{SourceReport}
 use Rattle.watch_collector.specs.Collectors.{Collected, unread_log, unread_report}
 use Rattle.watch_desk.specs.Hearing.{Told}
 use Rattle.watch_desk.specs.declared.source.LogKnown.{LogKnown}
 use Rattle.watch_desk.specs.declared.source.SourceKnown.{SourceKnown}
 
 -- what came of the logs, what is known of the sources, and what was told
-pub record Desk : Type 0 where
+pub record WatchDesk : Type 0 where
   pub collected : Collected
   pub sources : List SourceKnown
   pub told : Told

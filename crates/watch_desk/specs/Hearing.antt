@@ -2,11 +2,11 @@
 use Rattle.std.specs.Prelude.{◌≡◌, ◌++◌, ◌||◌, ℕ, List, [], ◌∷◌, Bool, false, Option, None, is_some, IsSome, IfSome}
 use Rattle.blocks.specs.Headers.{Header}
 use Rattle.blocks.specs.Weights.{committee_of}
-use Rattle.evidence.specs.Evidence.{Evidence}
+use Rattle.audit_evidence.specs.Evidence.{Evidence}
 use Rattle.ancestry.specs.Known.{Known}
-use Rattle.commit_search.specs.Chosen.{AreCertifiedHeaders}
-use Rattle.commit_search.specs.Commits.{HasNoConflict}
-use Rattle.handover.specs.Handovers.{IsFirstCommitted, IsHandover}
+use Rattle.audit_commits.specs.Chosen.{AreCertifiedHeaders}
+use Rattle.audit_commits.specs.Commits.{HasNoConflict}
+use Rattle.handover_blocks.specs.Handovers.{IsFirstCommitted, IsHandover}
 use Rattle.culprit_search.specs.Reports.{Report}
 use Rattle.culprit_search.specs.declared.report.Commit.{Commit}
 use Rattle.culprit_search.specs.declared.report.Conflict.{Conflict}

@@ -5,7 +5,7 @@ use Rattle.std.specs.Str.{bytes_eq}
 use Rattle.blocks.specs.Headers.{Header}
 use Rattle.culprit_search.specs.declared.report.Commit.{Commit}
 use Rattle.culprit_search.specs.declared.report.Conflict.{Conflict}
-use Rattle.handover_lines.specs.HandoverLines.{commits_after}
+use Rattle.handover_search.specs.HandoverLines.{commits_after}
 use Rattle.watch_desk.specs.declared.news.News.{News}
 use Rattle.watch_desk.specs.declared.news.News.TheVariants as news
 

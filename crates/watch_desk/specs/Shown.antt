@@ -7,17 +7,17 @@ use Rattle.blocks.specs.Weights.{total_of}
 use Rattle.blocks.specs.declared.ballot.Ballot.{Ballot}
 use Rattle.culprit_search.specs.declared.report.Commit.{Commit}
 use Rattle.culprit_search.specs.declared.report.Conflict.{Conflict}
-use Rattle.evidence.specs.declared.source.SourceReport.{SourceReport}
+use Rattle.audit_evidence.specs.declared.source.SourceReport.{SourceReport}
 use Rattle.log_format.specs.declared.status.Status.{Status}
 use Rattle.verdict_format.specs.Proofs.{IsProof}
 use Rattle.verdict_format.specs.Verdicts.{replica_in}
-use Rattle.watch_snapshot.specs.declared.snapshot.Culprit.{Culprit}
-use Rattle.watch_snapshot.specs.declared.snapshot.Fork.{Fork}
-use Rattle.watch_snapshot.specs.declared.snapshot.Snapshot.{Snapshot}
-use Rattle.watch_snapshot.specs.declared.source.SourceDigests.{SourceDigests}
-use Rattle.watch_snapshot.specs.declared.source.SourceSeen.{SourceSeen}
+use Rattle.watch_report.specs.declared.snapshot.Culprit.{Culprit}
+use Rattle.watch_report.specs.declared.snapshot.Fork.{Fork}
+use Rattle.watch_report.specs.declared.snapshot.Snapshot.{Snapshot}
+use Rattle.watch_report.specs.declared.source.SourceDigests.{SourceDigests}
+use Rattle.watch_report.specs.declared.source.SourceSeen.{SourceSeen}
 use Rattle.watch_desk.specs.Backs.{back_at}
-use Rattle.watch_desk.specs.Desks.{Desk}
+use Rattle.watch_desk.specs.Desks.{WatchDesk}
 use Rattle.watch_desk.specs.News.{most_commits}
 use Rattle.watch_desk.specs.Taking.{AllAt, is_aside}
 use Rattle.watch_desk.specs.declared.shown.Moment.{Moment}
@@ -149,7 +149,7 @@ conflict_shown (Some c) = Some (record { first = c.first; second = c.second })
 -- ---- all
 
 -- .. with the weights of this committee
-pub record IsSnapshotUnder (committee : List ℕ) (d : Desk) (places : List VerdictPlace) (m : Moment) (s : Snapshot) : Type 0 where
+pub record IsSnapshotUnder (committee : List ℕ) (d : WatchDesk) (places : List VerdictPlace) (m : Moment) (s : Snapshot) : Type 0 where
   pub sources : map seen_facts s.sources.items ≡ map (known_facts d.collected.reports) d.sources
   pub placed : AllAt (IsShownAt m.sources.items) s.sources.items
   pub culprits : map culprit_facts s.culprits.items ≡ map (verdict_facts committee) d.told.verdicts
@@ -184,5 +184,5 @@ pub record IsSnapshotUnder (committee : List ℕ) (d : Desk) (places : List Verd
   pub picture : s.picture ≡ m.picture
 
 -- .. with those of the committee that the desk audits
-abbrev pub IsSnapshotOf : Desk → List VerdictPlace → Moment → Snapshot → Type 0
+abbrev pub IsSnapshotOf : WatchDesk → List VerdictPlace → Moment → Snapshot → Type 0
 IsSnapshotOf d places m s = IsSnapshotUnder d.collected.gathered.committee d places m s

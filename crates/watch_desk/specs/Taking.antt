@@ -2,9 +2,9 @@
 use Rattle.std.specs.Prelude.{◌≡◌, ◌++◌, ◌+◌, ◌-◌, ◌^◌, min, ℕ, List, [], ◌∷◌, Bool, true, false, nat_le, length, map, Option, None, Some, replicate, slice_get, slice_set, option_and_then}
 use Rattle.std.specs.List.{Contains}
 use Rattle.certificates.specs.declared.vote.SignedVote.{SignedVote}
-use Rattle.evidence.specs.declared.source.SourceReport.{SourceReport}
+use Rattle.audit_evidence.specs.declared.source.SourceReport.{SourceReport}
 use Rattle.log_format.specs.declared.status.Status.{Status}
-use Rattle.watch_snapshot.specs.declared.source.SourceDigests.{SourceDigests}
+use Rattle.watch_report.specs.declared.source.SourceDigests.{SourceDigests}
 use Rattle.watch_desk.specs.Backs.{back_after, back_then}
 use Rattle.watch_desk.specs.Sources.{GainsOnce, most_bad_votes, aside_told, back_told, beyond_told, log_named, status_told, top_from}
 use Rattle.watch_desk.specs.declared.back.Extent.{Extent}

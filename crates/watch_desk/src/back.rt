@@ -3,7 +3,7 @@
 ghost use Rattle.std.specs.Prelude.{◌≡◌};
 ghost use Rattle.watch_desk.specs.Backs.{back_after, back_at, back_then, both, is_all, longer};
 
-use watch_snapshot::lasts_back;
+use watch_report::lasts_back;
 
 /// So many frames of a log of a source, from the first on.
 #[derive(Clone, Copy, Debug, PartialEq, Eq)]

@@ -3,9 +3,9 @@
 ghost use Rattle.std.specs.Prelude.{◌≡◌, ◌<◌, ◌↔◌, ℕ, List, IfErr, IfOk, IsTrue, OnErr, Some, length, map, slice_get, slice_index_or};
 ghost use Rattle.std.specs.List.{All, Contains};
 ghost use Rattle.verdict_format.specs.Proofs.{IsProof};
-ghost use Rattle.evidence.specs.Gathering.{IsGatheringRefusal};
+ghost use Rattle.audit_evidence.specs.Gathering.{IsGatheringRefusal};
 ghost use Rattle.watch_collector.specs.Collectors.{IsCollected, MayFollow, unread_log};
-ghost use Rattle.evidence.specs.Logs.{ReceivedLog};
+ghost use Rattle.audit_evidence.specs.Logs.{ReceivedLog};
 ghost use Rattle.culprit_search.specs.Found.{IsSearchOf};
 ghost use Rattle.watch_collector.specs.Audits.{IsAuditOfLogs};
 ghost use Rattle.watch_desk.specs.Hearing.{IsHeard};
@@ -19,10 +19,10 @@ use crate::news::News;
 use crate::source::{NewPart, SourceKnown};
 use crate::told::{Heard, Told};
 use crate::votes::bad_votes;
+use audit_evidence::{Evidence, EvidenceRefusal, SourceReport};
+use base_shared::Shared;
 use blocks::CommitteeView;
 use culprit_search::{Report, Searched};
-use evidence::{Evidence, EvidenceRefusal, SourceReport};
-use shared_values::Shared;
 use std::alloc::{AllocError, Global};
 use std::marker::Model;
 use std::thread::Threads;
@@ -31,20 +31,20 @@ use watch_collector::{AuditSoFar, Collector, audit_so_far};
 /// What came so far of the sources of a watch, and what was told of it. Contracts see what the collector knows, what is known of
 /// each source, and what was told. Each verdict that it knows is a proof under its committee.
 #[derive(Drop)]
-pub struct Desk<'c> {
+pub struct WatchDesk<'c> {
     alloc: Global,
     collector: Collector<'c>,
     sources: Vec<SourceKnown>,
     told: Told,
 }
 
-impl<'c> Model for Desk<'c> {
+impl<'c> Model for WatchDesk<'c> {
     ghost use Rattle.std.specs.List.{All};
     ghost use Rattle.verdict_format.specs.Proofs.{IsProof};
-    ghost use Rattle.evidence.specs.Logs.{ReceivedLog};
+    ghost use Rattle.audit_evidence.specs.Logs.{ReceivedLog};
     ghost use Rattle.watch_collector.specs.Audits.{IsAuditOfLogs};
     ghost use Rattle.watch_desk.specs.Hearing.{IsHeard};
-    ghost use Rattle.watch_desk.specs.Desks.{Desk as DeskValue};
+    ghost use Rattle.watch_desk.specs.Desks.{WatchDesk as DeskValue};
 
     ghost Value = { DeskValue };
 
@@ -89,14 +89,14 @@ fn fresh_sources(alloc: Global, replicas: &[u16]) -> Result<Vec<SourceKnown>, Al
     Ok(sources)
 }
 
-impl<'c> Desk<'c> {
+impl<'c> WatchDesk<'c> {
     /// Nothing came yet of the log of each of these replicas; these verdicts of files were told.
     pub fn open(
         alloc: Global,
         committee: &CommitteeView<'c>,
         replicas: &[u16],
         kept: Vec<Shared<KnownVerdict>>,
-    ) -> Result<Desk<'c>, AllocError>
+    ) -> Result<WatchDesk<'c>, AllocError>
         requires { All (IsProof committee.now) kept.items }
         ensures collected { IfOk result (λ d.
             IsCollected committee.now (map unread_log replicas.now) d.collected) }
@@ -105,7 +105,7 @@ impl<'c> Desk<'c> {
     {
         let collector = Collector::new(alloc, committee, replicas)?;
         let sources = fresh_sources(alloc, replicas)?;
-        Ok(Desk {
+        Ok(WatchDesk {
             alloc,
             collector,
             sources,

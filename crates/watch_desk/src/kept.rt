@@ -6,10 +6,10 @@ ghost use Rattle.watch_desk.specs.Desks.{told_first};
 ghost use Rattle.watch_desk.specs.Keeping.{IsKeptAs};
 ghost use Rattle.watch_desk.specs.Taking.{AreFreshSources};
 
-use crate::desk::Desk;
+use crate::desk::WatchDesk;
 use crate::known::{KnownVerdict, judge_kept};
+use base_shared::Shared;
 use blocks::CommitteeView;
-use shared_values::Shared;
 use std::alloc::{AllocError, Global};
 use std::marker::Model;
 
@@ -61,7 +61,7 @@ impl<'c> KeptVerdicts<'c> {
     }
 
     /// A desk to which nothing came yet of the log of each of these replicas. These verdicts were told.
-    pub fn open(self, replicas: &[u16]) -> Result<Desk<'c>, AllocError>
+    pub fn open(self, replicas: &[u16]) -> Result<WatchDesk<'c>, AllocError>
         ensures collected { IfOk result (λ d.
             IsCollected self.entry.committee (map unread_log replicas.now) d.collected) }
         ensures sources { IfOk result (λ d. AreFreshSources replicas.now d.sources) }
@@ -72,6 +72,6 @@ impl<'c> KeptVerdicts<'c> {
             committee,
             verdicts,
         } = self;
-        Desk::open(alloc, &committee, replicas, verdicts)
+        WatchDesk::open(alloc, &committee, replicas, verdicts)
     }
 }

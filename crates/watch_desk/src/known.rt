@@ -2,17 +2,17 @@
 
 ghost use Rattle.std.specs.Prelude.{◌≡◌, IfOk, MatchOption};
 ghost use Rattle.verdict_format.specs.Verdicts.{earlier_in, later_in, replica_in, verdict_kind_in};
-ghost use Rattle.watch_snapshot.specs.Proved.{pair_in};
+ghost use Rattle.watch_report.specs.Proved.{pair_in};
 ghost use Rattle.watch_desk.specs.Verdicts.{IsVerdictOn, is_named, unnamed};
 
+use base_shared::Shared;
 use blocks::{Ballot, CommitteeView};
 use culprit_search::Verdict;
-use shared_values::Shared;
 use std::alloc::{AllocError, Global};
 use std::marker::Model;
 use verdict_checker::check;
 use verdict_format::VerdictView;
-use watch_snapshot::Pair;
+use watch_report::Pair;
 
 /// A verdict that a watch knows, of an audit or of a file that was there at the start. Contracts see its bytes.
 #[derive(Drop)]
@@ -25,7 +25,7 @@ pub struct KnownVerdict {
 impl Model for KnownVerdict {
     ghost use Rattle.std.specs.Prelude.{◌≡◌, ℕ, List};
     ghost use Rattle.verdict_format.specs.Verdicts.{replica_in};
-    ghost use Rattle.watch_snapshot.specs.Proved.{pair_in};
+    ghost use Rattle.watch_report.specs.Proved.{pair_in};
 
     ghost Value = { List ℕ };
 

@@ -17,7 +17,7 @@ mod told;
 mod votes;
 
 pub use back::{Back, Extent};
-pub use desk::{Audited, Desk};
+pub use desk::{Audited, WatchDesk};
 pub use kept::KeptVerdicts;
 pub use known::{KnownVerdict, judge_kept};
 pub use laws::{a_desk_names_just_the_culprits, nothing_is_told_twice, what_is_served_is_a_proof};

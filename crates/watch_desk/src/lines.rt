@@ -2,17 +2,17 @@
 
 ghost use Rattle.std.specs.Prelude.{◌≡◌, ◌++◌, OnOk};
 ghost use Rattle.watch_desk.specs.DeskLines.{commits_news, handover_news, news_line, payload_text, verdict_views_text};
-ghost use Rattle.watch_lines.specs.WatchLines.{culprit_news};
+ghost use Rattle.watch_report.specs.WatchLines.{culprit_news};
 
 use crate::known::KnownVerdict;
 use crate::news::News;
+use base_text::{put_id, put_number};
+use base_wire::append;
 use blocks::NamedHeader;
 use culprit_search::Commit;
-use handover_lines::put_after;
-use printed_lines::{put_id, put_number};
+use handover_search::put_after;
 use std::alloc::AllocError;
-use watch_lines::{put_commit, put_conflict, put_source, put_source_alarm};
-use wire::append;
+use watch_report::{put_commit, put_conflict, put_source, put_source_alarm};
 
 // Adds the rule, the views and the path of a verdict.
 #[tactic(auto, unfolding(crate::specs::DeskLines::verdict_views_text))]
@@ -31,7 +31,7 @@ fn put_views(text: &mut Vec<u8>, found: &KnownVerdict, path: &[u8]) -> Result<()
 }
 
 // Adds the line of a culprit, with the path of the verdict.
-#[tactic(auto, unfolding(watch_lines::specs::WatchLines::culprit_news, crate::specs::DeskLines::verdict_views_text))]
+#[tactic(auto, unfolding(watch_report::specs::WatchLines::culprit_news, crate::specs::DeskLines::verdict_views_text))]
 fn put_culprit(
     text: &mut Vec<u8>,
     stamp: &[u8],

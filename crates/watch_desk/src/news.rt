@@ -4,10 +4,10 @@ ghost use Rattle.std.specs.Prelude.{◌≡◌};
 ghost use Rattle.watch_desk.specs.News.{may_be_dropped};
 
 use crate::known::KnownVerdict;
+use audit_evidence::SourceReport;
+use base_shared::Shared;
 use blocks::NamedHeader;
 use culprit_search::{Commit, Conflict};
-use evidence::SourceReport;
-use shared_values::Shared;
 
 /// One thing that a watch tells. `Status` and `WentBack` may come again, and so does `Conflict` where a lower commit is part of it; the
 /// others are told once.

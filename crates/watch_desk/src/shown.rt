@@ -2,21 +2,21 @@
 
 ghost use Rattle.std.specs.Prelude.{◌≡◌, IfOk, Some, drop, length, map, slice_get, sum_by};
 ghost use Rattle.std.specs.List.{All};
-ghost use Rattle.watch_snapshot.specs.Proved.{IsProved};
+ghost use Rattle.watch_report.specs.Proved.{IsProved};
 ghost use Rattle.watch_desk.specs.Shown.{AreAccepted, IsShownAt, IsSnapshotOf, IsSnapshotUnder, IsFiledAt, capped, commit_shown, conflict_shown, culprit_facts, entries_in, entries_of, frames_in, frames_of, known_facts, last_commits, place_rest, seen_facts, verdict_facts, verdict_rest, weight_in};
 ghost use Rattle.watch_desk.specs.Taking.{AllAt};
 
 use crate::back::back_at;
 use crate::commits::MOST_COMMITS;
-use crate::desk::Desk;
+use crate::desk::WatchDesk;
 use crate::known::KnownVerdict;
 use crate::source::{LogKnown, SourceKnown};
+use audit_evidence::SourceReport;
+use base_shared::Shared;
 use blocks::{Ballot, CommitteeView};
 use culprit_search::{Commit, Conflict};
-use evidence::SourceReport;
-use shared_values::Shared;
 use std::alloc::{AllocError, Global};
-use watch_snapshot::{Culprit, Fork, ProvedVerdict, Snapshot, SourceSeen};
+use watch_report::{Culprit, Fork, ProvedVerdict, Snapshot, SourceSeen};
 
 /// When something was last so of a source, or since when it is. Times are seconds since 1970, 0 where there was none.
 #[derive(Clone, Copy, Debug, PartialEq, Eq)]
@@ -354,7 +354,7 @@ fn weight_together(culprits: &[Culprit]) -> u64
 fn snapshot_under(
     alloc: Global,
     committee: &CommitteeView,
-    desk: &Desk,
+    desk: &WatchDesk,
     places: &[VerdictPlace],
     moment: Moment,
 ) -> Result<Snapshot, AllocError>
@@ -424,7 +424,7 @@ fn snapshot_under(
 /// each is a proof under the committee that the desk audits.
 pub fn snapshot_of(
     alloc: Global,
-    desk: &Desk,
+    desk: &WatchDesk,
     places: &[VerdictPlace],
     moment: Moment,
 ) -> Result<Snapshot, AllocError>

@@ -7,13 +7,13 @@ ghost use Rattle.watch_desk.specs.Taking.{AreKeptCounted, AreLogsKept, HasBegun,
 use crate::back::{Back, Extent, back_after, back_then};
 use crate::news::News;
 use crate::votes::{add_each, copies, top_from};
+use audit_evidence::SourceReport;
+use base_shared::Shared;
 use certificates::SignedVote;
-use evidence::SourceReport;
 use log_format::Status;
-use shared_values::Shared;
 use std::alloc::{AllocError, Global};
 use watch_collector::Part;
-use watch_snapshot::SourceDigests;
+use watch_report::SourceDigests;
 
 // What no frames digest to.
 const NO_DIGESTS: SourceDigests = SourceDigests {

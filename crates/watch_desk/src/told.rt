@@ -5,7 +5,7 @@ ghost use Rattle.watch_desk.specs.News.{conflict_told, culprits_told, handover_t
 ghost use Rattle.std.specs.List.{All, Contains};
 ghost use Rattle.ancestry.specs.Known.{all_of};
 ghost use Rattle.culprit_search.specs.Found.{IsSearchOf};
-ghost use Rattle.evidence.specs.Evidence.{Evidence as EvidenceValue};
+ghost use Rattle.audit_evidence.specs.Evidence.{Evidence as EvidenceValue};
 ghost use Rattle.watch_desk.specs.Hearing.{IsHeard, MayBeHandover, heard_news};
 ghost use Rattle.watch_desk.specs.Verdicts.{unnamed};
 
@@ -13,10 +13,10 @@ use crate::certified::highest;
 use crate::commits::{new_commits, tell_commits};
 use crate::known::{KnownVerdict, unnamed};
 use crate::news::News;
+use base_shared::Shared;
 use blocks::NamedHeader;
 use culprit_search::{Commit, Conflict, Report, Searched};
-use handover_lines::{commits_after, handover_in};
-use shared_values::Shared;
+use handover_search::{commits_after, handover_in};
 use std::alloc::{AllocError, Global};
 use std::marker::Model;
 

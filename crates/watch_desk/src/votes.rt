@@ -5,8 +5,8 @@ ghost use Rattle.std.specs.List.{Contains};
 ghost use Rattle.certificates.specs.declared.vote.SignedVote.{SignedVote as SignedVoteValue};
 ghost use Rattle.watch_desk.specs.Sources.{AreTheBad, GainsOnce, larger, top_from};
 
+use base_shared::Shared;
 use certificates::SignedVote;
-use shared_values::Shared;
 use std::alloc::{AllocError, Global};
 use watch_collector::Collector;
 

@@ -1,6 +1,6 @@
 -- The logs of a source, told by the digests of their frames, as their parts are read again.
 use Rattle.std.specs.Prelude.{◌≡◌, ◌⊎◌, ◌<◌, ◌≤◌, ℕ, List, [], length, take, drop, slice_index_or}
-use Rattle.source_reading.specs.Following.{BeginsWith}
+use Rattle.log_reading.specs.Following.{BeginsWith}
 use Rattle.watch_state.specs.Digests.{log_digest}
 use Rattle.watch_state.specs.declared.name.PartName.{PartName}
 

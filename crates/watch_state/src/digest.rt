@@ -3,12 +3,12 @@
 ghost use Rattle.std.specs.Prelude.{◌≡◌, IfOk};
 ghost use Rattle.watch_state.specs.Digests.{chain_text, digest_then, no_frames};
 
+use base_text::put_id;
+use base_wire::append;
 use blocks::Id;
-use printed_lines::put_id;
+use log_reading::FrameDigest;
 use sha2::{Digest as _, Sha256};
-use source_reading::FrameDigest;
 use std::alloc::{AllocError, Global};
-use wire::append;
 
 /// What the frames of a log digest to.
 pub type LogDigest = [u8; 32];

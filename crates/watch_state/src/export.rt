@@ -5,17 +5,16 @@ use crate::log_text::LogText;
 use crate::logs::KeptLogs;
 use crate::name::{PartFile, PartName};
 use crate::walk::{Found, PartVisitor, visit_parts};
+use base_streams::{Sink, write_all};
+use base_text::put_number;
 use log_format::Frames;
+use log_reading::{FrameDigest, digest_of};
 use log_transfer::MOST_OF_A_STREAM;
-use printed_lines::put_number;
-use program_parts::{InputFault, read_file};
-use safe_files::store_new;
-use source_reading::{FrameDigest, digest_of};
+use program_parts::{InputFault, read_file, store_new};
 use std::alloc::{AllocError, Global};
 use std::fs::{File, Files};
 use std::io::ErrorKind;
 use std::{fs, io};
-use streams::{Sink, write_all};
 
 /// The mode of the file of a log: everyone may read it.
 const EXPORT_MODE: u32 = 0o644;

@@ -5,14 +5,14 @@ use crate::name::PartFile;
 use crate::runs::MOST_OF_A_PART;
 use crate::seam::Seam;
 use crate::text::PartText;
+use base_wire::{LONGEST_PAYLOAD, MOST_ENTRIES};
 use log_format::{Frames, Status};
-use source_reading::digest_of;
+use log_reading::digest_of;
 use std::alloc::AllocError;
 use std::fs::{File, Files, OpenOptions};
 use std::io::Write;
 use std::os::unix::fs::OpenOptionsExt;
 use std::{fs, io};
-use wire::{LONGEST_PAYLOAD, MOST_ENTRIES};
 
 /// Joins parts that follow one another into the file of the first, in place of what that has: whole and synced, or not at all. Answers
 /// how many bytes it has then; none where one of them can't be read again as it was stored, and then nothing was changed. An

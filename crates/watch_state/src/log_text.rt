@@ -1,9 +1,9 @@
 //! The text of a log that is put together of its parts.
 
 use crate::text::PartText;
+use base_wire::{LONGEST_PAYLOAD, MOST_ENTRIES};
 use log_format::Frames;
 use std::alloc::{AllocError, Global};
-use wire::{LONGEST_PAYLOAD, MOST_ENTRIES};
 
 /// The text of a log that is put together of its parts.
 #[derive(Drop)]

@@ -2,13 +2,13 @@
 
 ghost use Rattle.std.specs.List.{All};
 ghost use Rattle.std.specs.Prelude.{◌≡◌, ◌↔◌, IsTrue, ◌≤◌, ◌<◌, ◌++◌, ◌∷◌, [], ℕ, List, IfOk, MatchOption, OnOk, drop, length, slice_index_or, slice_set, take};
-ghost use Rattle.source_reading.specs.Following.{BeginsWith, IsFirst};
+ghost use Rattle.log_reading.specs.Following.{BeginsWith, IsFirst};
 ghost use Rattle.watch_state.specs.Digests.{log_digest};
 ghost use Rattle.watch_state.specs.Logs.{BeginsAs, GoesOn, HasFront, HasPart, IsFront, IsJoined, Opens, StandsBehind};
 
 use crate::digest::{LogDigest, NO_FRAMES, digest_then};
 use crate::name::PartName;
-use source_reading::FrameDigest;
+use log_reading::FrameDigest;
 use std::alloc::{AllocError, Global};
 use std::marker::Model;
 

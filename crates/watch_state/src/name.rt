@@ -6,9 +6,9 @@ ghost use Rattle.hex.specs.Hex.{encode_lower};
 ghost use Rattle.watch_state.specs.Names.{IsDigest, IsPartName, name_text};
 
 use crate::digest::LogDigest;
-use printed_lines::{number_in, put_id, put_number};
+use base_text::{number_in, put_id, put_number};
+use base_wire::append;
 use std::alloc::{AllocError, Global};
-use wire::append;
 
 // How many hexadecimal digits a digest has.
 const DIGITS: usize = 64;

@@ -1,12 +1,12 @@
 //! Where a part of a log has to stand that is joined to those in front of it.
 
 ghost use Rattle.std.specs.Prelude.{◌≡◌, ◌<◌, ◌↔◌, IsTrue};
-ghost use Rattle.wire.specs.declared.limits.TheConstants.{MOST_ENTRIES};
+ghost use Rattle.base_wire.specs.declared.limits.TheConstants.{MOST_ENTRIES};
 ghost use Rattle.watch_state.specs.Joins.{seam_before, seam_then};
 
 use crate::digest::{LogDigest, digest_then};
 use crate::name::PartName;
-use source_reading::FrameDigest;
+use log_reading::FrameDigest;
 
 /// Where the next part of a log has to stand.
 #[derive(Clone, Copy, Debug, PartialEq, Eq)]

@@ -3,12 +3,12 @@
 ghost use Rattle.std.specs.Prelude.{◌≡◌, ◌<◌, ◌≤◌, ◌+◌, ◌++◌, ◌∷◌, [], ℕ, List, IfOk, OnOk, codes, length};
 ghost use Rattle.std.specs.List.{flat_map};
 ghost use Rattle.log_format.specs.Exports.{end_mark, frame_text, stream_text};
-ghost use Rattle.wire.specs.declared.limits.TheConstants.{LONGEST_PAYLOAD, MOST_ENTRIES};
+ghost use Rattle.base_wire.specs.declared.limits.TheConstants.{LONGEST_PAYLOAD, MOST_ENTRIES};
 ghost use Rattle.watch_state.specs.Texts.{HasFrames};
 
+use base_wire::append;
 use std::alloc::{AllocError, Global};
 use std::marker::Model;
-use wire::append;
 
 /// The text of a part to which frames are added: the export of them. Contracts see it, and how many frames it has.
 #[derive(Drop)]

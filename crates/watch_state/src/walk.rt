@@ -4,7 +4,7 @@ use crate::folder::StateFolder;
 use crate::logs::KeptLogs;
 use crate::name::{PartFile, PartName};
 use log_format::{Frames, Status};
-use source_reading::{FrameDigest, digest_of};
+use log_reading::{FrameDigest, digest_of};
 use std::alloc::{AllocError, Global};
 use std::fs::{File, Files};
 

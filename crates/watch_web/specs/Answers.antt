@@ -8,18 +8,18 @@ use Rattle.http.specs.Request.{head_of}
 use Rattle.http_server.specs.declared.response.Response.{Response}
 use Rattle.http_server.specs.Exchange.{Call as Exchanged}
 use Rattle.http_uri.specs.Uri.{uri_path}
-use Rattle.host_rule.specs.HostRules.{HasGoodHost}
+use Rattle.base_hosts.specs.HostRules.{HasGoodHost}
 use Rattle.verdict_format.specs.Verdicts.{replica_in}
 use Rattle.watch_web.specs.Pages.{IsPage}
 use Rattle.watch_web.specs.Metrics.{metrics_text}
 use Rattle.watch_web.specs.Reports.{report_text}
-use Rattle.watch_snapshot.specs.Proved.{IsProved}
-use Rattle.watch_snapshot.specs.declared.snapshot.Culprit.{Culprit}
-use Rattle.watch_snapshot.specs.declared.snapshot.Snapshot.{Snapshot}
+use Rattle.watch_report.specs.Proved.{IsProved}
+use Rattle.watch_report.specs.declared.snapshot.Culprit.{Culprit}
+use Rattle.watch_report.specs.declared.snapshot.Snapshot.{Snapshot}
 use Rattle.watch_web.specs.Places.{place_in, verdict_path}
 use Rattle.watch_web.specs.Replies.{IsTold, health_status, health_text}
-use Rattle.watch_web.specs.declared.place.Place.{Place}
-use Rattle.watch_web.specs.declared.place.Place.TheVariants.{Page, Still, Picture, Report, Metrics, Health, Other, Nowhere}
+use Rattle.watch_web.specs.declared.target.PageTarget.{PageTarget}
+use Rattle.watch_web.specs.declared.target.PageTarget.TheVariants.{Page, Still, Picture, Report, Metrics, Health, Other, Nowhere}
 use Rattle.watch_web.specs.declared.writing.Kind.TheVariants as kind
 
 -- the first culprit whose verdict is at this path
@@ -41,12 +41,12 @@ IsPictureTold (Some text) response = IsTold 200 kind.Picture (string_bytes text)
 IsPictureTold None response = IsNowhereTold response
 
 -- the page, one that reloads or one that stays
-abbrev pub IsPageTold : Snapshot → (second : ℕ) → Place → Response → Type 0
+abbrev pub IsPageTold : Snapshot → (second : ℕ) → PageTarget → Response → Type 0
 IsPageTold s second Page response = (text : List ℕ) × IsPage s second false text × IsTold 200 kind.Html text response
 IsPageTold s second _ response = (text : List ℕ) × IsPage s second true text × IsTold 200 kind.Html text response
 
 -- what is told at a place
-abbrev pub IsPlaceTold : Snapshot → (second : ℕ) → (path : List ℕ) → Place → Response → Type 0
+abbrev pub IsPlaceTold : Snapshot → (second : ℕ) → (path : List ℕ) → PageTarget → Response → Type 0
 IsPlaceTold s second path Page response = IsPageTold s second Page response
 IsPlaceTold s second path Still response = IsPageTold s second Still response
 IsPlaceTold s second path Picture response = IsPictureTold s.picture response

@@ -2,14 +2,14 @@
 use Rattle.std.specs.Prelude.{◌++◌, ℕ, zero, suc, Bool, true, false, List, [], Option, Some, None, codes, decimal, if◌then◌else◌, nat_lt, string_bytes}
 use Rattle.std.specs.List.{flat_map}
 use Rattle.verdict_format.specs.Verdicts.{replica_in}
-use Rattle.watch_snapshot.specs.Sources.{has_bad_votes, hearing_of, is_back, since_of}
-use Rattle.watch_snapshot.specs.Standings.{is_watched, unwatched_of}
-use Rattle.watch_snapshot.specs.declared.snapshot.Culprit.{Culprit}
-use Rattle.watch_snapshot.specs.declared.snapshot.Fork.{Fork}
-use Rattle.watch_snapshot.specs.declared.snapshot.Snapshot.{Snapshot}
-use Rattle.watch_snapshot.specs.declared.source.SourceSeen.{SourceSeen}
-use Rattle.watch_snapshot.specs.declared.source.SourceState.{SourceState}
-use Rattle.watch_snapshot.specs.declared.source.SourceState.TheVariants as does
+use Rattle.watch_report.specs.Sources.{has_bad_votes, hearing_of, is_back, since_of}
+use Rattle.watch_report.specs.Standings.{is_watched, unwatched_of}
+use Rattle.watch_report.specs.declared.snapshot.Culprit.{Culprit}
+use Rattle.watch_report.specs.declared.snapshot.Fork.{Fork}
+use Rattle.watch_report.specs.declared.snapshot.Snapshot.{Snapshot}
+use Rattle.watch_report.specs.declared.source.SourceSeen.{SourceSeen}
+use Rattle.watch_report.specs.declared.source.SourceState.{SourceState}
+use Rattle.watch_report.specs.declared.source.SourceState.TheVariants as does
 use Rattle.watch_web.specs.Ages.{for_text}
 use Rattle.watch_web.specs.Rows.{remark_text, shown}
 use Rattle.watch_web.specs.Words.{share_text}

@@ -2,11 +2,11 @@
 use Rattle.std.specs.Prelude.{◌++◌, ◌/◌, ◌%◌, ℕ, Bool, true, false, List, codes, decimal, is_some, length, nat_lt, string_bytes}
 use Rattle.std.specs.List.{flat_map}
 use Rattle.hex.specs.Hex.{encode_lower}
-use Rattle.escaped_text.specs.Escapes.{escaped}
-use Rattle.escaped_text.specs.declared.Inside.TheVariants.{Label}
-use Rattle.watch_snapshot.specs.Sources.{is_whole}
-use Rattle.watch_snapshot.specs.declared.snapshot.Snapshot.{Snapshot}
-use Rattle.watch_snapshot.specs.declared.source.SourceSeen.{SourceSeen}
+use Rattle.base_text.specs.Escapes.{escaped}
+use Rattle.base_text.specs.declared.escaping.Inside.TheVariants.{Label}
+use Rattle.watch_report.specs.Sources.{is_whole}
+use Rattle.watch_report.specs.declared.snapshot.Snapshot.{Snapshot}
+use Rattle.watch_report.specs.declared.source.SourceSeen.{SourceSeen}
 use Rattle.watch_web.specs.declared.metrics.Family.{Family}
 use Rattle.watch_web.specs.declared.metrics.Family.TheVariants.{WentBack, SetAside, Beyond, Stays, BadVotes, Whole, TopView, LastAnswer, LastFrame}
 

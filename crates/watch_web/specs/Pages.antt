@@ -2,15 +2,15 @@
 use Rattle.std.specs.Prelude.{◌≡◌, ◌<◌, ◌++◌, ◌==◌, ℕ, Bool, true, false, List, Option, codes, decimal, is_some, length, nat_lt, string_bytes, if◌then◌else◌}
 use Rattle.std.specs.List.{flat_map}
 use Rattle.hex.specs.Hex.{encode_lower}
-use Rattle.watch_lines.specs.Times.{IsUtcText}
-use Rattle.watch_snapshot.specs.Standings.{standing_of}
-use Rattle.watch_snapshot.specs.Times.{is_old_round}
+use Rattle.watch_report.specs.LineTimes.{IsUtcText}
+use Rattle.watch_report.specs.Standings.{standing_of}
+use Rattle.watch_report.specs.Times.{is_old_round}
 use Rattle.blocks.specs.declared.ballot.Ballot.{Ballot}
-use Rattle.watch_snapshot.specs.declared.snapshot.Culprit.{Culprit}
-use Rattle.watch_snapshot.specs.declared.snapshot.Fork.{Fork}
-use Rattle.watch_snapshot.specs.declared.snapshot.Snapshot.{Snapshot}
-use Rattle.watch_snapshot.specs.declared.source.SourceSeen.{SourceSeen}
-use Rattle.watch_snapshot.specs.declared.snapshot.Standing.{Standing}
+use Rattle.watch_report.specs.declared.snapshot.Culprit.{Culprit}
+use Rattle.watch_report.specs.declared.snapshot.Fork.{Fork}
+use Rattle.watch_report.specs.declared.snapshot.Snapshot.{Snapshot}
+use Rattle.watch_report.specs.declared.source.SourceSeen.{SourceSeen}
+use Rattle.watch_report.specs.declared.snapshot.Standing.{Standing}
 use Rattle.watch_web.specs.Holding.{holding_text}
 use Rattle.watch_web.specs.Rows.{source_row, commit_row, conflict_text, culprit_row, shown}
 use Rattle.watch_web.specs.Words.{advice_text, class_text, icon_text, level_of, share_text, shares_of, state_text}

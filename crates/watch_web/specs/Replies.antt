@@ -3,8 +3,8 @@ use Rattle.std.specs.Prelude.{◌++◌, ◌∷◌, [], ℕ, List, codes, if◌th
 use Rattle.http1.specs.Fields.{Header}
 use Rattle.http_server.specs.declared.response.Response.{Response}
 use Rattle.http_server.specs.Response.{IsResponse}
-use Rattle.watch_snapshot.specs.Times.{is_old_round}
-use Rattle.watch_snapshot.specs.declared.snapshot.Snapshot.{Snapshot}
+use Rattle.watch_report.specs.Times.{is_old_round}
+use Rattle.watch_report.specs.declared.snapshot.Snapshot.{Snapshot}
 use Rattle.watch_web.specs.declared.writing.Kind.{Kind}
 use Rattle.watch_web.specs.declared.writing.Kind.TheVariants.{Text, Json, Metrics, Verdict, Html, Picture, Refused}
 

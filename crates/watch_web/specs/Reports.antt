@@ -5,16 +5,16 @@ use Rattle.hex.specs.Hex.{encode_lower}
 use Rattle.blocks.specs.declared.ballot.Ballot.{Ballot}
 use Rattle.log_format.specs.Readings.{status_name}
 use Rattle.log_format.specs.declared.status.Status.{Status}
-use Rattle.escaped_text.specs.Escapes.{escaped}
-use Rattle.escaped_text.specs.declared.Inside.TheVariants.{Json}
+use Rattle.base_text.specs.Escapes.{escaped}
+use Rattle.base_text.specs.declared.escaping.Inside.TheVariants.{Json}
 use Rattle.verdict_format.specs.Verdicts.{replica_in}
-use Rattle.watch_snapshot.specs.Proved.{pair_in}
-use Rattle.watch_snapshot.specs.declared.proved.Pair.{Pair}
-use Rattle.watch_snapshot.specs.declared.snapshot.Culprit.{Culprit}
-use Rattle.watch_snapshot.specs.declared.snapshot.Fork.{Fork}
-use Rattle.watch_snapshot.specs.declared.snapshot.Snapshot.{Snapshot}
-use Rattle.watch_snapshot.specs.declared.source.SourceDigests.{SourceDigests}
-use Rattle.watch_snapshot.specs.declared.source.SourceSeen.{SourceSeen}
+use Rattle.watch_report.specs.Proved.{pair_in}
+use Rattle.watch_report.specs.declared.proved.Pair.{Pair}
+use Rattle.watch_report.specs.declared.snapshot.Culprit.{Culprit}
+use Rattle.watch_report.specs.declared.snapshot.Fork.{Fork}
+use Rattle.watch_report.specs.declared.snapshot.Snapshot.{Snapshot}
+use Rattle.watch_report.specs.declared.source.SourceDigests.{SourceDigests}
+use Rattle.watch_report.specs.declared.source.SourceSeen.{SourceSeen}
 
 -- each element behind a comma but the first
 unfoldable pub listed : {X : Type 0} → (X → List ℕ) → List X → List ℕ

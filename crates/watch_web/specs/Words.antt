@@ -3,10 +3,10 @@ use Rattle.std.specs.Prelude.{◌++◌, ℕ, List, codes, decimal, length}
 use Rattle.watch_web.specs.declared.words.Level.{Level}
 use Rattle.watch_web.specs.declared.words.Level.TheVariants.{Alarm, Warning, Fine}
 use Rattle.watch_web.specs.declared.words.Shares.{Shares}
-use Rattle.watch_snapshot.specs.Standings.{answering_of, unwatched_of}
-use Rattle.watch_snapshot.specs.declared.snapshot.Snapshot.{Snapshot}
-use Rattle.watch_snapshot.specs.declared.snapshot.Standing.{Standing}
-use Rattle.watch_snapshot.specs.declared.snapshot.Standing.TheVariants.{Conflict, Culprits, WentBack, SetAside, Beyond, BadVotes, NotStored, ReadingKept, NothingRead, SomeAnswer, Unwatched, AllAnswer}
+use Rattle.watch_report.specs.Standings.{answering_of, unwatched_of}
+use Rattle.watch_report.specs.declared.snapshot.Snapshot.{Snapshot}
+use Rattle.watch_report.specs.declared.snapshot.Standing.{Standing}
+use Rattle.watch_report.specs.declared.snapshot.Standing.TheVariants.{Conflict, Culprits, WentBack, SetAside, Beyond, BadVotes, NotStored, ReadingKept, NothingRead, SomeAnswer, Unwatched, AllAnswer}
 
 -- so many of so many
 unfoldable pub share_text : (k m : ℕ) → List ℕ

@@ -3,9 +3,9 @@
 ghost use Rattle.std.specs.Prelude.{◌≡◌, ◌++◌, OnOk, decimal};
 ghost use Rattle.watch_web.specs.Ages.{age_text, for_text, span_text};
 
-use printed_lines::put_number;
+use base_text::put_number;
+use base_wire::append;
 use std::alloc::AllocError;
-use wire::append;
 
 // So many of a unit.
 fn put_units(text: &mut Vec<u8>, count: u64, unit: &[u8]) -> Result<(), AllocError>

@@ -5,15 +5,15 @@ ghost use Rattle.http.specs.Request.{head_of};
 ghost use Rattle.http_server.specs.Response.{IsBlank};
 ghost use Rattle.watch_web.specs.Answers.{IsAdmittedTold, IsAnswer, IsRead};
 
-use crate::place::place_in;
+use crate::target::place_in;
 use crate::telling::tell_place;
 use crate::writing::{Kind, tell};
+use base_hosts::has_good_host;
 use bytes::Bytes;
-use host_rule::has_good_host;
 use http::{Request, StatusCode};
 use http_server::Response;
 use std::alloc::{AllocError, Global};
-use watch_snapshot::Snapshot;
+use watch_report::Snapshot;
 
 fn is_same(a: &[u8], b: &[u8]) -> bool
     ensures { IsTrue result ↔ (a.now ≡ b.now) }

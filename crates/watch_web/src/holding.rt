@@ -7,10 +7,10 @@ ghost use Rattle.watch_web.specs.Words.{share_text};
 
 use crate::ages::put_for;
 use crate::rows::{put_remark, put_shown};
-use printed_lines::put_number;
+use base_text::put_number;
+use base_wire::append;
 use std::alloc::AllocError;
-use watch_snapshot::{Culprit, Fork, Snapshot, SourceSeen, SourceState};
-use wire::append;
+use watch_report::{Culprit, Fork, Snapshot, SourceSeen, SourceState};
 
 fn put_conflict_line(text: &mut Vec<u8>, since: u64, second: u64) -> Result<(), AllocError>
     ensures { OnOk result (text.new.items ≡ text.old.items ++ conflict_line since second) }

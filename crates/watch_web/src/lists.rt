@@ -5,10 +5,10 @@ ghost use Rattle.std.specs.List.{flat_map};
 ghost use Rattle.watch_web.specs.Reports.{block_text, culprit_text, listed, source_text};
 
 use crate::report::{put_block, put_culprit, put_source};
+use base_wire::append;
 use blocks::Ballot;
 use std::alloc::AllocError;
-use watch_snapshot::{Culprit, SourceSeen};
-use wire::append;
+use watch_report::{Culprit, SourceSeen};
 
 #[tactic(auto, unfolding(crate::specs::Reports::listed))]
 pub(crate) fn put_sources(text: &mut Vec<u8>, sources: &[SourceSeen]) -> Result<(), AllocError>

@@ -4,12 +4,11 @@ ghost use Rattle.std.specs.Prelude.{◌≡◌, ◌++◌, IfOk, OnOk};
 ghost use Rattle.std.specs.List.{flat_map};
 ghost use Rattle.watch_web.specs.Metrics.{commits_text, family_text, findings_text, front_of, going_text, kept_text, labels_of, losses_text, metrics_text, name_of, number_of, process_text, progress_text, rounds_text, sample, seconds_text, state_text, trouble_text, value_of, whole_text};
 
+use base_text::{Inside, put_escaped, put_id, put_number};
+use base_wire::append;
 use blocks::Id;
-use escaped_text::{Inside, put_escaped};
-use printed_lines::{put_id, put_number};
 use std::alloc::{AllocError, Global};
-use watch_snapshot::{Snapshot, SourceSeen};
-use wire::append;
+use watch_report::{Snapshot, SourceSeen};
 
 /// What is told of each source.
 #[derive(Clone, Copy, Debug, PartialEq, Eq)]

@@ -9,12 +9,11 @@ use crate::rows::{put_commits, put_conflict, put_culprits, put_shown, put_source
 use crate::words::{
     Level, Shares, level_of, put_advice, put_class, put_icon, put_share, put_state, shares_of,
 };
+use base_text::{put_id, put_number};
+use base_wire::append;
 use blocks::{Ballot, Id};
-use printed_lines::{put_id, put_number};
 use std::alloc::{AllocError, Global};
-use watch_lines::utc_text;
-use watch_snapshot::{Culprit, Fork, Snapshot, SourceSeen, Standing, is_old_round};
-use wire::append;
+use watch_report::{Culprit, Fork, Snapshot, SourceSeen, Standing, is_old_round, utc_text};
 
 // ---- the head
 

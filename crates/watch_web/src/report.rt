@@ -4,13 +4,12 @@ ghost use Rattle.std.specs.Prelude.{◌≡◌, ◌++◌, IfOk, OnOk, string_byte
 ghost use Rattle.watch_web.specs.Reports.{block_text, bool_text, conflict_text, culprit_text, digests_text, pair_text, report_commits, report_culprits, report_front, report_sources, report_text, source_counts, source_end, source_front, source_text, source_times, status_of, status_text, string_text};
 
 use crate::lists::{put_blocks, put_culprits, put_sources};
+use base_text::{Inside, put_escaped, put_id, put_number};
+use base_wire::append;
 use blocks::{Ballot, Id};
-use escaped_text::{Inside, put_escaped};
 use log_format::Status;
-use printed_lines::{put_id, put_number};
 use std::alloc::{AllocError, Global};
-use watch_snapshot::{Culprit, Fork, Pair, Snapshot, SourceDigests, SourceSeen};
-use wire::append;
+use watch_report::{Culprit, Fork, Pair, Snapshot, SourceDigests, SourceSeen};
 
 #[tactic(auto, unfolding(crate::specs::Reports::bool_text))]
 fn put_bool(text: &mut Vec<u8>, is_so: bool) -> Result<(), AllocError>

@@ -5,13 +5,12 @@ ghost use Rattle.std.specs.List.{flat_map};
 ghost use Rattle.watch_web.specs.Rows.{bad_text, cells_text, commit_row, conflict_text, culprit_row, ending_text, fork_text, lag_text, link_text, pair_text, place_text, remark_text, rule_text, shown, source_row};
 
 use crate::ages::put_age;
+use base_text::{Inside, put_escaped, put_id, put_number};
+use base_wire::append;
 use blocks::Ballot;
-use escaped_text::{Inside, put_escaped};
 use log_format::Status;
-use printed_lines::{put_id, put_number};
 use std::alloc::AllocError;
-use watch_snapshot::{Culprit, Fork, Pair, SourceSeen, SourceState};
-use wire::append;
+use watch_report::{Culprit, Fork, Pair, SourceSeen, SourceState};
 
 // Adds a text of others between tags.
 #[tactic(auto, unfolding(crate::specs::Rows::shown))]

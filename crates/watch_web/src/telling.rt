@@ -13,13 +13,13 @@ ghost use Rattle.watch_web.specs.Replies.{IsTold, health_status, health_text};
 
 use crate::metrics::metrics_of;
 use crate::page::page_of;
-use crate::place::{Place, verdict_path};
 use crate::report::report_of;
+use crate::target::{PageTarget, verdict_path};
 use crate::writing::{Kind, tell};
 use http::StatusCode;
 use http_server::Response;
 use std::alloc::{AllocError, Global};
-use watch_snapshot::{Culprit, Snapshot, is_old_round};
+use watch_report::{Culprit, Snapshot, is_old_round};
 
 pub(crate) fn tell_nowhere(response: &mut Response) -> Result<(), AllocError>
     requires { IsBlank response.old }
@@ -131,7 +131,7 @@ fn tell_page(
     second: u64,
 ) -> Result<(), AllocError>
     requires { IsBlank response.old }
-    ensures { OnOk result (IsPageTold seen.now second Place.Page response.new) }
+    ensures { OnOk result (IsPageTold seen.now second PageTarget.Page response.new) }
 {
     let text = page_of(alloc, seen, second, false)?;
     tell(response, StatusCode::OK, Kind::Html, &text)
@@ -144,7 +144,7 @@ fn tell_still(
     second: u64,
 ) -> Result<(), AllocError>
     requires { IsBlank response.old }
-    ensures { OnOk result (IsPageTold seen.now second Place.Still response.new) }
+    ensures { OnOk result (IsPageTold seen.now second PageTarget.Still response.new) }
 {
     let text = page_of(alloc, seen, second, true)?;
     tell(response, StatusCode::OK, Kind::Html, &text)
@@ -157,19 +157,19 @@ pub(crate) fn tell_place(
     seen: &Snapshot,
     second: u64,
     path: &[u8],
-    place: Place,
+    place: PageTarget,
 ) -> Result<(), AllocError>
     requires { IsBlank response.old }
     ensures { OnOk result (IsPlaceTold seen.now second path.now place response.new) }
 {
     match place {
-        Place::Page => tell_page(alloc, response, seen, second),
-        Place::Still => tell_still(alloc, response, seen, second),
-        Place::Picture => tell_picture(response, &seen.picture),
-        Place::Health => tell_health(response, seen, second),
-        Place::Metrics => tell_metrics(alloc, response, seen),
-        Place::Report => tell_report(alloc, response, seen),
-        Place::Other => tell_verdict(response, culprit_at(path, &seen.culprits)),
-        Place::Nowhere => tell_nowhere(response),
+        PageTarget::Page => tell_page(alloc, response, seen, second),
+        PageTarget::Still => tell_still(alloc, response, seen, second),
+        PageTarget::Picture => tell_picture(response, &seen.picture),
+        PageTarget::Health => tell_health(response, seen, second),
+        PageTarget::Metrics => tell_metrics(alloc, response, seen),
+        PageTarget::Report => tell_report(alloc, response, seen),
+        PageTarget::Other => tell_verdict(response, culprit_at(path, &seen.culprits)),
+        PageTarget::Nowhere => tell_nowhere(response),
     }
 }

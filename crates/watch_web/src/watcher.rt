@@ -5,14 +5,14 @@ ghost use Rattle.http_server.specs.Response.{IsBlank};
 ghost use Rattle.watch_web.specs.Answers.{IsAnswered};
 
 use crate::answering::answer;
+use base_shared::Shared;
 use bytes::Bytes;
 use http::Request;
 use http_server::{Response, Service};
-use shared_values::Shared;
 use std::alloc::{AllocError, Global};
 use std::sync::{Mutex, Wait};
 use std::time::{Clock, SystemTime, UNIX_EPOCH};
-use watch_snapshot::Snapshot;
+use watch_report::Snapshot;
 
 /// What a watch knows, as those see it who ask over HTTP. It answers each request by what the watch knows then.
 #[derive(Drop)]

@@ -3,10 +3,10 @@
 ghost use Rattle.std.specs.Prelude.{◌≡◌, ◌++◌, OnOk};
 ghost use Rattle.watch_web.specs.Words.{advice_text, class_text, icon_text, level_of, share_text, shares_of, state_text};
 
-use printed_lines::put_number;
+use base_text::put_number;
+use base_wire::append;
 use std::alloc::AllocError;
-use watch_snapshot::{Snapshot, Standing};
-use wire::append;
+use watch_report::{Snapshot, Standing};
 
 /// How many sources answer, and of how many replicas no source is named.
 #[derive(Clone, Copy, Debug, PartialEq, Eq)]

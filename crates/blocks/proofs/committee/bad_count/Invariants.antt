@@ -1,5 +1,5 @@
 use Rattle.std.proofs.Common.{◌≡◌, None}
-use Rattle.wire.specs.Refusals.{first_of}
+use Rattle.base_wire.specs.Refusals.{first_of}
 use Rattle.blocks.specs.CommitteeReading.{bad_count}
 use Rattle.blocks.proofs.committee.bad_count.Given as goal
 

@@ -1,5 +1,5 @@
 use Rattle.std.proofs.Common.{sym, ◌∙◌}
-use Rattle.wire.proofs.Firsts.{first_at}
+use Rattle.base_wire.proofs.Firsts.{first_at}
 use Rattle.blocks.specs.CommitteeReading.{first_twin_of}
 use Rattle.blocks.proofs.committee.first_twin.Goals as goal
 

@@ -1,5 +1,5 @@
 use Rattle.std.proofs.Common.{◌<◌, sym, ◌∙◌, arith}
-use Rattle.wire.proofs.Firsts.{first_at}
+use Rattle.base_wire.proofs.Firsts.{first_at}
 use Rattle.blocks.specs.Committees.{keys_of}
 use Rattle.blocks.specs.CommitteeReading.{twin_of}
 use Rattle.blocks.proofs.committee.first_twin_of.Goals as goal

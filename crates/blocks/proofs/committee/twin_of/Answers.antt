@@ -1,6 +1,6 @@
 use Rattle.std.proofs.Common.{◌≡◌, Option, Some, sym, ap, ◌∙◌}
-use Rattle.wire.specs.Refusals.{first_of, or_else}
-use Rattle.wire.proofs.Firsts.{first_at}
+use Rattle.base_wire.specs.Refusals.{first_of, or_else}
+use Rattle.base_wire.proofs.Firsts.{first_at}
 use Rattle.blocks.specs.declared.committee.CommitteeRefusal.{CommitteeRefusal}
 use Rattle.blocks.specs.CommitteeReading.{same_key, same_key_of}
 use Rattle.blocks.proofs.committee.twin_of.Goals as goal

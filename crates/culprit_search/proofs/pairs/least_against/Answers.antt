@@ -2,7 +2,7 @@ use Rattle.std.proofs.Common.{◌∙◌, subst, arith}
 use Rattle.certificates.specs.declared.vote.SignedVote.{SignedVote}
 use Rattle.std.proofs.lemmas.List.Elements.{All-more}
 use Rattle.std.proofs.lemmas.List.{get_or_default}
-use Rattle.commit_search.specs.Culprits.{BreakARule}
+use Rattle.audit_commits.specs.Culprits.{BreakARule}
 use Rattle.culprit_search.proofs.VotePairs.{all_passed, least_from}
 use Rattle.culprit_search.proofs.pairs.least_against.Goals as goal
 

@@ -1,6 +1,6 @@
 use Rattle.std.proofs.Common.{take}
 use Rattle.std.specs.List.{All}
-use Rattle.commit_search.specs.Culprits.{BreakARule}
+use Rattle.audit_commits.specs.Culprits.{BreakARule}
 use Rattle.culprit_search.proofs.pairs.least_against.Given as goal
 
 abbrev pub invariant-loop-v : goal.invariant-loop-v

@@ -2,7 +2,7 @@ use Rattle.std.proofs.Common.{List, rules, sym, subst}
 use Rattle.std.specs.List.{All, Contains}
 use Rattle.blocks.specs.Headers.{Header}
 use Rattle.ancestry.specs.Known.{all_of}
-use Rattle.handover_search.proofs.Judged.{commits_of}
+use Rattle.handover_search.proofs.JudgedChains.{commits_of}
 use Rattle.handover_proof.proofs.proof.hands_over_by.Goals as goal
 
 pub agree-requires-clause-known : goal.agree-requires-clause-known

@@ -1,5 +1,5 @@
 use Rattle.std.proofs.Common.{ℕ, List, get_or, subst}
-use Rattle.evidence.proofs.Gatherings.{zip_more}
+use Rattle.audit_evidence.proofs.Gatherings.{zip_more}
 use Rattle.handover_proof.specs.Proofs.{IsLogOf}
 use Rattle.handover_proof.proofs.proof.logs_of.Goals as goal
 

@@ -1,5 +1,5 @@
 use Rattle.std.proofs.Common.{◌≡◌, ◌≤◌, ◌+◌, arith, refl, min}
-use Rattle.sha256_lanes.proofs.ChainLemmas.{steps_none, steps_more}
+use Rattle.base_sha256.proofs.ChainLemmas.{steps_none, steps_more}
 use Rattle.lmots.proofs.chains.chain_steps.Goals as goal
 
 pub loop-j-init : goal.loop-j-init

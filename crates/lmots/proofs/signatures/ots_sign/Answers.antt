@@ -1,5 +1,5 @@
 use Rattle.std.proofs.Common.{◌≡◌, ◌≤◌, ◌+◌, ◌*◌, [], length, slice_index_or, arith}
-use Rattle.wire.proofs.Numbers.{filled}
+use Rattle.base_wire.proofs.Numbers.{filled}
 use Rattle.lmots.specs.Signatures.{ots_signature, randomizer}
 use Rattle.lmots.proofs.JoinedLemmas.{joined-same}
 use Rattle.lmots.proofs.SignedVerifies.{IsOtsSignature-ots_signature, signed_verifies}

@@ -1,6 +1,6 @@
 use Rattle.std.proofs.Common.{◌≡◌, ◌++◌, List, ℕ, rules, subst}
 use Rattle.byteorder.specs.Endian.{big_bytes}
-use Rattle.streams.specs.Streams.{WrotePart}
+use Rattle.base_streams.specs.Streams.{WrotePart}
 use Rattle.log_format.specs.Exports.{end_mark}
 use Rattle.log_export.proofs.Parts.{on_err, on_err_too, part_behind, part_of_front}
 use Rattle.log_export.proofs.sending.end_export.Goals as goal

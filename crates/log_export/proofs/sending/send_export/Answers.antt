@@ -1,6 +1,6 @@
 use Rattle.std.proofs.Common.{List, ℕ, subst, arith, rules}
 use Rattle.std.proofs.lemmas.List.{take_all}
-use Rattle.streams.specs.Streams.{Wrote, WrotePart}
+use Rattle.base_streams.specs.Streams.{Wrote, WrotePart}
 use Rattle.log_format.specs.Exports.{frame_text}
 use Rattle.log_export.specs.Sent.{cut_text}
 use Rattle.log_export.proofs.Parts.{frames_part, head_part, mark_part, on_err, sent_part}

@@ -1,7 +1,7 @@
 use Rattle.std.proofs.Common.{◌≡◌, ◌++◌, take}
 use Rattle.std.specs.Prelude.{codes}
 use Rattle.std.specs.List.{flat_map}
-use Rattle.streams.specs.Streams.{Wrote}
+use Rattle.base_streams.specs.Streams.{Wrote}
 use Rattle.log_export.specs.Sent.{cut_text}
 use Rattle.log_export.proofs.sending.send_export.Given as goal
 

@@ -1,6 +1,6 @@
 use Rattle.std.proofs.Common.{◌≡◌, ◌++◌, List, ℕ, length, rules, subst}
 use Rattle.byteorder.specs.Endian.{big_bytes}
-use Rattle.streams.specs.Streams.{Wrote, WrotePart}
+use Rattle.base_streams.specs.Streams.{Wrote, WrotePart}
 use Rattle.log_format.specs.Exports.{frame_text}
 use Rattle.log_export.proofs.Parts.{on_err, on_err_too, part_behind, part_of_front}
 use Rattle.log_export.proofs.sending.send_frame.Goals as goal

@@ -1,5 +1,5 @@
 use Rattle.std.proofs.Common.{◌≡◌, ◌<◌, inl, inr, sym, arith, rules}
-use Rattle.wire.specs.Pieces.{number_at}
+use Rattle.base_wire.specs.Pieces.{number_at}
 use Rattle.log_format.proofs.Fronts.{frame_cut}
 use Rattle.log_export.proofs.Gates.{no_frame_short, no_frame_of, no_frame_cut}
 use Rattle.log_export.proofs.splitting.payload_of.Goals as goal

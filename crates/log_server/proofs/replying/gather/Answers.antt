@@ -1,5 +1,5 @@
 use Rattle.std.proofs.Common.{◌≡◌, ◌<◌, ◌+◌, ◌-◌, ◌∙◌, ap, length, arith, length-append}
-use Rattle.chain_request.proofs.GatheringLaws.{at_most, one_more}
+use Rattle.log_request.proofs.GatheringLaws.{at_most, one_more}
 use Rattle.log_server.proofs.Asked.{byte_more, gathered_end, not_whole, on_err}
 use Rattle.log_server.proofs.Requests.{gave_more, took_first}
 use Rattle.log_server.proofs.replying.gather.Goals as goal

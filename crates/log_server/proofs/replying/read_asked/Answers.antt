@@ -1,5 +1,5 @@
 use Rattle.std.proofs.Common.{ℕ, List, sym, subst, arith}
-use Rattle.chain_request.specs.ChainRequests.{IsAskedIn}
+use Rattle.log_request.specs.ChainRequests.{IsAskedIn}
 use Rattle.log_server.proofs.Asked.{asked_of, asks_nothing}
 use Rattle.log_server.proofs.replying.read_asked.Goals as goal
 

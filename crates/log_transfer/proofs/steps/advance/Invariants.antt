@@ -1,5 +1,5 @@
 use Rattle.std.proofs.Common.{◌≡◌, ℕ, length}
-use Rattle.wire.specs.declared.limits.TheConstants.{LONGEST_PAYLOAD}
+use Rattle.base_wire.specs.declared.limits.TheConstants.{LONGEST_PAYLOAD}
 use Rattle.log_transfer.specs.Places.{IsCaused, IsPlace, work}
 use Rattle.log_transfer.specs.Turns.{NoMore}
 use Rattle.log_transfer.proofs.steps.advance.Given as goal

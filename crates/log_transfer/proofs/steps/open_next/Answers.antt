@@ -1,6 +1,6 @@
 use Rattle.std.proofs.Common.{◌≡◌, ◌+◌, ◌-◌, ◌≤◌, inl, inr, refl, arith}
 use Rattle.log_format.specs.declared.status.Status.TheVariants.{Failed}
-use Rattle.log_transfer.specs.declared.place.Place.{Place}
+use Rattle.log_transfer.specs.declared.reader_state.ReaderState.{ReaderState}
 use Rattle.log_transfer.proofs.Places.{leads_unopened, leads_entered}
 use Rattle.log_transfer.proofs.Bounds.{place_within}
 use Rattle.log_transfer.proofs.Causes.{ended_caused, entered_caused}
@@ -9,7 +9,7 @@ use Rattle.log_transfer.proofs.steps.open_next.Goals as goal
 pub returns-in-Err-clause-leads : goal.returns-in-Err-clause-leads
 returns-in-Err-clause-leads g c =
     let p = c.args.place.now in
-    let q : Place = record { held = p.held; tries = p.tries - 1; is_open = p.is_open; count = p.count; last = Failed } in
+    let q : ReaderState = record { held = p.held; tries = p.tries - 1; is_open = p.is_open; count = p.count; last = Failed } in
     let gives = g.C.Connector.gives in
     let left = g.C.Connector.left in
     let one : q.tries + 1 ≡ p.tries = omega arith in
@@ -28,7 +28,7 @@ returns-in-Ok-clause-leads g c =
 pub returns-in-Err-clause-cause : goal.returns-in-Err-clause-cause
 returns-in-Err-clause-cause g c before caused =
     let p = c.args.place.now in
-    let q : Place = record { held = p.held; tries = p.tries - 1; is_open = p.is_open; count = p.count; last = Failed } in
+    let q : ReaderState = record { held = p.held; tries = p.tries - 1; is_open = p.is_open; count = p.count; last = Failed } in
     ended_caused before (g.C.Connector.failed c.args.connector.now) (g.C.Connector.failed c.connect.new.self) p q c.in-Err.ensures.counted.risen caused
 
 pub returns-in-Ok-clause-cause : goal.returns-in-Ok-clause-cause
@@ -40,7 +40,7 @@ returns-in-Ok-clause-cause g c before caused =
 pub returns-in-Err-clause-place : goal.returns-in-Err-clause-place
 returns-in-Err-clause-place g c =
     let p = c.args.place.now in
-    let q : Place = record { held = p.held; tries = p.tries - 1; is_open = p.is_open; count = p.count; last = Failed } in
+    let q : ReaderState = record { held = p.held; tries = p.tries - 1; is_open = p.is_open; count = p.count; last = Failed } in
     place_within (g.C.Connector.taken c.connect.new.self) q c.requires.place.few c.requires.place.counted (omega (arith, c.in-Err.ensures.fresh))
 
 pub returns-in-Ok-clause-place : goal.returns-in-Ok-clause-place

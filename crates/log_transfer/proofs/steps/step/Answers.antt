@@ -1,5 +1,5 @@
 use Rattle.std.proofs.Common.{◌+◌, false, refl, take, arith}
-use Rattle.log_transfer.specs.declared.place.Place.{Place}
+use Rattle.log_transfer.specs.declared.reader_state.ReaderState.{ReaderState}
 use Rattle.log_transfer.proofs.Places.{leads_frame, leads_end}
 use Rattle.log_transfer.proofs.Bounds.{place_within, place_ended}
 use Rattle.log_transfer.proofs.Causes.{ended_caused}
@@ -11,7 +11,7 @@ read_frame-requires-clause-bytes g c = c.requires.place.frames c.requires.shown
 pub returns-in-Frame-clause-place : goal.returns-in-Frame-clause-place
 returns-in-Frame-clause-place g c =
     let p = c.args.place.now in
-    let q : Place = record { held = p.held + 1; tries = p.tries; is_open = p.is_open; count = p.count + 1; last = p.last } in
+    let q : ReaderState = record { held = p.held + 1; tries = p.tries; is_open = p.is_open; count = p.count + 1; last = p.last } in
     let few = c.requires.place.few in
     let counted = c.requires.place.counted in
     let room = c.in-Frame.ensures.came.0 in
@@ -20,13 +20,13 @@ returns-in-Frame-clause-place g c =
 pub returns-in-End-clause-place : goal.returns-in-End-clause-place
 returns-in-End-clause-place g c =
     let p = c.args.place.now in
-    let q : Place = record { held = p.held; tries = p.tries; is_open = false; count = p.count; last = c.in-End.status } in
+    let q : ReaderState = record { held = p.held; tries = p.tries; is_open = false; count = p.count; last = c.in-End.status } in
     place_ended (g.C.Connector.taken c.read_frame.new.connector) q c.requires.place.few c.requires.place.counted refl c.in-End.ensures.bytes
 
 pub returns-in-Frame-clause-turn : goal.returns-in-Frame-clause-turn
 returns-in-Frame-clause-turn g c =
     let p = c.args.place.now in
-    let q : Place = record { held = p.held + 1; tries = p.tries; is_open = p.is_open; count = p.count + 1; last = p.last } in
+    let q : ReaderState = record { held = p.held + 1; tries = p.tries; is_open = p.is_open; count = p.count + 1; last = p.last } in
     let gives = g.C.Connector.gives in
     let left = g.C.Connector.left in
     let came = c.in-Frame.ensures.came in (
@@ -40,7 +40,7 @@ returns-in-Frame-clause-turn g c =
 pub returns-in-End-clause-turn : goal.returns-in-End-clause-turn
 returns-in-End-clause-turn g c =
     let p = c.args.place.now in
-    let q : Place = record { held = p.held; tries = p.tries; is_open = false; count = p.count; last = c.in-End.status } in
+    let q : ReaderState = record { held = p.held; tries = p.tries; is_open = false; count = p.count; last = c.in-End.status } in
     let gives = g.C.Connector.gives in
     let left = g.C.Connector.left in (
       rw (c.requires.shown) (omega arith),
@@ -54,5 +54,5 @@ returns-in-End-clause-turn g c =
 pub returns-in-End-clause-cause : goal.returns-in-End-clause-cause
 returns-in-End-clause-cause g c before caused =
     let p = c.args.place.now in
-    let q : Place = record { held = p.held; tries = p.tries; is_open = false; count = p.count; last = c.in-End.status } in
+    let q : ReaderState = record { held = p.held; tries = p.tries; is_open = false; count = p.count; last = c.in-End.status } in
     ended_caused before (g.C.Connector.failed c.args.connector.now) (g.C.Connector.failed c.read_frame.new.connector) p q c.in-End.ensures.counted caused

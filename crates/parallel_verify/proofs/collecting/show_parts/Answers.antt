@@ -2,9 +2,9 @@ use Rattle.std.proofs.Common.{◌↔◌, ◌∙◌, List, sym, subst}
 use Rattle.std.specs.List.{Contains}
 use Rattle.certificates.specs.Votes.{IsAnswerOn}
 use Rattle.certificates.specs.declared.vote.SignedVote.{SignedVote}
-use Rattle.evidence.specs.Logs.{LogNamesVote}
-use Rattle.evidence.specs.Sets.{InSome}
-use Rattle.evidence.proofs.Gatherings.{evidence_from, union_has_genesis, zip_length}
+use Rattle.audit_evidence.specs.Logs.{LogNamesVote}
+use Rattle.audit_evidence.specs.Sets.{InSome}
+use Rattle.audit_evidence.proofs.Gatherings.{evidence_from, union_has_genesis, zip_length}
 use Rattle.parallel_verify.proofs.Judgings.{answered}
 use Rattle.parallel_verify.proofs.collecting.show_parts.Goals as goal
 

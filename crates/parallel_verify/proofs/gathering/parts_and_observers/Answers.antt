@@ -1,6 +1,6 @@
 use Rattle.std.proofs.Common.{◌∙◌, ◌++◌, refl, sym, ap, append_assoc, rules}
 use Rattle.std.proofs.lemmas.Slice.Zip.{all_zipped_more}
-use Rattle.evidence.proofs.Gatherings.{handed_on}
+use Rattle.audit_evidence.proofs.Gatherings.{handed_on}
 use Rattle.parallel_verify.specs.Readings.{IsRefusedAmong}
 use Rattle.parallel_verify.proofs.Outcomes.{refused_among}
 use Rattle.parallel_verify.proofs.gathering.parts_and_observers.Goals as goal

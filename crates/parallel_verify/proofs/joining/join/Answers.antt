@@ -1,11 +1,11 @@
 use Rattle.std.proofs.Common.{◌≤◌, ◌+◌, List, get_or, length, take, sym, subst, arith}
 use Rattle.std.proofs.lemmas.List.{take_all}
 use Rattle.std.specs.List.{AllZip}
-use Rattle.evidence.specs.Evidence.{IsEvidenceRefusal, IsHeaderInEvidence, IsReportOf}
-use Rattle.evidence.specs.Logs.{ReceivedLog}
-use Rattle.evidence.specs.declared.source.SourceReport.{SourceReport}
-use Rattle.evidence.proofs.NamedVotes.{union_listed}
-use Rattle.evidence.proofs.Gatherings.{handed_on, zip_length, zip_more}
+use Rattle.audit_evidence.specs.Evidence.{IsEvidenceRefusal, IsHeaderInEvidence, IsReportOf}
+use Rattle.audit_evidence.specs.Logs.{ReceivedLog}
+use Rattle.audit_evidence.specs.declared.source.SourceReport.{SourceReport}
+use Rattle.audit_evidence.proofs.NamedVotes.{union_listed}
+use Rattle.audit_evidence.proofs.Gatherings.{handed_on, zip_length, zip_more}
 use Rattle.parallel_verify.specs.Parts.{HasReport, IsPartOn, Part}
 use Rattle.parallel_verify.proofs.Joinings.{next_part, joined_more, report_more, joined_fault, no_log, union_of_logs}
 use Rattle.parallel_verify.proofs.joining.join.Goals as goal

@@ -1,7 +1,7 @@
 use Rattle.std.proofs.Common.{List, take}
 use Rattle.std.specs.List.{AllZip}
-use Rattle.evidence.specs.Evidence.{IsReportOf}
-use Rattle.evidence.specs.Logs.{ReceivedLog}
+use Rattle.audit_evidence.specs.Evidence.{IsReportOf}
+use Rattle.audit_evidence.specs.Logs.{ReceivedLog}
 use Rattle.parallel_verify.specs.Parts.{HasReport, IsPartOn}
 use Rattle.parallel_verify.proofs.Joinings.{AllGrown}
 use Rattle.parallel_verify.proofs.joining.join.Given as goal

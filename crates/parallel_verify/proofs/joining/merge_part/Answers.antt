@@ -1,8 +1,8 @@
 use Rattle.std.proofs.Common.{◌∙◌, List, ap, subst}
 use Rattle.std.specs.List.{Contains}
 use Rattle.blocks.specs.Headers.{Header}
-use Rattle.evidence.specs.Gathering.{IsGatheringRefusal}
-use Rattle.evidence.proofs.Gatherings.{handed_on}
+use Rattle.audit_evidence.specs.Gathering.{IsGatheringRefusal}
+use Rattle.audit_evidence.proofs.Gatherings.{handed_on}
 use Rattle.parallel_verify.specs.Parts.{Part}
 use Rattle.parallel_verify.proofs.joining.merge_part.Goals as goal
 

@@ -2,7 +2,7 @@ use Rattle.std.proofs.Common.{◌≡◌, ◌↔◌, ◌+◌, ◌∙◌, ℕ, Lis
 use Rattle.std.proofs.lemmas.Bool.{false≢true}
 use Rattle.std.proofs.lemmas.List.{take_all}
 use Rattle.certificates.specs.declared.vote.SignedVote.{SignedVote}
-use Rattle.parallel_verify.specs.Judged.{AreAllKept, AreCounted, IsKept}
+use Rattle.parallel_verify.specs.JudgedSources.{AreAllKept, AreCounted, IsKept}
 use Rattle.parallel_verify.proofs.Judgings.{all_next, all_same, kept_next, kept_same}
 use Rattle.parallel_verify.proofs.judging.count_kept.Goals.{then-not-contains, else-not-contains}
 use Rattle.parallel_verify.proofs.judging.count_kept.Goals as goal

@@ -1,5 +1,5 @@
 use Rattle.std.proofs.Common.{◌≡◌, ◌≤◌, ◌↔◌, take}
-use Rattle.parallel_verify.specs.Judged.{AreAllKept, AreCounted, IsKept}
+use Rattle.parallel_verify.specs.JudgedSources.{AreAllKept, AreCounted, IsKept}
 use Rattle.parallel_verify.proofs.judging.count_kept.Given as goal
 
 abbrev pub invariant-loop-vote : goal.invariant-loop-vote

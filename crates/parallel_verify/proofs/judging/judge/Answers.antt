@@ -3,9 +3,9 @@ use Rattle.std.specs.List.{AllPairs, Contains}
 use Rattle.blocks.specs.Genesis.{genesis_of}
 use Rattle.certificates.specs.VoteOrder.{IsLowerVote}
 use Rattle.certificates.specs.declared.vote.SignedVote.{SignedVote}
-use Rattle.evidence.specs.Evidence.{IsReportOf}
-use Rattle.evidence.specs.Logs.{LogNamesVote}
-use Rattle.evidence.specs.NamedVotes.{all_votes}
+use Rattle.audit_evidence.specs.Evidence.{IsReportOf}
+use Rattle.audit_evidence.specs.Logs.{LogNamesVote}
+use Rattle.audit_evidence.specs.NamedVotes.{all_votes}
 use Rattle.parallel_verify.specs.Parts.{Part, TellsSteps}
 use Rattle.parallel_verify.proofs.Judgings.{entries_all, good_counted, soundness}
 use Rattle.parallel_verify.proofs.judging.judge.Goals as goal

@@ -1,7 +1,7 @@
 use Rattle.std.proofs.Common.{◌≡◌, ◌↔◌, ◌∙◌, List, ap, subst}
 use Rattle.std.specs.List.{Contains}
 use Rattle.certificates.specs.declared.vote.SignedVote.{SignedVote}
-use Rattle.evidence.specs.NamedVotes.{all_votes}
+use Rattle.audit_evidence.specs.NamedVotes.{all_votes}
 use Rattle.parallel_verify.specs.Parts.{Part}
 use Rattle.parallel_verify.proofs.Judgings.{listed_votes}
 use Rattle.parallel_verify.proofs.judging.listing_of.Goals as goal

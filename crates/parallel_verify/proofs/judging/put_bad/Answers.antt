@@ -1,5 +1,5 @@
 use Rattle.std.proofs.Common.{◌≡◌, ◌∙◌, false, sym}
-use Rattle.evidence.proofs.Gatherings.{gained_as}
+use Rattle.audit_evidence.proofs.Gatherings.{gained_as}
 use Rattle.parallel_verify.proofs.judging.put_bad.Goals as goal
 
 pub returns-in_ok-insert : goal.returns-in_ok-insert

@@ -1,14 +1,14 @@
 use Rattle.std.proofs.Common.{◌≡◌, ◌++◌, ◌+◌, ◌∷◌, [], ◌∙◌, ℕ, List, None, refl, sym, subst, arith}
-use Rattle.wire.specs.Payloads.{IsPayload}
+use Rattle.base_wire.specs.Payloads.{IsPayload}
 use Rattle.std.proofs.lemmas.Bool.{false≢true}
 use Rattle.log_transfer.specs.Pulls.{IsStep}
 use Rattle.log_transfer.specs.declared.pull.Step.{Step}
 use Rattle.log_transfer.proofs.Causes.{end_caused}
 use Rattle.blocks.specs.Genesis.{genesis_of}
-use Rattle.evidence.specs.Gathering.{Grows, IsGatheringRefusal}
-use Rattle.evidence.specs.Logs.{ReceivedLog, LogHasHeader, FrameHasHeader, FrameNamesVote, HaveEntries, SpellsEntry}
-use Rattle.evidence.specs.declared.refusal.EvidenceRefusal.{EvidenceRefusal}
-use Rattle.evidence.proofs.Gatherings.{handed_on, have_one_more, have_no_more}
+use Rattle.audit_evidence.specs.Gathering.{Grows, IsGatheringRefusal}
+use Rattle.audit_evidence.specs.Logs.{ReceivedLog, LogHasHeader, FrameHasHeader, FrameNamesVote, HaveEntries, SpellsEntry}
+use Rattle.audit_evidence.specs.declared.refusal.EvidenceRefusal.{EvidenceRefusal}
+use Rattle.audit_evidence.proofs.Gatherings.{handed_on, have_one_more, have_no_more}
 use Rattle.parallel_verify.specs.Collections.{IsGathering, IsLogFrom, reader_at, tally_of}
 use Rattle.parallel_verify.specs.Steps.{AreReplayed}
 use Rattle.parallel_verify.specs.declared.steps.Steps.{Steps}

@@ -1,7 +1,7 @@
 use Rattle.std.proofs.Common.{◌+◌, List, sym, subst, take}
 use Rattle.std.specs.List.{AllZip}
-use Rattle.evidence.specs.Logs.{ReceivedLog}
-use Rattle.evidence.proofs.Gatherings.{zip_more}
+use Rattle.audit_evidence.specs.Logs.{ReceivedLog}
+use Rattle.audit_evidence.proofs.Gatherings.{zip_more}
 use Rattle.parallel_verify.specs.Sources.{IsLogOf, Source}
 use Rattle.parallel_verify.proofs.texts.logs_of.Goals as goal
 

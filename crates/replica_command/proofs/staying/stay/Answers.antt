@@ -1,6 +1,6 @@
 use Rattle.std.proofs.Common.{◌≡◌, ℕ, List, length, rules, subst, take}
 use Rattle.std.specs.Prelude.{map}
-use Rattle.streams.specs.Streams.{Wrote}
+use Rattle.base_streams.specs.Streams.{Wrote}
 use Rattle.replica_command.specs.StayText.{IsPrinted, closed_line}
 use Rattle.replica_command.specs.declared.worker.Done.{Done}
 use Rattle.replica_command.specs.declared.worker.Work.{Work}

@@ -1,7 +1,7 @@
 use Rattle.std.proofs.Common.{ℕ, List, ap, inl, subst}
 use Rattle.certificates.specs.BlockChecks.{CheckedBlock, IsChecked}
-use Rattle.replica_answers.specs.Answers.{block_of}
-use Rattle.handover.specs.Handovers.{handover_mark}
+use Rattle.replica_requests.specs.Answers.{block_of}
+use Rattle.handover_blocks.specs.Handovers.{handover_mark}
 use Rattle.vote_desk.specs.Firsts.{RepliesOnce}
 use Rattle.signer_answers.specs.BlockAnswers.{SomeMove}
 use Rattle.signer_answers.proofs.answering.deliver_once.Goals as goal

@@ -1,6 +1,6 @@
 use Rattle.std.proofs.Common.{ℕ, List, ap, inr, subst}
 use Rattle.certificates.specs.BlockChecks.{CheckedBlock, IsChecked}
-use Rattle.replica_answers.specs.Answers.{block_of}
+use Rattle.replica_requests.specs.Answers.{block_of}
 use Rattle.vote_desk.specs.Sparing.{RepliesSparing}
 use Rattle.signer_answers.specs.BlockAnswers.{SomeMove}
 use Rattle.signer_answers.proofs.answering.deliver_sparing.Goals as goal

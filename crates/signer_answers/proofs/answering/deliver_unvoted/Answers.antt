@@ -1,6 +1,6 @@
 use Rattle.std.proofs.Common.{ℕ, List, ap, inl, inr, subst}
 use Rattle.certificates.specs.BlockChecks.{CheckedBlock, IsChecked}
-use Rattle.replica_answers.specs.Answers.{block_of}
+use Rattle.replica_requests.specs.Answers.{block_of}
 use Rattle.vote_desk.specs.SomeDesk.{RepliesUnvoted}
 use Rattle.signer_answers.specs.BlockAnswers.{SomeMove}
 use Rattle.signer_answers.proofs.answering.deliver_unvoted.Goals as goal

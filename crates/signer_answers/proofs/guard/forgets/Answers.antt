@@ -1,5 +1,5 @@
 use Rattle.std.proofs.Common.{◌≡◌, ℕ, List, inr, rules, subst, sym}
-use Rattle.own_votes.specs.OwnVotes.{ShowsForeignVote}
+use Rattle.replica_backups.specs.OwnVotes.{ShowsForeignVote}
 use Rattle.signer_answers.specs.Guards.{IsFoundIn, IsSpoilt, votes_found}
 use Rattle.signer_answers.proofs.guard.forgets.Goals as goal
 

@@ -1,6 +1,6 @@
 use Rattle.std.proofs.Common.{◌≡◌, ℕ, List, rules, subst}
 use Rattle.std.specs.Prelude.{MatchOption}
-use Rattle.handover.specs.Handovers.{handover_mark}
+use Rattle.handover_blocks.specs.Handovers.{handover_mark}
 use Rattle.replica_core.specs.Marks.{HasNoMarkedIn, IsFirstMarkedIn}
 use Rattle.signer_answers.specs.BlockAnswers.{SomeOne}
 use Rattle.signer_answers.proofs.sparing.handover_below.Goals as goal

@@ -1,7 +1,7 @@
 use Rattle.std.proofs.Common.{ℕ, Option, inr, subst}
 use Rattle.std.specs.Prelude.{MatchOption}
 use Rattle.blocks.specs.Headers.{Header}
-use Rattle.handover.specs.Handovers.{handover_mark}
+use Rattle.handover_blocks.specs.Handovers.{handover_mark}
 use Rattle.replica_core.specs.Marks.{HasNoMarkedIn, IsFirstMarkedIn}
 use Rattle.signer_answers.proofs.sparing.is_beside.Goals as goal
 

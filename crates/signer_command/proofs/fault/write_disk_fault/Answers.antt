@@ -1,8 +1,8 @@
 use Rattle.std.proofs.Common.{◌++◌, codes, List, ℕ, subst}
-use Rattle.streams.specs.Streams.{Wrote, WrotePart}
-use Rattle.streams.proofs.Writing.{wrote_both}
-use Rattle.printed_lines.specs.Printed.{printed}
-use Rattle.printed_lines.proofs.Pieces.{on_err, on_err_too, on_ok_too, part_behind, part_of_front}
+use Rattle.base_streams.specs.Streams.{Wrote, WrotePart}
+use Rattle.base_streams.proofs.Writing.{wrote_both}
+use Rattle.base_text.specs.Printed.{printed}
+use Rattle.base_text.proofs.Pieces.{on_err, on_err_too, on_ok_too, part_behind, part_of_front}
 use Rattle.signer_command.specs.FaultLines.{disk_line}
 use Rattle.signer_command.proofs.fault.write_disk_fault.Goals as goal
 

@@ -1,5 +1,5 @@
 use Rattle.std.specs.List.{All}
-use Rattle.log_transfer.specs.declared.place.TheConstants.{MOST_TRIES}
+use Rattle.log_transfer.specs.declared.reader_state.TheConstants.{MOST_TRIES}
 use Rattle.parallel_verify.specs.Collections.{MayBeTried}
 use Rattle.test_sources.proofs.sources.sources.Given as goal
 

@@ -1,6 +1,6 @@
 use Rattle.std.proofs.Common.{◌≡◌, ◌↔◌, ℕ, List, Result, Ok, Err, sym, subst, rules}
 use Rattle.std.specs.Prelude.{IfErr, IsErr, IsErrAnd, IsOk}
-use Rattle.wire.proofs.Order.{refused_fails}
+use Rattle.base_wire.proofs.Order.{refused_fails}
 use Rattle.verdict_format.specs.Proofs.{IsProof}
 use Rattle.verdict_checker.specs.declared.refusal.Refusal.{Refusal}
 use Rattle.verdict_checker.specs.Checks.{IsRefused, Passes, PassesAll, check_order, refusal_number}

@@ -1,7 +1,7 @@
 use Rattle.std.proofs.Common.{◌≡◌, ◌-◌, ℕ, List, length, drop, arith, sym, ap, subst}
 use Rattle.std.proofs.lemmas.List.{length-drop, length-take}
 use Rattle.log_format.specs.Exports.{asked_for}
-use Rattle.streams.specs.Streams.{Wrote, WrotePart}
+use Rattle.base_streams.specs.Streams.{Wrote, WrotePart}
 use Rattle.vote_log.proofs.Sending.{all_sent, body_part, head_part, mark_part, on_err}
 use Rattle.vote_log.proofs.export.send_export.Goals as goal
 

@@ -1,6 +1,6 @@
 use Rattle.std.proofs.Common.{◌<◌, ◌≤◌, List, ℕ, length, rules, arith, subst, ◌∙◌}
 use Rattle.stable_log.proofs.Told.{if_some}
-use Rattle.streams.specs.Streams.{Wrote, WrotePart}
+use Rattle.base_streams.specs.Streams.{Wrote, WrotePart}
 use Rattle.vote_log.specs.LogExport.{frame_at}
 use Rattle.vote_log.proofs.Sending.{frames_more, frames_part, on_err}
 use Rattle.vote_log.proofs.export.send_frames.Goals as goal

@@ -1,6 +1,6 @@
 use Rattle.std.proofs.Common.{◌≡◌, List, ℕ, Some, length}
 use Rattle.stable_log.specs.Crash.{Unwritten}
-use Rattle.streams.specs.Streams.{Wrote}
+use Rattle.base_streams.specs.Streams.{Wrote}
 use Rattle.vote_log.specs.LogExport.{frames_from}
 use Rattle.vote_log.proofs.export.send_frames.Given as goal
 

@@ -1,6 +1,6 @@
 use Rattle.std.proofs.Common.{◌∙◌, ap, subst, sym}
 use Rattle.std.proofs.lemmas.List.Elements.{All-get_or}
-use Rattle.watch_snapshot.specs.Proved.{IsProved}
+use Rattle.watch_report.specs.Proved.{IsProved}
 use Rattle.watch_desk.specs.Shown.{IsFiledAt, culprit_facts, verdict_facts}
 use Rattle.watch_desk.proofs.Showing.{shown_more}
 use Rattle.watch_desk.proofs.shown.culprits_seen.Goals as goal

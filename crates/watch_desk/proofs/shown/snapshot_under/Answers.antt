@@ -2,7 +2,7 @@ use Rattle.std.proofs.Common.{◌≡◌, ◌∙◌, ap, subst, sym}
 use Rattle.std.specs.List.{All}
 use Rattle.std.proofs.lemmas.List.Elements.{All-weaker}
 use Rattle.verdict_format.specs.Proofs.{IsProof}
-use Rattle.watch_snapshot.specs.Proved.{IsProved}
+use Rattle.watch_report.specs.Proved.{IsProved}
 use Rattle.watch_desk.specs.Hearing.{Told}
 use Rattle.watch_desk.proofs.Showing.{shown_are_known}
 use Rattle.watch_desk.proofs.shown.snapshot_under.Goals as goal

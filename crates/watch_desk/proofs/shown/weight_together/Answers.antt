@@ -1,5 +1,5 @@
 use Rattle.std.proofs.Common.{◌∙◌, refl}
-use Rattle.watch_snapshot.specs.declared.snapshot.Culprit.{Culprit}
+use Rattle.watch_report.specs.declared.snapshot.Culprit.{Culprit}
 use Rattle.watch_desk.proofs.Showing.{capped_more}
 use Rattle.watch_desk.proofs.shown.weight_together.Goals as goal
 

@@ -1,5 +1,5 @@
 use Rattle.std.proofs.Common.{◌≡◌, ◌++◌}
-use Rattle.watch_snapshot.specs.Sources.{since_of}
+use Rattle.watch_report.specs.Sources.{since_of}
 use Rattle.watch_web.specs.Ages.{for_text}
 use Rattle.watch_web.specs.Holding.{held_line}
 use Rattle.watch_web.proofs.Pieces.{by_eight}

@@ -2,7 +2,7 @@ use Rattle.std.proofs.Common.{◌++◌, ◌≤◌, List, length, ap, ◌∙◌, 
 use Rattle.std.specs.Prelude.{codes}
 use Rattle.std.specs.List.{flat_map}
 use Rattle.std.proofs.lemmas.List.{take_all}
-use Rattle.watch_snapshot.specs.declared.source.SourceSeen.{SourceSeen}
+use Rattle.watch_report.specs.declared.source.SourceSeen.{SourceSeen}
 use Rattle.watch_web.specs.Reports.{source_text}
 use Rattle.watch_web.proofs.Joining.{put_more, two_pieces}
 use Rattle.watch_web.proofs.lists.put_more_sources.Goals as goal

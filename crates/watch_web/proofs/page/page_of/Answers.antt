@@ -1,5 +1,5 @@
 use Rattle.std.proofs.Common.{ℕ, List, rules, subst, sym}
-use Rattle.watch_lines.specs.Times.{IsUtcText}
+use Rattle.watch_report.specs.LineTimes.{IsUtcText}
 use Rattle.watch_web.proofs.page.page_of.Goals as goal
 
 pub returns : goal.returns

@@ -1,7 +1,7 @@
 use Rattle.std.proofs.Common.{◌≡◌, ◌++◌}
 use Rattle.std.specs.Prelude.{decimal}
 use Rattle.verdict_format.specs.Verdicts.{replica_in}
-use Rattle.watch_snapshot.specs.Proved.{pair_in}
+use Rattle.watch_report.specs.Proved.{pair_in}
 use Rattle.watch_web.specs.Reports.{culprit_text, pair_text}
 use Rattle.watch_web.proofs.Pieces.{by_nine}
 use Rattle.watch_web.proofs.report.put_culprit.Goals as goal

@@ -1,7 +1,7 @@
 use Rattle.std.proofs.Common.{◌≡◌, ◌++◌}
 use Rattle.std.specs.Prelude.{decimal}
 use Rattle.verdict_format.specs.Verdicts.{replica_in}
-use Rattle.watch_snapshot.specs.Proved.{pair_in}
+use Rattle.watch_report.specs.Proved.{pair_in}
 use Rattle.watch_web.specs.Rows.{culprit_row, link_text, pair_text}
 use Rattle.watch_web.proofs.Pieces.{by_eight}
 use Rattle.watch_web.proofs.rows.put_culprit.Goals as goal

@@ -1,7 +1,7 @@
 use Rattle.std.proofs.Common.{◌++◌, ◌≤◌, List, length, ap, ◌∙◌, arith}
 use Rattle.std.specs.List.{flat_map}
 use Rattle.std.proofs.lemmas.List.{take_all}
-use Rattle.watch_snapshot.specs.declared.snapshot.Culprit.{Culprit}
+use Rattle.watch_report.specs.declared.snapshot.Culprit.{Culprit}
 use Rattle.watch_web.specs.Rows.{culprit_row}
 use Rattle.watch_web.proofs.Joining.{put_more}
 use Rattle.watch_web.proofs.rows.put_culprits.Goals as goal

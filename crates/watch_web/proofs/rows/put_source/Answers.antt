@@ -1,5 +1,5 @@
 use Rattle.std.proofs.Common.{◌≡◌, ◌++◌}
-use Rattle.watch_snapshot.specs.Sources.{source_state_of}
+use Rattle.watch_report.specs.Sources.{source_state_of}
 use Rattle.watch_web.specs.Rows.{remark_text, source_row}
 use Rattle.watch_web.proofs.Pieces.{by_seven}
 use Rattle.watch_web.proofs.rows.put_source.Goals as goal

@@ -1,7 +1,7 @@
 use Rattle.std.proofs.Common.{◌++◌, ◌≤◌, List, length, ap, ◌∙◌, arith}
 use Rattle.std.specs.List.{flat_map}
 use Rattle.std.proofs.lemmas.List.{take_all}
-use Rattle.watch_snapshot.specs.declared.source.SourceSeen.{SourceSeen}
+use Rattle.watch_report.specs.declared.source.SourceSeen.{SourceSeen}
 use Rattle.watch_web.specs.Rows.{source_row}
 use Rattle.watch_web.proofs.Joining.{put_more}
 use Rattle.watch_web.proofs.rows.put_sources.Goals as goal

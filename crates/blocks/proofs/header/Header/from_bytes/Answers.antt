@@ -1,5 +1,5 @@
 use Rattle.std.proofs.Common.{arith, ap, ◌∙◌}
-use Rattle.wire.proofs.Needs.{if_ok}
+use Rattle.base_wire.proofs.Needs.{if_ok}
 use Rattle.blocks.specs.HeaderReading.{header_in}
 use Rattle.blocks.proofs.HeaderLaws.{header_found, header_again}
 use Rattle.blocks.proofs.header.Header.from_bytes.Goals as goal

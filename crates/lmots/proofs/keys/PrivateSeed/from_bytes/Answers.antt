@@ -1,5 +1,5 @@
 use Rattle.std.proofs.Common.{◌≡◌, length, arith, sym}
-use Rattle.wire.proofs.Numbers.{cut, cut_last}
+use Rattle.base_wire.proofs.Numbers.{cut, cut_last}
 use Rattle.lmots.proofs.keys.PrivateSeed.from_bytes.Goals as goal
 
 pub returns-clause-spelled : goal.returns-clause-spelled

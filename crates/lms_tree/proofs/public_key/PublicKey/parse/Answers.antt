@@ -1,5 +1,5 @@
 use Rattle.std.proofs.Common.{◌≡◌, ℕ, List, ◌∙◌, ap, refl, length, arith, rules}
-use Rattle.wire.specs.Pieces.{number_at, piece}
+use Rattle.base_wire.specs.Pieces.{number_at, piece}
 use Rattle.lms_tree.proofs.KeyLemmas.{key_id-key_text, key_public, key_spelled, root-key_text}
 use Rattle.lms_tree.proofs.public_key.PublicKey.parse.Goals as goal
 

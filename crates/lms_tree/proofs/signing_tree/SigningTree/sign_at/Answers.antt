@@ -2,7 +2,7 @@ use Rattle.lmots.specs.declared.keys.PrivateSeed.{PrivateSeed}
 use Rattle.byteorder.specs.Endian.{big_bytes}
 use Rattle.lmots.specs.Signatures.{ots_signature}
 use Rattle.std.proofs.Common.{◌≡◌, ◌≤◌, ◌+◌, ◌*◌, ◌++◌, ℕ, List, length, ap, sym, ◌∙◌, arith}
-use Rattle.wire.proofs.Numbers.{filled}
+use Rattle.base_wire.proofs.Numbers.{filled}
 use Rattle.lmots.proofs.ChainLemmas.{joined_none}
 use Rattle.lms_tree.specs.Tree.{lms_signature, path_node}
 use Rattle.lms_tree.proofs.SignedVerifies.{signature_verifies, index_of_signature}

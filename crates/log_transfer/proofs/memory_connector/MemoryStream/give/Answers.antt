@@ -1,4 +1,4 @@
-use Rattle.wire.specs.Pieces.{AreBytes}
+use Rattle.base_wire.specs.Pieces.{AreBytes}
 use Rattle.log_format.proofs.Texts.{AreBytes-drop}
 use Rattle.std.proofs.Common.{◌≡◌, ◌≤◌, ◌+◌, ◌-◌, ◌∙◌, ◌++◌, List, ℕ, length, take, drop, sym, ap, subst, arith, rules}
 use Rattle.std.proofs.lemmas.List.{drop-drop, length-drop, length-take, take_at, take-append-drop}

@@ -1,6 +1,6 @@
 use Rattle.std.proofs.Common.{◌≡◌, ◌<◌, ◌+◌, ◌++◌, ◌∷◌, [], List, false, length, refl, sym, ap, ◌∙◌, subst, arith}
 use Rattle.std.specs.Result.{is_err}
-use Rattle.wire.specs.Payloads.{IsPayload}
+use Rattle.base_wire.specs.Payloads.{IsPayload}
 use Rattle.stable_log.specs.Image.{LeavesList, staged_text}
 use Rattle.stable_log.specs.Places.{IsJournal, payloads_at}
 use Rattle.stable_log.specs.declared.reading.PayloadPlace.{PayloadPlace}

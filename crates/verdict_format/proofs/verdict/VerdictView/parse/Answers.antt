@@ -1,5 +1,5 @@
 use Rattle.std.proofs.Common.{List, ℕ, refl, rules, arith}
-use Rattle.wire.proofs.Order.{refused_fails}
+use Rattle.base_wire.proofs.Order.{refused_fails}
 use Rattle.verdict_format.specs.declared.verdict.VerdictRefusal.{VerdictRefusal}
 use Rattle.verdict_format.specs.declared.verdict.VerdictRefusal.TheVariants.{Short, Magic, Kind, Length}
 use Rattle.verdict_format.specs.declared.parts.VerdictParts.{VerdictParts}

@@ -1,5 +1,5 @@
 use Rattle.std.proofs.Common.{List, ℕ}
-use Rattle.streams.specs.Streams.{Wrote, WrotePart}
+use Rattle.base_streams.specs.Streams.{Wrote, WrotePart}
 use Rattle.vote_log.proofs.LogKeeps.{kept_unwritten}
 use Rattle.vote_log.proofs.Sending.{exported, on_err_maps, on_ok_maps}
 use Rattle.vote_log.proofs.log.VoteLog.export.Goals as goal

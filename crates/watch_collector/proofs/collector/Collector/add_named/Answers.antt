@@ -2,8 +2,8 @@ use Rattle.std.proofs.Common.{◌≡◌, ◌∙◌, List, inr, ap, subst}
 use Rattle.std.specs.List.{Contains}
 use Rattle.blocks.specs.Headers.{Header}
 use Rattle.certificates.specs.declared.vote.SignedVote.{SignedVote}
-use Rattle.evidence.specs.Gathering.{Gathered, Grows, IsGatheringRefusal, IsNone}
-use Rattle.evidence.proofs.Gatherings.{handed_on}
+use Rattle.audit_evidence.specs.Gathering.{Gathered, Grows, IsGatheringRefusal, IsNone}
+use Rattle.audit_evidence.proofs.Gatherings.{handed_on}
 use Rattle.watch_collector.specs.Collectors.{Collected}
 use Rattle.watch_collector.specs.Growing.{AreTheNewOf}
 use Rattle.watch_collector.specs.Parts.{PartValue}

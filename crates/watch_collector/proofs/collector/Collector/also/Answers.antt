@@ -1,5 +1,5 @@
 use Rattle.std.proofs.Common.{◌∙◌, ◌++◌, ◌∷◌, [], ap}
-use Rattle.evidence.specs.declared.source.SourceReport.{SourceReport}
+use Rattle.audit_evidence.specs.declared.source.SourceReport.{SourceReport}
 use Rattle.watch_collector.specs.Collectors.{Collected, unread_report}
 use Rattle.watch_collector.proofs.KnownSoFar.{one_log_more}
 use Rattle.watch_collector.proofs.collector.Collector.also.Goals as goal

@@ -1,7 +1,7 @@
 use Rattle.std.proofs.Common.{◌≡◌, ◌++◌, ℕ, List, ap, sym, subst}
 use Rattle.certificates.specs.declared.vote.SignedVote.{SignedVote}
-use Rattle.evidence.specs.Gathering.{Gains, Gathered}
-use Rattle.evidence.proofs.Gatherings.{grown_vote}
+use Rattle.audit_evidence.specs.Gathering.{Gains, Gathered}
+use Rattle.audit_evidence.proofs.Gatherings.{grown_vote}
 use Rattle.watch_collector.specs.Growing.{IsBadVote}
 use Rattle.watch_collector.proofs.Judging.{gained_second, judged_bad}
 use Rattle.watch_collector.proofs.growing.Growing.add_bad.Goals as goal

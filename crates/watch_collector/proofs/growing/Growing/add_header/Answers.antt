@@ -1,7 +1,7 @@
 use Rattle.std.proofs.Common.{◌≡◌, ◌++◌, subst}
 use Rattle.blocks.specs.Headers.{Header}
-use Rattle.evidence.specs.Gathering.{Gains}
-use Rattle.evidence.proofs.Gatherings.{grown_header}
+use Rattle.audit_evidence.specs.Gathering.{Gains}
+use Rattle.audit_evidence.proofs.Gatherings.{grown_header}
 use Rattle.watch_collector.proofs.Judging.{judged_header}
 use Rattle.watch_collector.proofs.growing.Growing.add_header.Goals as goal
 

@@ -1,7 +1,7 @@
 use Rattle.std.specs.List.{Contains}
-use Rattle.evidence.specs.Gathering.{IsGatheringRefusal}
-use Rattle.evidence.proofs.Absorbing.{headers_fault, headers_more}
-use Rattle.evidence.proofs.Gatherings.{handed_on}
+use Rattle.audit_evidence.specs.Gathering.{IsGatheringRefusal}
+use Rattle.audit_evidence.proofs.Absorbing.{headers_fault, headers_more}
+use Rattle.audit_evidence.proofs.Gatherings.{handed_on}
 use Rattle.watch_collector.proofs.growing.Growing.add_headers.Goals as goal
 
 pub returns-in_err-add_header-clause-err : goal.returns-in_err-add_header-clause-err

@@ -1,8 +1,8 @@
 use Rattle.std.proofs.Common.{◌<◌, ℕ, List, false, get_or, length, sym, subst, arith}
 use Rattle.certificates.specs.declared.vote.SignedVote.{SignedVote}
 use Rattle.certificates.specs.Votes.{IsAnswerOn}
-use Rattle.evidence.proofs.Absorbing.{votes_more}
-use Rattle.evidence.proofs.Gatherings.{zip_length}
+use Rattle.audit_evidence.proofs.Absorbing.{votes_more}
+use Rattle.audit_evidence.proofs.Gatherings.{zip_length}
 use Rattle.watch_collector.proofs.Lists.{zip_at}
 use Rattle.watch_collector.proofs.growing.Growing.add_votes.Goals as goal
 

@@ -2,7 +2,7 @@ use Rattle.std.proofs.Common.{◌≡◌, ◌∙◌, ◌+◌, ℕ, List, inl, inr
 use Rattle.std.specs.List.{Contains}
 use Rattle.std.proofs.lemmas.Bool.{false≢true}
 use Rattle.certificates.specs.Votes.{IsGoodVote}
-use Rattle.evidence.specs.Gathering.{Gathered}
+use Rattle.audit_evidence.specs.Gathering.{Gathered}
 use Rattle.watch_collector.specs.Growing.{AreBadAmong, IsBadVote}
 use Rattle.watch_collector.proofs.Judging.{bad_more, good_more, in_both}
 use Rattle.watch_collector.proofs.growing.Growing.bad_among.Goals.{then-contains, else-contains}

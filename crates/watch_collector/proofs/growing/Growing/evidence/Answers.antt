@@ -1,5 +1,5 @@
 use Rattle.std.proofs.Common.{◌++◌, refl, subst}
-use Rattle.evidence.specs.Gathering.{Gathered}
+use Rattle.audit_evidence.specs.Gathering.{Gathered}
 use Rattle.watch_collector.specs.Growing.{IsShownOf}
 use Rattle.watch_collector.proofs.Judging.{shows}
 use Rattle.watch_collector.proofs.growing.Growing.evidence.Goals as goal

@@ -2,7 +2,7 @@ use Rattle.std.proofs.Common.{◌∙◌, inl, inr, sym, subst}
 use Rattle.std.specs.Prelude.{IsTrue}
 use Rattle.std.specs.List.{Contains}
 use Rattle.std.proofs.lemmas.Bool.{false≢true}
-use Rattle.evidence.specs.Gathering.{Gathered}
+use Rattle.audit_evidence.specs.Gathering.{Gathered}
 use Rattle.watch_collector.proofs.Judging.{in_both}
 use Rattle.watch_collector.proofs.growing.Growing.has_vote.Goals as goal
 

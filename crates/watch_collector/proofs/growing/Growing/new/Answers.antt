@@ -1,7 +1,7 @@
 use Rattle.std.proofs.Common.{◌∙◌, ℕ, List, refl, sym, subst}
 use Rattle.std.specs.List.{Contains}
 use Rattle.blocks.specs.Genesis.{genesis_of}
-use Rattle.evidence.proofs.Gatherings.{only_one}
+use Rattle.audit_evidence.proofs.Gatherings.{only_one}
 use Rattle.watch_collector.proofs.Judging.{judged_first}
 use Rattle.watch_collector.proofs.growing.Growing.new.Goals as goal
 

@@ -1,11 +1,11 @@
 use Rattle.std.proofs.Common.{◌≡◌, ◌∙◌, ◌+◌, List, ℕ, ap, inl, inr, sym, subst}
 use Rattle.std.specs.Prelude.{◌++◌, ◌∷◌, []}
 use Rattle.std.proofs.lemmas.Bool.{false≢true}
-use Rattle.evidence.specs.Evidence.{IsEvidenceRefusal}
-use Rattle.evidence.specs.Gathering.{Gathered, Grows, IsGatheringRefusal}
-use Rattle.evidence.specs.Logs.{FrameHasHeader, FrameNamesVote}
-use Rattle.evidence.specs.declared.refusal.EvidenceRefusal.{EvidenceRefusal}
-use Rattle.evidence.proofs.Gatherings.{handed_on}
+use Rattle.audit_evidence.specs.Evidence.{IsEvidenceRefusal}
+use Rattle.audit_evidence.specs.Gathering.{Gathered, Grows, IsGatheringRefusal}
+use Rattle.audit_evidence.specs.Logs.{FrameHasHeader, FrameNamesVote}
+use Rattle.audit_evidence.specs.declared.refusal.EvidenceRefusal.{EvidenceRefusal}
+use Rattle.audit_evidence.proofs.Gatherings.{handed_on}
 use Rattle.watch_collector.specs.Parts.{IsInFrames, IsMadeOf, Making}
 use Rattle.watch_collector.proofs.MadeParts.{fault_more, made_more}
 use Rattle.watch_collector.proofs.making.PartMaker.add.Goals.{then-is_entry, else-is_entry}

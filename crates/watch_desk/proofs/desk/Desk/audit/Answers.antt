@@ -3,10 +3,10 @@ use Rattle.std.specs.List.{All}
 use Rattle.std.proofs.lemmas.List.Elements.{All-append}
 use Rattle.verdict_format.specs.Proofs.{IsProof}
 use Rattle.watch_collector.specs.Collectors.{IsCollected}
-use Rattle.watch_desk.specs.Desks.{Desk}
+use Rattle.watch_desk.specs.Desks.{WatchDesk}
 use Rattle.watch_desk.specs.Verdicts.{unnamed}
 use Rattle.watch_desk.proofs.HeardAudits.{unnamed_all}
-use Rattle.watch_desk.proofs.desk.Desk.audit.Goals as goal
+use Rattle.watch_desk.proofs.desk.WatchDesk.audit.Goals as goal
 
 pub invariant_of-self : goal.invariant_of-self
 invariant_of-self c =
@@ -19,4 +19,4 @@ invariant_of-self c =
 
 pub returns-clause-audit : goal.returns-clause-audit
 returns-clause-audit c committee logs known =
-    c.in_ok-audit.ensures.audit committee logs (subst (IsCollected committee logs) (sym (ap (λ (d : Desk). d.collected) c.self.view_is)) known)
+    c.in_ok-audit.ensures.audit committee logs (subst (IsCollected committee logs) (sym (ap (λ (d : WatchDesk). d.collected) c.self.view_is)) known)

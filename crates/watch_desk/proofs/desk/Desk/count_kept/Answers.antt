@@ -1,16 +1,16 @@
 use Rattle.std.proofs.Common.{◌<◌, length, set, subst, sym}
-use Rattle.watch_desk.specs.Desks.{Desk}
+use Rattle.watch_desk.specs.Desks.{WatchDesk}
 use Rattle.watch_desk.specs.Opening.{IsNotedAt}
 use Rattle.watch_desk.specs.Taking.{AreKeptCounted}
 use Rattle.watch_desk.specs.declared.source.SourceKnown.{SourceKnown}
 use Rattle.watch_desk.proofs.Opened.{noted_at}
-use Rattle.watch_desk.proofs.desk.Desk.count_kept.Goals as goal
+use Rattle.watch_desk.proofs.desk.WatchDesk.count_kept.Goals as goal
 
 pub returns : goal.returns
 returns c =
     let i = c.args.i in
     let Is : SourceKnown → SourceKnown → Type 0 = λ before after. AreKeptCounted before after i c.args.log c.in_ok-news.news.items in
-    let d : Desk = record { collected = c.self.inside.collector; sources = c.self.inside.sources.items; told = c.self.inside.told } in
-    let there : i < length d.sources = subst (λ (e : Desk). i < length e.sources) (sym c.self.view_is) c.requires in
-    let new : Desk = record { collected = c.self.inside.collector; sources = set c.self.inside.sources.items i c.count_kept.new.self; told = c.self.inside.told } in
-    subst (λ (e : Desk). IsNotedAt Is i e new) c.self.view_is (noted_at Is d i c.index_mut.result.now c.count_kept.new.self there c.index_mut.ensures.value c.in_ok-news.ensures)
+    let d : WatchDesk = record { collected = c.self.inside.collector; sources = c.self.inside.sources.items; told = c.self.inside.told } in
+    let there : i < length d.sources = subst (λ (e : WatchDesk). i < length e.sources) (sym c.self.view_is) c.requires in
+    let new : WatchDesk = record { collected = c.self.inside.collector; sources = set c.self.inside.sources.items i c.count_kept.new.self; told = c.self.inside.told } in
+    subst (λ (e : WatchDesk). IsNotedAt Is i e new) c.self.view_is (noted_at Is d i c.index_mut.result.now c.count_kept.new.self there c.index_mut.ensures.value c.in_ok-news.ensures)

@@ -1,7 +1,7 @@
 use Rattle.std.proofs.Common.{◌∙◌, List, ℕ, subst}
 use Rattle.std.specs.Prelude.{IsTrue}
-use Rattle.source_reading.specs.Following.{BeginsWith}
-use Rattle.source_reading.proofs.Digests.{begins}
+use Rattle.log_reading.specs.Following.{BeginsWith}
+use Rattle.log_reading.proofs.Digests.{begins}
 use Rattle.watch_state.proofs.logs.KeptLog.holds.Goals as goal
 
 pub returns : goal.returns

@@ -1,7 +1,7 @@
 use Rattle.std.proofs.Common.{◌≡◌, ◌∙◌, ◌≤◌, ◌-◌, List, ℕ, ap, arith, drop, length, length-drop, subst, take, take_all}
 use Rattle.std.specs.Prelude.{IsTrue}
-use Rattle.source_reading.specs.Following.{BeginsWith}
-use Rattle.source_reading.proofs.Digests.{begins}
+use Rattle.log_reading.specs.Following.{BeginsWith}
+use Rattle.log_reading.proofs.Digests.{begins}
 use Rattle.watch_state.proofs.logs.KeptLog.holds_behind.Goals as goal
 
 pub returns : goal.returns

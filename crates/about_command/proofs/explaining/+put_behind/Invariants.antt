@@ -1,4 +1,0 @@
-use Rattle.about_command.proofs.explaining.+put_behind.Given as goal
-
-abbrev pub decreases-put_behind : goal.decreases-put_behind
-decreases-put_behind l = l.most

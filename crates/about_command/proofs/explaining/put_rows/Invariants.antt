@@ -1,5 +1,0 @@
-use Rattle.about_command.specs.Explaining.{AreSaid}
-use Rattle.about_command.proofs.explaining.put_rows.Given as goal
-
-abbrev pub invariant-loop-row : goal.invariant-loop-row
-invariant-loop-row l = AreSaid l.fn.text.items l.text.items l.is_known

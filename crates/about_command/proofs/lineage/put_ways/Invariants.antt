@@ -1,6 +1,0 @@
-use Rattle.std.proofs.Common.{◌≡◌, ◌++◌}
-use Rattle.about_command.specs.LineageSheets.{ways_upto}
-use Rattle.about_command.proofs.lineage.put_ways.Given as goal
-
-abbrev pub invariant-loop-k : goal.invariant-loop-k
-invariant-loop-k l = l.text.items ≡ l.fn.text.items ++ ways_upto l.steps l.r l.k

@@ -1,6 +1,0 @@
-use Rattle.std.proofs.Common.{refl, ◌∙◌}
-use Rattle.about_command.proofs.Itself.{told_as}
-use Rattle.about_command.proofs.program.about_itself.Goals as goal
-
-pub returns-clause-text : goal.returns-clause-text
-returns-clause-text c = c.in_ok-text_of.ensures ∙ told_as _ refl refl c.args.asked

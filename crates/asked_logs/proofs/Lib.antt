@@ -1,3 +1,0 @@
-mod OneFirst
-mod Frames
-pub mod Asked

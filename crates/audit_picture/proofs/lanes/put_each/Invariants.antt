@@ -1,0 +1,7 @@
+use Rattle.std.proofs.Common.{take, string_bytes}
+use Rattle.audit_picture.specs.Series.{Adds}
+use Rattle.audit_picture.specs.Lanes.{AreLanes}
+use Rattle.audit_picture.proofs.lanes.put_each.Given as goal
+
+abbrev pub invariant-loop-index : goal.invariant-loop-index
+invariant-loop-index l = Adds (string_bytes l.initial.text) (string_bytes l.text) (AreLanes (take l.index l.culprits))

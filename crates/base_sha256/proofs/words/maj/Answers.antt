@@ -1,0 +1,5 @@
+use Rattle.base_sha256.proofs.VectorLemmas.{majs}
+use Rattle.base_sha256.proofs.words.maj.Goals as goal
+
+pub returns : goal.returns
+returns c = majs c.args.x c.args.y c.args.z c.fits-x.0 c.fits-y.0 c.fits-z.0

@@ -1,0 +1,3 @@
+pub use Rattle.base_streams.specs.Streams
+pub mod Escapes
+pub mod Printed

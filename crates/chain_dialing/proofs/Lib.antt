@@ -1,3 +1,0 @@
-pub mod NamingLaws
-pub mod FirstBytesLaws
-pub mod PieceLaws

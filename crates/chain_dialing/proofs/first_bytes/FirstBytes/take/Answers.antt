@@ -1,6 +1,0 @@
-use Rattle.std.proofs.Common.{refl, arith}
-use Rattle.chain_dialing.proofs.FirstBytesLaws.{taken}
-use Rattle.chain_dialing.proofs.first_bytes.FirstBytes.take.Goals as goal
-
-pub returns : goal.returns
-returns c = rw c.self.view_is at (taken c.self.inside.bytes c.put.new.bytes c.args.piece.now _ c.self.inside.have c.min-n.result (omega arith) (omega arith) (omega arith) refl c.put.ensures.written)

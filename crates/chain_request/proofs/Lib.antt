@@ -1,4 +1,0 @@
-pub mod ChainRequestBytes
-pub mod AskedLaws
-pub mod GatheringLaws
-pub mod StepRequestBytes

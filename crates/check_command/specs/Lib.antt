@@ -1,8 +1,0 @@
-pub use Rattle.printed_lines.specs.Printed
-pub mod Lines
-pub mod Texts
-pub mod Answers
-pub mod FaultLines
-pub mod Words
-pub mod Judgements
-pub mod Faults

@@ -1,8 +1,0 @@
-use Rattle.std.proofs.Common.{take}
-use Rattle.blocks.specs.Weights.{committee_of}
-use Rattle.commit_search.specs.Commits.{IsCertified}
-use Rattle.commit_search.specs.Chosen.{AreThose}
-use Rattle.commit_search.proofs.certified.certified_headers.Given as goal
-
-abbrev pub invariant-loop-header : goal.invariant-loop-header
-invariant-loop-header l = AreThose (IsCertified (committee_of l.evidence.committee) l.evidence) (take l.header-index l.evidence.headers) l.chosen.items

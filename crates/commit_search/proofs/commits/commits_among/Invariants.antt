@@ -1,7 +1,0 @@
-use Rattle.std.proofs.Common.{take}
-use Rattle.commit_search.specs.Chosen.{AreThose}
-use Rattle.commit_search.specs.Successors.{IsCommitAmong}
-use Rattle.commit_search.proofs.commits.commits_among.Given as goal
-
-abbrev pub invariant-loop-header : goal.invariant-loop-header
-invariant-loop-header l = AreThose (IsCommitAmong l.chains) (take l.header-index l.header-items) l.chosen.items

@@ -1,9 +1,0 @@
-use Rattle.std.proofs.Common.{◌≤◌}
-use Rattle.commit_search.proofs.OneChain.{IsTrunkBelow}
-use Rattle.commit_search.proofs.conflicts.trunk_length.Given as goal
-
-abbrev pub invariant-loop-k : goal.invariant-loop-k
-invariant-loop-k l = record {
-  within : l.trunk ≤ l.k;
-  trunk : IsTrunkBelow l.chains l.blocks l.trunk l.k;
-}

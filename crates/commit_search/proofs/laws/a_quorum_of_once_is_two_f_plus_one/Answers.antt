@@ -1,5 +1,0 @@
-use Rattle.commit_search.proofs.ConflictsAccuse.{quorum_of_once}
-use Rattle.commit_search.proofs.laws.a_quorum_of_once_is_two_f_plus_one.Goals as goal
-
-pub returns : goal.returns
-returns c = quorum_of_once

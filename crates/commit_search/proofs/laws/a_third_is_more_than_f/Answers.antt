@@ -1,5 +1,0 @@
-use Rattle.commit_search.proofs.ConflictsAccuse.{third_of_once}
-use Rattle.commit_search.proofs.laws.a_third_is_more_than_f.Goals as goal
-
-pub returns : goal.returns
-returns c = third_of_once

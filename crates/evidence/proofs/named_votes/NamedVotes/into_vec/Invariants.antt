@@ -1,8 +1,0 @@
-use Rattle.std.proofs.Common.{take}
-use Rattle.std.specs.List.{Contains}
-use Rattle.evidence.specs.Gathering.{Gains}
-use Rattle.evidence.specs.NamedVotes.{joined}
-use Rattle.evidence.proofs.named_votes.NamedVotes.into_vec.Given as goal
-
-abbrev pub invariant-loop-certificate : goal.invariant-loop-certificate
-invariant-loop-certificate g l = Gains l.initial.votes l.votes (Contains (joined (take l.certificate-index l.certificate-items)))

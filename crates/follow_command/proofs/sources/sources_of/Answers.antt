@@ -1,7 +1,0 @@
-use Rattle.evidence.proofs.Gatherings.{zip_more}
-use Rattle.follow_command.specs.Sources.{IsOpenedAs}
-use Rattle.follow_command.proofs.sources.sources_of.Goals as goal
-
-pub loop-i-preserved : goal.loop-i-preserved
-loop-i-preserved g c =
-    rw c.in_ok-push.ensures.items (zip_more IsOpenedAs c.args.words.now c.loop-i.sources.items c.loop-i.i _ c.source_of.result c.loop-i-test.true c.loop-i.invariant c.source_of.ensures)

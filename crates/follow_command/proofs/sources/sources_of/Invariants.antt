@@ -1,7 +1,0 @@
-use Rattle.std.proofs.Common.{take}
-use Rattle.std.specs.List.{AllZip}
-use Rattle.follow_command.specs.Sources.{IsOpenedAs}
-use Rattle.follow_command.proofs.sources.sources_of.Given as goal
-
-abbrev pub invariant-loop-i : goal.invariant-loop-i
-invariant-loop-i g l = AllZip IsOpenedAs (take l.i l.words) l.sources.items

@@ -1,6 +1,0 @@
-use Rattle.std.proofs.Common.{take}
-use Rattle.fork_picture.specs.Choices.{AreSome, IsOther, names_in}
-use Rattle.fork_picture.proofs.recent.other_blocks.Given as goal
-
-abbrev pub invariant-loop-header : goal.invariant-loop-header
-invariant-loop-header l = AreSome (IsOther l.evidence (names_in l.named)) (take l.header-index l.evidence.headers) l.others.items

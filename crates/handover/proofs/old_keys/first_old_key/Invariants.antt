@@ -1,7 +1,0 @@
-use Rattle.std.proofs.Common.{◌<◌, ℕ}
-use Rattle.blocks.specs.Committees.{keys_of}
-use Rattle.handover.specs.OldKeys.{AreNewKeys}
-use Rattle.handover.proofs.old_keys.first_old_key.Given as goal
-
-abbrev pub invariant-loop-r : goal.invariant-loop-r
-invariant-loop-r l = (s : ℕ) → s < l.r → AreNewKeys l.old l.new s (keys_of l.new s)

@@ -1,0 +1,4 @@
+pub use Rattle.audit_commits.specs.Commits
+pub mod Handovers
+pub mod HandoverLaws
+pub mod OldKeys

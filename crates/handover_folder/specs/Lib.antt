@@ -1,0 +1,15 @@
+pub use Rattle.stable_log.specs.Crash
+pub use Rattle.stable_log.specs.Disk
+pub use Rattle.stable_log.specs.Image
+pub mod Clearing
+pub mod Comparing
+pub mod Histories
+pub mod LightProofs
+pub mod Names
+pub mod OwnKeys
+pub mod Refusals
+pub mod Renewed
+pub mod Standing
+pub mod State
+pub mod Steps
+pub mod Words

@@ -1,2 +1,0 @@
-pub use Rattle.handover.specs.Handovers
-pub mod HandoverLines

@@ -1,0 +1,10 @@
+pub mod Composed
+pub mod Endorsing
+pub mod Good
+pub mod Kept
+pub mod Overwriting
+pub mod Places
+pub mod Refused
+pub mod RenewalTexts
+pub mod Seals
+pub mod SlotLaws

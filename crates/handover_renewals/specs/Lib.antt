@@ -1,0 +1,11 @@
+pub mod Composing
+pub mod Endorsed
+pub mod Making
+pub mod Refusals
+pub mod RenewalLaws
+pub mod RenewalReading
+pub mod RenewalRefusals
+pub mod Renewals
+pub mod Renewing
+pub mod SlotKinds
+pub mod Slots

@@ -1,0 +1,4 @@
+pub mod Decided
+pub mod Going
+pub mod RefusedFiles
+pub mod TakenLaws

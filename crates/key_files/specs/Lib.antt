@@ -1,3 +1,0 @@
-pub use Rattle.streams.specs.Streams
-pub mod KeyFiles
-pub mod MemoryFiles

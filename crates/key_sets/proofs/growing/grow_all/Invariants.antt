@@ -1,5 +1,0 @@
-use Rattle.std.proofs.Common.{◌≡◌, take}
-use Rattle.key_sets.proofs.growing.grow_all.Given as goal
-
-abbrev pub invariant-loop-secret : goal.invariant-loop-secret
-invariant-loop-secret g l = l.trees.items ≡ take l.secret-index l.secrets

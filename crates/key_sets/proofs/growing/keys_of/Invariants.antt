@@ -1,6 +1,0 @@
-use Rattle.std.proofs.Common.{◌≡◌, map, take}
-use Rattle.key_sets.specs.KeySets.{public_key}
-use Rattle.key_sets.proofs.growing.keys_of.Given as goal
-
-abbrev pub invariant-loop-tree : goal.invariant-loop-tree
-invariant-loop-tree l = l.keys.items ≡ map public_key (take l.tree-index l.trees)

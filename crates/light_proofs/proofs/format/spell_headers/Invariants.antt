@@ -1,7 +1,0 @@
-use Rattle.std.proofs.Common.{take}
-use Rattle.std.specs.List.{All}
-use Rattle.blocks.specs.Headers.{IsHeader}
-use Rattle.light_proofs.proofs.format.spell_headers.Given as goal
-
-abbrev pub invariant-loop-header : goal.invariant-loop-header
-invariant-loop-header l = All IsHeader (take l.header-index l.headers)

@@ -1,8 +1,0 @@
-use Rattle.std.proofs.Common.{◌<◌}
-use Rattle.blocks.specs.Committees.{n_of}
-use Rattle.certificates.specs.Certificates.{nth_endorsement}
-use Rattle.light_proofs.specs.Proving.{AllBelow}
-use Rattle.light_proofs.proofs.judging.are_known.Given as goal
-
-abbrev pub invariant-loop-k : goal.invariant-loop-k
-invariant-loop-k l = AllBelow l.k (λ j. (nth_endorsement l.certificate j).replica < n_of l.committee)

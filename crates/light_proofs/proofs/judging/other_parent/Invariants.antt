@@ -1,5 +1,0 @@
-use Rattle.light_proofs.specs.Proving.{AllBelow, IsOnPrevious}
-use Rattle.light_proofs.proofs.judging.other_parent.Given as goal
-
-abbrev pub invariant-loop-k : goal.invariant-loop-k
-invariant-loop-k l = AllBelow l.k (IsOnPrevious l.proof)

@@ -1,8 +1,0 @@
-pub use Rattle.handover.specs.Handovers
-pub mod LightProofs
-pub mod LightProofReading
-pub mod Places
-pub mod Proving
-pub mod LightProofRefusals
-pub mod Histories
-pub mod LightProofLaws

@@ -1,7 +1,0 @@
-use Rattle.std.proofs.Common.{◌<◌, ℕ}
-use Rattle.lineage_folder.specs.Standing.{HasKeys}
-use Rattle.lineage_folder.proofs.clearing.has_kept_slot.Given as goal
-
--- none so far has
-abbrev pub invariant-loop-replica : goal.invariant-loop-replica
-invariant-loop-replica l = (replica : ℕ) → replica < l.replica → HasKeys l.before l.after replica → ⊥

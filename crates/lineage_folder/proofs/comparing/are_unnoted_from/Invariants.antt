@@ -1,7 +1,0 @@
-use Rattle.std.proofs.Common.{◌≡◌, ◌<◌, ◌≤◌, ℕ, false}
-use Rattle.lineage_folder.specs.Comparing.{nth_chain}
-use Rattle.lineage_folder.proofs.comparing.are_unnoted_from.Given as goal
-
--- none so far is
-abbrev pub invariant-loop-k : goal.invariant-loop-k
-invariant-loop-k l = (k : ℕ) → l.place ≤ k → k < l.k → (nth_chain l.left k).is_noted ≡ false

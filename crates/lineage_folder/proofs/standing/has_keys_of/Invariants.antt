@@ -1,7 +1,0 @@
-use Rattle.std.proofs.Common.{◌<◌, ℕ}
-use Rattle.lineage_folder.specs.Standing.{IsSameKey}
-use Rattle.lineage_folder.proofs.standing.has_keys_of.Given as goal
-
--- the keys so far are the same
-abbrev pub invariant-loop-k : goal.invariant-loop-k
-invariant-loop-k l = (k : ℕ) → k < l.k → IsSameKey l.before l.after l.replica k

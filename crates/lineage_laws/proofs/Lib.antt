@@ -1,2 +1,0 @@
-pub mod Lineages
-pub mod OwnKeysLaws

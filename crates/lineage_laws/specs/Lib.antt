@@ -1,2 +1,0 @@
-pub mod Renewed
-pub mod OwnKeys

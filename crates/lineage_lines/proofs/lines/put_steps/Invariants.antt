@@ -1,6 +1,0 @@
-use Rattle.std.proofs.Common.{◌≡◌, ◌++◌}
-use Rattle.lineage_lines.specs.LineageLines.{steps_upto}
-use Rattle.lineage_lines.proofs.lines.put_steps.Given as goal
-
-abbrev pub invariant-loop-k : goal.invariant-loop-k
-invariant-loop-k l = l.text.items ≡ l.fn.text.items ++ steps_upto l.steps l.k

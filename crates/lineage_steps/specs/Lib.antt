@@ -1,4 +1,0 @@
-pub mod Steps
-pub mod StepRefusals
-pub mod Judged
-pub mod StepLaws

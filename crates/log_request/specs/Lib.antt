@@ -1,0 +1,9 @@
+pub use Rattle.log_format.specs.Requests
+pub mod ChainRequests
+pub mod Closings
+pub mod Gathering
+pub mod HeardLines
+pub mod Hearing
+pub mod Naming
+pub mod Pieces
+pub mod StepRequests

@@ -1,2 +1,0 @@
-pub use Rattle.streams.specs.Streams
-pub mod Printed

@@ -1,0 +1,4 @@
+use Rattle.program_about.proofs.explaining.+put_behind.Given as goal
+
+abbrev pub decreases-put_behind : goal.decreases-put_behind
+decreases-put_behind l = l.most

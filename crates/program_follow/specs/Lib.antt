@@ -1,0 +1,12 @@
+pub use Rattle.base_text.specs.Printed
+pub mod FaultLines
+pub mod Faults
+pub mod Followings
+pub mod LineageFaultLines
+pub mod LineageOutputs
+pub mod LineageWords
+pub mod Outputs
+pub mod ProofFiles
+pub mod RenewalLines
+pub mod Sources
+pub mod Words

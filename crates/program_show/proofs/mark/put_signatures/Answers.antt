@@ -1,0 +1,12 @@
+use Rattle.std.proofs.Common.{codes, decimal}
+use Rattle.program_show.specs.Lines.{signatures_line}
+use Rattle.program_show.proofs.Longer.{five_pieces, on_ok}
+use Rattle.program_show.proofs.mark.put_signatures.Goals as goal
+
+pub returns : goal.returns
+unfolding signatures_line
+returns c =
+    on_ok c.append-3.result _ _ c.append-3.ensures.ok (λ last.
+    five_pieces c.args.text.now.items (codes "signatures ") (decimal c.args.count) (codes " good ") (decimal c.args.good) (codes "\n") c.append.new.text.items c.put_number.new.text.items
+    c.append-2.new.text.items c.put_number-2.new.text.items c.append-3.new.text.items
+    c.in_ok-append.ensures.ok c.in_ok-put_number.ensures.ok c.in_ok-append-2.ensures.ok c.in_ok-put_number-2.ensures.ok last)

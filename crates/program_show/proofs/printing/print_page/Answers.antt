@@ -1,0 +1,48 @@
+use Rattle.std.proofs.Common.{◌++◌, codes, List, ℕ, subst}
+use Rattle.base_streams.specs.Streams.{Wrote, WrotePart}
+use Rattle.base_streams.proofs.Writing.{wrote_both}
+use Rattle.base_text.specs.Printed.{printed}
+use Rattle.base_text.proofs.Pieces.{on_err, on_err_too, on_ok_too, part_behind, part_of_front}
+use Rattle.program_show.specs.Lines.{path_line}
+use Rattle.program_show.proofs.printing.print_page.Goals as goal
+
+pub returns-in_err-write_all-clause-err : goal.returns-in_err-write_all-clause-err
+returns-in_err-write_all-clause-err g c =
+    on_err _ _ (part_of_front _ _ (codes "file " ++ (printed c.args.path.now ++ codes "\n")) c.args.text.now
+    (part_of_front _ _ (codes "file ") (printed c.args.path.now ++ codes "\n") c.in_err-write_all.ensures.err))
+
+pub returns-in_err-write_printed-clause-err : goal.returns-in_err-write_printed-clause-err
+returns-in_err-write_printed-clause-err g c =
+    let part = subst (λ (t : List ℕ). WrotePart (g.W.Sink.text c.write_all.new.out) (g.W.Sink.text c.write_printed.new.out) (printed t))
+    c.as_bytes.ensures.value c.in_err-write_printed.ensures.err in
+    on_err _ _ (part_of_front _ _ (path_line c.args.path.now) c.args.text.now
+    (part_behind _ _ _ (codes "file ") (printed c.args.path.now ++ codes "\n") c.in_ok-write_all.ensures.ok
+    (part_of_front _ _ (printed c.args.path.now) (codes "\n") part)))
+
+pub returns-in_err-write_all-2-clause-err : goal.returns-in_err-write_all-2-clause-err
+returns-in_err-write_all-2-clause-err g c =
+    let path = subst (λ (t : List ℕ). Wrote (g.W.Sink.text c.write_all.new.out) (g.W.Sink.text c.write_printed.new.out) (printed t))
+    c.as_bytes.ensures.value c.in_ok-write_printed.ensures.ok in
+    let front = wrote_both _ _ _ (codes "file ") (printed c.args.path.now) c.in_ok-write_all.ensures.ok path in
+    on_err _ _ (part_of_front _ _ (path_line c.args.path.now) c.args.text.now
+    (part_behind _ _ _ (codes "file " ++ printed c.args.path.now) (codes "\n") front c.in_err-write_all-2.ensures.err))
+
+pub returns-clause-ok : goal.returns-clause-ok
+returns-clause-ok g c =
+    let path = subst (λ (t : List ℕ). Wrote (g.W.Sink.text c.write_all.new.out) (g.W.Sink.text c.write_printed.new.out) (printed t))
+    c.as_bytes.ensures.value c.in_ok-write_printed.ensures.ok in
+    let front = wrote_both _ _ _ (codes "file ") (printed c.args.path.now) c.in_ok-write_all.ensures.ok path in
+    let line = wrote_both _ _ _ (codes "file " ++ printed c.args.path.now) (codes "\n") front c.in_ok-write_all-2.ensures.ok in
+    on_ok_too c.write_all-3.result (Wrote (g.W.Sink.text c.write_all-2.new.out) (g.W.Sink.text c.write_all-3.new.out) c.args.text.now)
+    (Wrote (g.W.Sink.text c.args.out.now) (g.W.Sink.text c.write_all-3.new.out) (path_line c.args.path.now ++ c.args.text.now))
+    (λ last. wrote_both _ _ _ (path_line c.args.path.now) c.args.text.now line last) c.write_all-3.ensures.ok
+
+pub returns-clause-err : goal.returns-clause-err
+returns-clause-err g c =
+    let path = subst (λ (t : List ℕ). Wrote (g.W.Sink.text c.write_all.new.out) (g.W.Sink.text c.write_printed.new.out) (printed t))
+    c.as_bytes.ensures.value c.in_ok-write_printed.ensures.ok in
+    let front = wrote_both _ _ _ (codes "file ") (printed c.args.path.now) c.in_ok-write_all.ensures.ok path in
+    let line = wrote_both _ _ _ (codes "file " ++ printed c.args.path.now) (codes "\n") front c.in_ok-write_all-2.ensures.ok in
+    on_err_too c.write_all-3.result (WrotePart (g.W.Sink.text c.write_all-2.new.out) (g.W.Sink.text c.write_all-3.new.out) c.args.text.now)
+    (WrotePart (g.W.Sink.text c.args.out.now) (g.W.Sink.text c.write_all-3.new.out) (path_line c.args.path.now ++ c.args.text.now))
+    (λ last. part_behind _ _ _ (path_line c.args.path.now) c.args.text.now line last) c.write_all-3.ensures.err

@@ -1,0 +1,15 @@
+pub use Rattle.base_text.specs.Printed
+pub mod Marks
+pub mod Names
+pub mod Kinds
+pub mod Lines
+pub mod EndorsementLines
+pub mod RenewalLines
+pub mod Series
+pub mod Entries
+pub mod Files
+pub mod FaultLines
+pub mod Words
+pub mod Parts
+pub mod Showing
+pub mod Faults

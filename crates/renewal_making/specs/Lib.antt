@@ -1,4 +1,0 @@
-pub mod Endorsed
-pub mod Composing
-pub mod Refusals
-pub mod Making

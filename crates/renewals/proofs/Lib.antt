@@ -1,4 +1,0 @@
-pub mod SlotLaws
-pub mod RenewalTexts
-pub mod Refused
-pub mod Kept

@@ -1,6 +1,0 @@
-use Rattle.std.proofs.Common.{◌≡◌, true}
-use Rattle.renewals.specs.Slots.{same_keys}
-use Rattle.renewals.proofs.slots.is_kept.Given as goal
-
-abbrev pub invariant-loop-k : goal.invariant-loop-k
-invariant-loop-k l = same_keys l.old l.new l.s l.k ≡ true

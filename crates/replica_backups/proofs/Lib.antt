@@ -1,0 +1,3 @@
+pub mod Backups
+pub mod ForgottenVotes
+pub mod Shown

@@ -1,0 +1,4 @@
+mod Drawn
+pub mod KeyMaking
+pub mod Looking
+mod Stopping

@@ -1,5 +1,0 @@
-use Rattle.replica_lines.proofs.OneReading.{one_reading}
-use Rattle.replica_lines.proofs.laws.a_text_has_one_reading.Goals as goal
-
-pub returns : goal.returns
-returns c = one_reading

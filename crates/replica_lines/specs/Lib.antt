@@ -1,4 +1,0 @@
-pub mod Requests
-pub mod LineReading
-pub mod Intakes
-pub mod OutcomeLines

@@ -1,8 +1,0 @@
-//! What the definitions of lines and requests come to.
-
-ghost use Rattle.replica_lines.specs.LineReading.{ATextHasOneReading};
-
-/// Two lists of requests of one text are the same.
-pub fn a_text_has_one_reading()
-    ensures { ATextHasOneReading }
-{}

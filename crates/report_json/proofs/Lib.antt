@@ -1,3 +1,0 @@
-pub mod Adding
-pub mod Plain
-pub mod Votes

@@ -1,2 +1,0 @@
-pub use Rattle.evidence.specs.Logs
-pub mod Data

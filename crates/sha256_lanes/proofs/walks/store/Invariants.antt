@@ -1,7 +1,0 @@
-use Rattle.std.proofs.Common.{◌≡◌, ◌*◌, length, take}
-use Rattle.sha2.specs.Sha256.{digest_bytes}
-use Rattle.sha256_lanes.specs.Lanes.{lane}
-use Rattle.sha256_lanes.proofs.walks.store.Given as goal
-
-abbrev pub invariant-words : goal.invariant-words
-invariant-words s = (length s.value ≡ 32) × (take (4 * s.k) s.value ≡ digest_bytes (lane s.l s.v) s.k)

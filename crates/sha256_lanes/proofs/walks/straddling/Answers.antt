@@ -1,5 +1,0 @@
-use Rattle.sha256_lanes.proofs.BlockLemmas.{straddling_sum}
-use Rattle.sha256_lanes.proofs.walks.straddling.Goals as goal
-
-pub returns : goal.returns
-returns c l lt = rw (c.add.ensures l lt, c.last_bytes.ensures l lt, c.first_byte.ensures l lt) (straddling_sum _ _)

@@ -1,5 +1,0 @@
-use Rattle.sha256_lanes.proofs.VectorLemmas.{chs}
-use Rattle.sha256_lanes.proofs.words.ch.Goals as goal
-
-pub returns : goal.returns
-returns c = chs c.args.x c.args.y c.args.z c.fits-x.0 c.fits-y.0 c.fits-z.0

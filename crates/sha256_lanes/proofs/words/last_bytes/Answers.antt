@@ -1,5 +1,0 @@
-use Rattle.sha256_lanes.proofs.VectorLemmas.{shifted_left}
-use Rattle.sha256_lanes.proofs.words.last_bytes.Goals as goal
-
-pub returns : goal.returns
-returns c = shifted_left 8 c.args.x c.fits-x.0

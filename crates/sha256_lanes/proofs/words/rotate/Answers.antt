@@ -1,5 +1,0 @@
-use Rattle.sha256_lanes.proofs.VectorLemmas.{rotated}
-use Rattle.sha256_lanes.proofs.words.rotate.Goals as goal
-
-pub returns : goal.returns
-returns c = rotated c.args.n c.requires.0 c.requires.1 c.args.x c.fits-x.0

@@ -1,6 +1,0 @@
-use Rattle.std.proofs.Common.{◌≡◌, ◌++◌}
-use Rattle.show_command.specs.Lines.{key_ids}
-use Rattle.show_command.proofs.committee.put_key_ids.Given as goal
-
-abbrev pub invariant-loop-k : goal.invariant-loop-k
-invariant-loop-k l = l.text.items ≡ l.fn.text.items ++ key_ids l.committee l.r l.k

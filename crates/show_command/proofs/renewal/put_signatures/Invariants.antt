@@ -1,6 +1,0 @@
-use Rattle.std.proofs.Common.{◌≡◌, ◌++◌}
-use Rattle.show_command.specs.RenewalLines.{signature_lines}
-use Rattle.show_command.proofs.renewal.put_signatures.Given as goal
-
-abbrev pub invariant-loop-k : goal.invariant-loop-k
-invariant-loop-k l = l.text.items ≡ l.fn.text.items ++ signature_lines l.certificate l.k

@@ -1,7 +1,0 @@
-use Rattle.std.proofs.Common.{take}
-use Rattle.std.specs.List.{Contains}
-use Rattle.show_command.specs.Words.{option_word, texts}
-use Rattle.show_command.proofs.words.place_of_option.Given as goal
-
-abbrev pub invariant-loop-i : goal.invariant-loop-i
-invariant-loop-i l = Contains (texts (take l.i l.words)) option_word → ⊥

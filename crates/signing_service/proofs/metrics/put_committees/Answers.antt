@@ -1,5 +1,0 @@
-use Rattle.signing_service.proofs.Pieces.{by_two}
-use Rattle.signing_service.proofs.metrics.put_committees.Goals as goal
-
-pub returns-clause-items : goal.returns-clause-items
-returns-clause-items c = by_two _ _ _ _ _ c.put_field.ensures.items c.put_field-2.ensures.items

@@ -1,5 +1,0 @@
-use Rattle.std.proofs.Common.{◌≡◌, vec_len}
-use Rattle.signing_service.proofs.sources.Sources.heard.Given as goal
-
-abbrev pub invariant-loop-heard : goal.invariant-loop-heard
-invariant-loop-heard l = vec_len l.all ≡ l.heard-index

@@ -1,2 +1,0 @@
-pub mod RunErrors
-pub mod Runs

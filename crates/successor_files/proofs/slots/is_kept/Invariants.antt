@@ -1,7 +1,0 @@
-use Rattle.std.proofs.Common.{◌<◌, ℕ}
-use Rattle.successor_files.specs.Successors.{IsSameKey}
-use Rattle.successor_files.proofs.slots.is_kept.Given as goal
-
--- the keys so far are the same
-abbrev pub invariant-loop-k : goal.invariant-loop-k
-invariant-loop-k l = (k : ℕ) → k < l.k → IsSameKey l.old l.new l.slot k

@@ -1,6 +1,0 @@
-use Rattle.std.proofs.Common.{◌<◌, ℕ}
-use Rattle.handover.specs.OldKeys.{IsKeyOfReplica}
-use Rattle.successor_files.proofs.taken.is_key_of.Given as goal
-
-abbrev pub invariant-loop-r : goal.invariant-loop-r
-invariant-loop-r l = (s : ℕ) → s < l.r → IsKeyOfReplica l.committee s l.key → ⊥

@@ -1,5 +1,0 @@
-use Rattle.successor_files.proofs.TakenLaws.{AreFree}
-use Rattle.successor_files.proofs.taken.least_of.Given as goal
-
-abbrev pub invariant-loop-slot : goal.invariant-loop-slot
-invariant-loop-slot l = AreFree l.before l.old l.new l.slot

@@ -1,7 +1,0 @@
-use Rattle.std.proofs.Common.{◌∷◌, take}
-use Rattle.successor_files.specs.Least.{IsLeast}
-use Rattle.successor_files.specs.Successors.{IsTakenNumber, files_of}
-use Rattle.successor_files.proofs.taken.least_taken.Given as goal
-
-abbrev pub invariant-loop-file : goal.invariant-loop-file
-invariant-loop-file l = IsLeast (IsTakenNumber (l.old ∷ files_of (take l.file-index l.earlier)) l.old l.new) l.least

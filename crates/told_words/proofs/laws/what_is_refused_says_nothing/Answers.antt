@@ -1,5 +1,0 @@
-use Rattle.told_words.proofs.Refused.{refused_says_nothing}
-use Rattle.told_words.proofs.laws.what_is_refused_says_nothing.Goals as goal
-
-pub returns : goal.returns
-returns c = refused_says_nothing

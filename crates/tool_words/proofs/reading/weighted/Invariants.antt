@@ -1,7 +1,0 @@
-use Rattle.std.proofs.Common.{◌≡◌, length}
-use Rattle.std.specs.List.{All}
-use Rattle.tool_words.specs.Commands.{IsWeighted}
-use Rattle.tool_words.proofs.reading.weighted.Given as goal
-
-abbrev pub invariant-loop-word : goal.invariant-loop-word
-invariant-loop-word l = (length l.replicas.items ≡ l.word-index) × All IsWeighted l.replicas.items

@@ -1,8 +1,0 @@
-use Rattle.std.proofs.Common.{◌∙◌, ap}
-use Rattle.std.specs.Option.{option_flatten}
-use Rattle.vote_board.proofs.Remembered.{recalled}
-use Rattle.vote_board.proofs.memo.Memo.recall.Goals as goal
-
-pub returns-clause-answer : goal.returns-clause-answer
-returns-clause-answer g c =
-    recalled g.N.BoardNaming.committee c.self.inside.posted.entries c.args.vote.now c.flatten.result c.self.invariant (c.flatten.ensures ∙ ap option_flatten (c.copied.ensures ∙ c.get.ensures.value))

@@ -1,2 +1,0 @@
-pub mod WatchLines
-pub mod Times

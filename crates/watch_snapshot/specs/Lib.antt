@@ -1,4 +1,0 @@
-pub mod Proved
-pub mod Times
-pub mod Sources
-pub mod Standings
