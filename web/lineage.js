@@ -1,6 +1,6 @@
 // The steps of a lineage, judged as `hs_follow C0 --lineage DIR` judges them. The module answers whether a committee's file is one, each
 // signature, bound key ids and each digest, and that is proved. The rest of a step is judged here, in the order of docs/REFUSALS.md,
-// "lineage_steps", and not proved: examples/python/second_lineage.py reads like it, and web/run compares the two.
+// "handover_steps", and not proved: examples/python/second_lineage.py reads like it, and web/run compares the two.
 
 const HEADER = 84;
 const ENTRY = 2 + 1 + 1452;

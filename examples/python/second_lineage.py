@@ -23,7 +23,7 @@ MOST_HEADERS = 4096
 
 
 class Refused(Exception):
-    """The step is refused: number and name, as in REFUSALS.md, "lineage_steps"."""
+    """The step is refused: number and name, as in REFUSALS.md, "handover_steps"."""
 
 
 # ---- committees, with the weights that second_check has no use for
