@@ -63,12 +63,12 @@ pub record IsLogFrom (gives : ℕ → ℕ → ℕ → Connection → Type 0) (p 
   pub outcome : IsOutcome gives 0 p.held p.tries p.last l.frames l.status
 
 -- where the reader of a source is: what its connector gives, what its connection has left, and its place
-pub record ReaderState : Type 1 where
+pub record SourceReader : Type 1 where
   pub gives : ℕ → ℕ → ℕ → Connection → Type 0
   pub left : Connection → Type 0
   pub place : ReaderState
 
-abbrev pub reader_at : (ℕ → ℕ → ℕ → Connection → Type 0) → (Connection → Type 0) → ReaderState → ReaderState
+abbrev pub reader_at : (ℕ → ℕ → ℕ → Connection → Type 0) → (Connection → Type 0) → ReaderState → SourceReader
 reader_at gives left place = record { gives = gives; left = left; place = place }
 
 -- the replica of a source, and how many frames and entries came of it
@@ -81,7 +81,7 @@ abbrev pub tally_of : (replica frames entries : ℕ) → Tally
 tally_of replica frames entries = record { replica = replica; frames = frames; entries = entries }
 
 -- frames that came from one state of the reader to another, of which this was told, and what was gathered of them
-pub record IsGathering (Told : List (List ℕ) → Type 0) (old new : ReaderState) (a b : Gathered) (came : Tally) : Type 0 where
+pub record IsGathering (Told : List (List ℕ) → Type 0) (old new : SourceReader) (a b : Gathered) (came : Tally) : Type 0 where
   pub given : List (List ℕ)
   pub told : Told given
   pub leads : Leads old.gives new.gives old.left new.left old.place new.place given
