@@ -66,7 +66,7 @@ hs_signer, hs_watch, hs_follow, hs_draw | fault usage WORD | WORD is the first w
 hs_check | fault hex | Standard input is not two lines of hex digits. | Give committee and verdict as two lines of hex digits, or name two files.\n\
 hs_tool keygen | fault hex | SEED is not 96 hex digits. | Put SEED right.\n\
 hs_check, hs_tool, hs_show, hs_draw, hs_signer, hs_watch, hs_follow | fault file PATH.. | The file can't be opened, read, made or written, or is there and must not be; of a replica's folder its lock may be held, or put-back says that its log was put back to a backup. | Look at the path, its mode and the disk. Never remove a replica's lock, and never write over a file in a replica's folder: the manual page says what was left.\n\
-hs_tool replica | fault file PATH.. | Where PATH is DIR/disk-failed: a disk failed under the last signer on this folder, and whether its last vote was stored is open. | See to the disk; then remove that file, and start again.\n\
+hs_tool replica | fault file PATH.. | Where PATH is DIR/disk-failed: a disk failed under the last signer on this folder, and whether its last vote was stored is open. | Mend or free the disk, mount its file system anew or restart the machine; then remove that file, and start again.\n\
 hs_watch --export | fault file PATH.. | Where PATH is DIR/R-I-K-N: of log K of source I of replica R the part behind N frames is damaged, or what stands before it is missing or damaged. All else was given out, and of this log the frames in front of that, with no end mark; nothing of it where its first part is the one. | Audit what was given out: such a log reads as Cut. A part can't be mended: keep a copy of DIR, move the files R-I-.. out of it, and start the watch again, which reads the log from its source, as long as that has it.\n\
 hs_check, hs_tool, hs_show, hs_draw, hs_signer, hs_watch, hs_follow | fault memory | Memory was refused. | Free memory, and look at the manual page for what was left.\n\
 hs_check, hs_tool, hs_show, hs_draw, hs_signer, hs_watch, hs_follow | fault output | The lines could not be written, or not all. | Look at where standard output goes: a disk that is full, a pipe that was closed.\n\
@@ -82,7 +82,7 @@ hs_follow | fault renewal N NAME | The file of --renewal is no renewal. | Name t
 hs_tool audit, hs_draw, hs_watch, hs_follow | fault source I | The word of source I, counted from 0, is not R=file:PATH or R=tcp:ADDRESS. | Put that word right.\n\
 hs_tool audit, hs_draw, hs_watch, hs_follow | fault collision | Two different headers have one id: SHA-256 is broken, and no audit of these sources holds. | Keep all sources.\n\
 hs_watch | fault state | The folder of --state has logs of another chain, or logs and no file that says of which; or, with --export, nothing of that source. | Name another folder, or the committee's own; R-I is how the names of its files begin.\n\
-hs_signer | fault disk PATH.. | A disk failed under the last signer on this folder, or while this one opened it, as the file at PATH says: whether the last vote was stored is open, and a start before the disk was seen to may use a one-time key twice. | See to the disk; then remove the file at PATH, and start again.\n\
+hs_signer | fault disk PATH.. | A disk failed under the last signer on this folder, or while this one opened it, as the file at PATH says: whether the last vote was stored is open, and a start before the disk was seen to may use a one-time key twice. | Mend or free the disk, mount its file system anew or restart the machine; then remove the file at PATH, and start again.\n\
 hs_tool replica | fault store 2 | The committee has no replica R, or a disk failed while a store was recovered. | Compare R and COMMITTEE, and see to the disk before you start it again.\n\
 hs_signer | fault store 2 | The committee has no replica R. | Compare R and COMMITTEE.\n\
 hs_tool migrate | fault store 2 | The disk failed. | Look at the disk.\n\
@@ -145,14 +145,14 @@ hs_signer | ok | The process answers; at /health also that log, keys, disks and 
 hs_tool replica | desk 1 | Memory was refused; nothing was stored. | Send the block again.\n\
 hs_tool replica | desk 3 | The replica's keys are spent. | A new committee, of new keys, is due.\n\
 hs_tool replica | desk 4 | The log is full: it has 4,096 entries. | A new committee is due.\n\
-hs_tool replica | desk 5 | A disk failed in this call: whether the vote was stored is open, and the replica does nothing more. | See to the disk, and start the replica again.\n\
-hs_tool replica | desk 6 | A disk failed in an earlier call. | See to the disk, and start the replica again.\n\
+hs_tool replica | desk 5 | A disk failed in this call: whether the vote was stored is open, and the replica does nothing more. | Mend or free the disk, mount its file system anew or restart the machine; then start the replica again.\n\
+hs_tool replica | desk 6 | A disk failed in an earlier call. | Mend or free the disk, mount its file system anew or restart the machine; then start the replica again.\n\
 hs_signer | desk 1 Memory | Memory was refused; nothing was stored. | Send the block again.\n\
 hs_signer | desk 3 KeySpent | The replica's keys are spent. | A new committee, of new keys, is due.\n\
 hs_signer | desk 4 LogFull | The log is full: it has 4,096 entries. | A new committee is due.\n\
-hs_signer | desk 5 Device | A disk failed in this call: whether the vote was stored is open. This process delivers and votes no more, and wrote disk-failed, so that none is started before an operator removes it. | See to the disk, remove disk-failed, and start the signer again; then ask GET /vote/V.\n\
-hs_signer | desk 6 Stopped | A disk failed in an earlier call, and nothing was done. This process delivers and votes no more. | See to the disk, remove disk-failed, and start the signer again.\n\
-hs_signer | stopped desk 5 | A disk failed under a block: the desk is stopped. The process goes on answering, delivers and votes no more, and wrote disk-failed, so that none is started before an operator removes it. | See to the disk, remove disk-failed, and start the signer again.\n\
+hs_signer | desk 5 Device | A disk failed in this call: whether the vote was stored is open. This process delivers and votes no more, and wrote disk-failed, so that none is started before an operator removes it. | Mend or free the disk, mount its file system anew or restart the machine; then remove disk-failed, and start the signer again; ask GET /vote/V.\n\
+hs_signer | desk 6 Stopped | A disk failed in an earlier call, and nothing was done. This process delivers and votes no more. | Mend or free the disk, mount its file system anew or restart the machine; then remove disk-failed, and start the signer again.\n\
+hs_signer | stopped desk 5 | A disk failed under a block: the desk is stopped. The process goes on answering, delivers and votes no more, and wrote disk-failed, so that none is started before an operator removes it. | Mend or free the disk, mount its file system anew or restart the machine; then remove disk-failed, and start the signer again.\n\
 hs_signer | disk-failed not written | A disk failed under a block or at the start, and the file that keeps a start from being made could be written neither into DIR nor beside the socket. | Start no signer on this folder before the disk was seen to: nothing else keeps it from using a one-time key twice.\n\
 hs_tool replica | bad line | The line is neither a block nor a timeout in its one spelling; a line that ends in CRLF is none. | Put the line right.\n\
 hs_tool replica, hs_signer | closed N | The input ended; the log has N entries. | Nothing.\n\
@@ -265,7 +265,7 @@ hs_follow | renews not: N NAME.. | NEW does not renew OLD by the renewal, by the
 hs_follow, hs_show | step N chain ID new S of W | Step N of the lineage is good: a quorum of the committee before committed that ID's committee follows, and its slots with other keys, which weigh S of the whole weight W, were signed for. | Nothing.\n\
 hs_follow, hs_show | step N chain ID by hand | Step N of the lineage is good, and its folder has no renewal: that somebody signed for the keys of slots that are not kept is not shown. | If nobody changed that committee by hand, fetch the step from another server; else ask the operators of these replicas whether the keys are theirs.\n\
 hs_follow | followed N | All N steps in the folder are good, with those that were fetched: the last line of a step has the chain where you are. | Compare that chain id with others' where much depends on it being the newest.\n\
-hs_follow | step N refused NUMBER NAME | Step N is refused, by the test of this number and name of REFUSALS.md, lineage_steps. | Remove the files of this step and the later ones from the folder, and fetch them anew.\n\
+hs_follow | step N refused NUMBER NAME | Step N is refused, by the test of this number and name of REFUSALS.md, handover_steps. | Remove the files of this step and the later ones from the folder, and fetch them anew.\n\
 hs_follow | step M is there without step N | The committee's file of step N is not in the folder, and that of step M is. | Put the files of the steps between into the folder, or remove those of step M and after it.\n\
 hs_show | step N slot R new | A key of the replica in the committee before signed for its keys after step N. | Nothing.\n\
 hs_show | step N slot R kept | The replica has the same keys after step N as before. | Nothing.\n\
@@ -285,7 +285,7 @@ hs_watch | beyond I replica R | Source I gave a fifth log that fits none of the 
 hs_watch | lost N | So many lines were dropped: source, went-back, no-log and unnamed since 1,000 lines waited to be read, others only since memory was refused. | See that what reads the lines keeps up; the page of --listen tells how each source stands.\n\
 hs_watch | listening ADDRESS | What the watch knows is told over HTTP at this address of its machine. | Open it in a browser there; from another machine take ssh -L, or a proxy with TLS and a password.\n\
 hs_watch /health | ok | The watch goes its rounds, and all verdicts and parts of logs are stored. | Nothing.\n\
-hs_watch /health | late | Its last round is older than 30 seconds and twice --every. | See whether the process runs, and start it again.\n\
+hs_watch /health | late | Its last round is older than 30 seconds. | See whether the process runs, and start it again.\n\
 hs_watch /health | unstored | A verdict is not stored, and is tried again each round; or, with --state, a part of a log is not stored, or one that was kept is damaged. | The lines on standard output name it. Make room in OUTDIR; the verdict is at /verdict-R.hsx meanwhile. Of a part see hs_show --explain TIME round N unstored PATH.\n\
 hs_watch over HTTP | refused method | It answers GET and HEAD alone. | Use one of these.\n\
 hs_watch over HTTP | refused host | Host is a name that is not allowed, or, in HTTP/1.0, is missing. | Ask by localhost or an address, or allow the name by --host.\n\
