@@ -11,7 +11,7 @@ use signer_calls::id_in;
 #[derive(Clone, Copy)]
 pub(crate) enum Takes {
     /// `unix:PATH` or `tcp:ADDRESS`.
-    ListeningSocket,
+    Place,
     /// A name, a path or an address.
     Name,
     /// 1 to 64.
@@ -112,7 +112,7 @@ fn takes_of(word: &str) -> Option<Takes>
     ensures { result ≡ takes_of word.now }
 {
     if word == "--listen" {
-        Some(Takes::ListeningSocket)
+        Some(Takes::Place)
     } else if word == "--ask" {
         Some(Takes::Source)
     } else if word == "--sessions" {
@@ -151,7 +151,7 @@ fn is_value(takes: Takes, word: &str) -> bool
     ensures { IsTrue result ↔ IsValue takes word.now }
 {
     match takes {
-        Takes::ListeningSocket => is_place(word),
+        Takes::Place => is_place(word),
         Takes::Name => !word.is_empty() && !is_dashed(word),
         Takes::Sessions => match number(word) {
             Some(count) => 1 <= count && count <= 64,
